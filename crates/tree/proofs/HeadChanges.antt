@@ -136,11 +136,6 @@ module _ (bytes : KeyBytes) where
         begins = grind (arith, less, size, short, b.begins, take_fewer fewer count b.text text);
       }
 
-  -- Where no bytes are asked for, known keys begin with them.
-  pub begin_none : (keys : List ℕ) → All (IsKnown bytes) keys
-      → (beginning : List ℕ) × (length beginning ≡ 0) × All (Begins bytes beginning) keys
-  begin_none keys known = ([], refl, λ i d inside. begins_with [] (get_or keys i d) (known i d inside) (inr refl))
-
   -- The head of a target is that of a key with its bytes.
   pub target_beside : (key_heads : KeyHeads) (key head : ℕ) → IsKnown bytes key
       → ((text : List ℕ) → bytes key ≡ Some text → IsTargetHead bytes key_heads text head) → IsHeadBeside bytes key_heads key head

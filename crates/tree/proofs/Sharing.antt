@@ -10,14 +10,11 @@ use Rattle.tree.proofs.Changing.{Moves, moves_beside, moves_agree, changes_if_mo
 use Rattle.tree.proofs.Families.{slots_of-append, items_of-append, times-slots_of, live_children, replaced}
 use Rattle.tree.proofs.Placing.{live_if_some}
 use Rattle.tree.proofs.callers.Partitions.{All-front, All-back}
+pub use Rattle.tree.proofs.Ways.{around_element as around_one}
 
--- the entries around one, and around two
+-- the child of an entry, and the entries around two
 pub child_is : (es : List Entry) (i : ℕ) (d : Entry) → i < length es → child_at es i ≡ (get_or es i d).child
 child_is es i d within = ap (λ o. unwrap_or (option_map (λ (e : Entry). e.child) o) 0) (slice_get-get_or es i d within)
-
-pub around_one : (es : List Entry) (i : ℕ) (d : Entry) → i < length es
-    → es ≡ take i es ++ (get_or es i d ∷ [] ++ drop (i + 1) es)
-around_one es i d within = sym (take-append-drop i es) ∙ ap (λ l. take i es ++ l) (drop_more es i d within)
 
 pub around_two : (es : List Entry) (i : ℕ) (d e : Entry) → i + 1 < length es
     → es ≡ take i es ++ (get_or es i d ∷ get_or es (i + 1) e ∷ [] ++ drop (i + 2) es)

@@ -1,5 +1,5 @@
 -- Lemmas for callers: lists in which those below the bound come first.
-use Rattle.std.proofs.Common.{◌≡◌, ℕ, zero, suc, ◌+◌, ◌<◌, ◌≤◌, ◌⊎◌, Bool, true, false, not, List, [], ◌∷◌, ◌++◌, length, get_or, take, drop, filter, All, refl, ap, subst, inl, inr, arith}
+use Rattle.std.proofs.Common.{◌≡◌, ℕ, zero, suc, ◌+◌, ◌<◌, ◌≤◌, ◌⊎◌, Bool, true, false, not, List, [], ◌∷◌, ◌++◌, length, get_or, take, drop, filter, All, refl, ap, subst, ◌∙◌, inl, inr, arith, take_at, drop_at}
 use Rattle.std.specs.List.Sorted.{IsPartitionedBy, IsPartitionPoint}
 use Rattle.std.proofs.lemmas.Bool.{cases_Bool}
 use Rattle.std.proofs.lemmas.List.{append-nil, get_or-drop, get_or-take, get_or_append_left, length-append, length-drop, length-take, take-append-drop}
@@ -51,12 +51,18 @@ module _ {X : Type 0} (p : X → Bool) where
       let i = none_fail xs (All-tail (λ y. p y ≡ true) x xs a) in
       (rw t (ap (λ ys. x ∷ ys) i.0), rw t i.1)
 
-  pub passed : (xs : List X) → All (λ x. p x ≡ true) (filter p xs)
-  passed xs = filter_passes p xs
-
   pub failed : (xs : List X) → All (λ x. p x ≡ false) (filter (λ x. not (p x)) xs)
   failed xs =
       All-weaker (λ x. not (p x) ≡ true) (λ x. p x ≡ false) (λ x. not_true (p x)) _ (filter_passes (λ x. not (p x)) xs)
+
+  -- what stands before and behind a bound
+  pub before_partitioned : (xs : List X) → IsPartitioned p xs → All (λ x. p x ≡ true) (take (length (filter p xs)) xs)
+  before_partitioned xs c =
+      rw (ap (take (length (filter p xs))) c ∙ take_at (filter p xs) (filter (λ x. not (p x)) xs) _ refl) (filter_passes p xs)
+
+  pub behind_partitioned : (xs : List X) → IsPartitioned p xs → All (λ x. p x ≡ false) (drop (length (filter p xs)) xs)
+  behind_partitioned xs c =
+      rw (ap (drop (length (filter p xs))) c ∙ drop_at (filter p xs) (filter (λ x. not (p x)) xs) _ refl) (failed xs)
 
   all_behind : (x : X) (xs ys zs : List X) → p x ≡ false → All (λ y. p y ≡ true) ys
       → All (λ y. p y ≡ false) zs → x ∷ xs ≡ ys ++ x ∷ zs → All (λ y. p y ≡ false) xs
@@ -69,7 +75,7 @@ module _ {X : Type 0} (p : X → Bool) where
   Falls-below_from (x ∷ xs) e =
       elim (cases_Bool (p x)) [
         | inl t ↦ let k = rw t at e in inl (t, Falls-below_from xs (cc))
-        | inr f ↦ inr (f, all_behind x xs (filter p xs) (filter (λ y. not (p y)) xs) f (passed xs) (failed xs) (rw f at e))
+        | inr f ↦ inr (f, all_behind x xs (filter p xs) (filter (λ y. not (p y)) xs) f (filter_passes p xs) (failed xs) (rw f at e))
       ]
 
   pub IsPartitioned-from_falls : (xs : List X) → Falls p xs → IsPartitioned p xs

@@ -4,7 +4,6 @@ use Rattle.std.proofs.lemmas.Int.{to_z-of_z}
 use Rattle.std.proofs.lemmas.List.{drop_all}
 use Rattle.tree.proofs.Removing.{one_found, one_passed}
 use Rattle.tree.proofs.expiring.has_expired.Goals as goal
-use Rattle.tree.proofs.expiring.has_expired.Goals.{else-last-edge-via-then-last-edge+else-entry-edge, else-last-edge-via-else-last-edge}
 
 pub loop-entry-init : goal.loop-entry-init
 loop-entry-init c = refl
@@ -26,9 +25,9 @@ loop-entry-preserved c =
     let last = to_z w64 c.loop-entry.last-bits in
     let same = to_z-of_z w64 e.version (search rules) in
     let both : (int_lt last edge && int_lt e.version edge) ≡ false = elim c.else-last-edge.branch [
-      | else-last-edge-via-then-last-edge+else-entry-edge w ↦
+      | goal.else-last-edge-via-then-last-edge+else-entry-edge w ↦
           rw (rw same at w.if-entry-edge.false) (and-false (int_lt last edge))
-      | else-last-edge-via-else-last-edge w ↦ rw w.if-last-edge.false refl
+      | goal.else-last-edge-via-else-last-edge w ↦ rw w.if-last-edge.false refl
     ] in
     rw same (c.loop-entry.invariant ∙ one_passed edge last _ _ e c.loop-entry-test.true c.entry-item.is both)
 

@@ -5,9 +5,9 @@ use Rattle.tree.proofs.Changing.{moves_if_changes}
 use Rattle.tree.proofs.Placing.{entries_from_header, live_if_some}
 use Rattle.tree.proofs.Sharing.{around_two, child_is, made, rebalanced_by, set_removed, set_both, IsMade}
 use Rattle.tree.proofs.Rebalancing.{apart_pair, live_subtree}
-use Rattle.tree.proofs.rebalance.merge_or_redistribute.Goals.{After-index-entries-index-2}
 use Rattle.tree.proofs.rebalance.merge_or_redistribute.Given as given
 use Rattle.tree.proofs.rebalance.merge_or_redistribute.Goals as goal
+use Rattle.tree.proofs.rebalance.merge_or_redistribute.Goals.{After-index-entries-index-2}
 
 -- the children at the index and behind it
 module _ (g : given.Over) (c : After-index-entries-index-2 g) where

@@ -9,7 +9,7 @@ use Rattle.tree.proofs.Removing.{run}
 use Rattle.tree.proofs.WrittenLeaf.{items_parted, some_item}
 use Rattle.tree.proofs.expiring.ExpiringLeafChange.change.Given as given
 use Rattle.tree.proofs.expiring.ExpiringLeafChange.change.Goals as goal
-use Rattle.tree.proofs.expiring.ExpiringLeafChange.change.Goals.{After-header_ref-leaf, After-has_expired}
+use Rattle.tree.proofs.expiring.ExpiringLeafChange.change.Goals.{After-has_expired}
 
 pub lower_bound-below-requires : goal.lower_bound-below-requires
 lower_bound-below-requires g c = (

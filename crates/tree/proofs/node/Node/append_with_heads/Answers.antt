@@ -5,7 +5,6 @@ use Rattle.std.proofs.lemmas.Option.{slice_get_within, get_or_from_slice_get}
 use Rattle.tree.proofs.Words.{HasPrefix, IsKnown, key_heads_of, keys_of}
 use Rattle.tree.proofs.HeadChanges.{headed_joined, keys_there}
 use Rattle.tree.proofs.Headed.{all_known}
-use Rattle.tree.proofs.node.Node.append_with_heads.Goals.{then-self-other, else-self-other}
 use Rattle.tree.proofs.node.Node.append_with_heads.Goals as goal
 
 pub compute_heads-requires : goal.compute_heads-requires
@@ -28,8 +27,8 @@ lengthen_prefix-requires g c =
     let alike : (one.prefix_len ≡ other.prefix_len)
     × ((text : List ℕ) → bytes first.key ≡ Some text → HasPrefix bytes (key_heads_of one) text) =
     elim c.if-self-other.branch [
-      | then-self-other w ↦ (w.if-self-other.true, w.begins-alike.ensures.agrees (sym w.alike-is ∙ c.if-not-alike.false))
-      | else-self-other w ↦
+      | goal.then-self-other w ↦ (w.if-self-other.true, w.begins-alike.ensures.agrees (sym w.alike-is ∙ c.if-not-alike.false))
+      | goal.else-self-other w ↦
           absurd (w.if-self-other.false (eqb-true one.prefix_len other.prefix_len (sym w.alike-is ∙ c.if-not-alike.false)))
     ] in
     let keys = rw c.entries-2.ensures.entries at c.append.ensures.entries in

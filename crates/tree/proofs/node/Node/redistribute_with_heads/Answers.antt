@@ -6,8 +6,8 @@ use Rattle.tree.proofs.callers.Partitions.{All-front, All-back}
 use Rattle.tree.proofs.HeadChanges.{headed_shared, key_there}
 use Rattle.tree.proofs.Headed.{all_known}
 use Rattle.tree.proofs.node.Node.redistribute_with_heads.Given as given
-use Rattle.tree.proofs.node.Node.redistribute_with_heads.Goals.{After-redistribute, then-self-right, else-self-right}
 use Rattle.tree.proofs.node.Node.redistribute_with_heads.Goals as goal
+use Rattle.tree.proofs.node.Node.redistribute_with_heads.Goals.{After-redistribute, then-self-right, else-self-right}
 
 module _ (g : given.Over) (c : After-redistribute g) where
   abbrev bytes : KeyBytes

@@ -5,8 +5,8 @@ use Rattle.tree.proofs.HeadChanges.{headed_apart, headed_spliced, heads_count, k
 use Rattle.tree.proofs.callers.Partitions.{All-front, All-back}
 use Rattle.tree.proofs.Splicing.{apart_spliced, apart_prepended}
 use Rattle.tree.proofs.node.Node.splice_apart.Given as given
-use Rattle.tree.proofs.node.Node.splice_apart.Goals.{After-redistribute, then-from-new, else-from-new}
 use Rattle.tree.proofs.node.Node.splice_apart.Goals as goal
+use Rattle.tree.proofs.node.Node.splice_apart.Goals.{After-redistribute, then-from-new, else-from-new}
 
 module _ (g : given.Over) (c : After-redistribute g) where
   abbrev bytes : KeyBytes
