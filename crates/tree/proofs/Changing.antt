@@ -143,10 +143,7 @@ module _ {N : ℕ} where
       rw (placed, map.len-insert nat_cmp_total a.records slot r, free) refl in
       record {
         few = λ s. omega (arith, once_few s slot);
-        from = λ s some none. elim (once_cases s slot) [
-          | inl same ↦ rw (← same.0) free
-          | inr other ↦ absurd (omega (arith, other.1))
-        ];
+        from = λ s some none. grind (arith, once_cases s slot);
         others = λ s none alive. others s (λ same. not_both (record_at a s) (rw same free) alive);
         live = omega arith;
         spare = omega arith;
@@ -162,12 +159,8 @@ module _ {N : ℕ} where
       rw (released, map.get-remove nat_cmp_total a.records slot slot, same_number slot slot refl) refl in
       let count : map.len b.records ≡ map.len a.records - 1 =
       rw (released, map.len-remove nat_cmp_total a.records slot, live) refl in
-      let some : 1 ≤ map.len a.records = elim (none_or_some (map.len a.records)) [
-        | inl none ↦
-            let empty : record_at a slot ≡ None = rw (map.empty_of_len a.records none) (map.get-empty nat_cmp slot) in
-            absurd (not_both (record_at a slot) empty live)
-        | inr some ↦ some
-      ] in
+      let some : 1 ≤ map.len a.records =
+      grind (arith, none_or_some (map.len a.records), map.empty_of_len a.records, map.get-empty {X = Record (Node N)} nat_cmp slot) in
       record {
         few = λ s. omega arith;
         from = λ s some none. absurd (omega arith);

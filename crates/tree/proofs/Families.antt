@@ -70,10 +70,7 @@ module _ {N : ℕ} where
                 (rw was (simp length-append (omega arith)))
                 (rw now (simp length-append (omega arith)))
                 few
-                (λ s some. elim (none_or_some (times s xs)) [
-                  | inl none ↦ live_behind s (omega (arith, times-append s xs zs))
-                  | inr here ↦ live_before s here
-                ]);
+                (λ s some. grind (arith, none_or_some (times s xs), live_behind s, live_before s, times-append s xs zs));
           }
 
       pub replaced : AreChildren b least height new → Replaced

@@ -1,5 +1,5 @@
 -- The key of the first item that isn't below the bound.
-use Rattle.std.proofs.Common.{◌≡◌, ℕ, ◌+◌, ◌-◌, Bool, true, false, not, List, [], ◌∷◌, ◌++◌, Option, Some, map, take, drop, filter, flat_map, All, refl, sym, ◌∙◌, ap, inl, inr}
+use Rattle.std.proofs.Common.{arith, ◌≡◌, ℕ, ◌+◌, ◌-◌, Bool, true, false, not, List, [], ◌∷◌, ◌++◌, Option, Some, map, take, drop, filter, flat_map, All, refl, sym, ◌∙◌, ap, inl, inr}
 use Rattle.std.proofs.lemmas.Bool.{cases_Bool}
 use Rattle.std.proofs.lemmas.List.Elements.{All-head, All-drop, filter-append}
 use Rattle.tree.proofs.Words.{Arena, header_at, Entry, Node, Item, Tells, item_of, entries_of, index_in, behind, behind_leaf, first_key, entries_at, items_in}
@@ -8,8 +8,7 @@ use Rattle.tree.proofs.Found.{IsFound, entries_read}
 
 pub filter-items : (p : Item → Bool) (es : List Entry) → filter p (map item_of es) ≡ map item_of (filter (λ e. p (item_of e)) es)
 filter-items p [] = refl
-filter-items p (e ∷ es) =
-    elim (cases_Bool (p (item_of e))) [ inl t ↦ rw (t, filter-items p es) refl | inr f ↦ rw f (filter-items p es) ]
+filter-items p (e ∷ es) = grind (arith, filter-items p es, cases_Bool (p (item_of e)))
 
 pub first_key-append : (key : Option ℕ) (xs ys : List Item) → first_key key (xs ++ ys) ≡ first_key (first_key key ys) xs
 first_key-append key [] ys = refl

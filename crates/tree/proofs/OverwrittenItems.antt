@@ -23,12 +23,7 @@ module _ (p q r : ℕ → Bool) (nested : (key : ℕ) → p key ≡ true → q k
   length-between : (items : List Item)
       → length (items_below p items) + (length (between (Some p) (Some q) items) + length (behind q items)) ≡ length items
   length-between [] = refl
-  length-between (x ∷ items) =
-      let rest = length-between items in
-      elim (cases_Bool (p x.key)) [
-        | inl t ↦ rw (t, nested x.key t) (omega arith)
-        | inr f ↦ elim (cases_Bool (q x.key)) [ inl t ↦ rw (f, t) (omega arith) | inr n ↦ rw (f, n) (omega arith) ]
-      ]
+  length-between (x ∷ items) = grind (arith, length-between items, nested x.key, cases_Bool (p x.key), cases_Bool (q x.key))
 
   -- as many more are there as were put in place of the run, and one at least
   pub length-overwritten : (first : Item) (second : ℕ) (given : Option ℤ) (written : Written) (run was now : List Item)

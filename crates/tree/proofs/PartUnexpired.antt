@@ -48,8 +48,5 @@ length-unexpired p count edge before removal run was now next h first =
     let looked = simp length-append at (ap length h.looked_is) in
     let is_below = simp length-append at (ap length h.front_is) in
     let kept = expired_or_kept edge before h.looked in
-    let some : 1 ≤ length now = elim (none_or_some (length h.front)) [
-      | inl none ↦ omega (arith, first_stays edge before h.looked (omega arith) (first (omega (arith, is_below, none))))
-      | inr filled ↦ omega arith
-    ] in
+    let some : 1 ≤ length now = grind (arith, none_or_some (length h.front), first_stays edge before h.looked) in
     (omega (arith, ap length h.run_is, length-partitioned p was), some)

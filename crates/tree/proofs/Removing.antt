@@ -15,8 +15,7 @@ pub expired_or_kept : (edge before : ℤ) (xs : List Item)
     → length (unexpired edge before xs) + length (expired edge before xs) ≡ length xs
 expired_or_kept edge before [] = omega arith
 expired_or_kept edge before (x ∷ xs) =
-    let i = expired_or_kept edge x.version xs in
-    elim (cases_Bool (int_lt before edge && int_lt x.version edge)) [ inl t ↦ rw t (omega arith) | inr f ↦ rw f (omega arith) ]
+    grind (arith, expired_or_kept edge x.version xs, cases_Bool (int_lt before edge && int_lt x.version edge))
 
 -- the entries from an index on
 from_index : (es : List Entry) (index : ℕ) (e : Entry) → index < length es → e ≡ get_or es index e

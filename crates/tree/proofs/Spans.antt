@@ -39,12 +39,7 @@ module _ {X : Type 0} where
     pub fewer_before : ((x : X) → p x ≡ true → q x ≡ true) → (xs : List X)
         → length (filter p xs) ≤ length (filter q xs)
     fewer_before n [] = omega arith
-    fewer_before n (x ∷ xs) =
-        let i = fewer_before n xs in
-        elim (cases_Bool (p x)) [
-          | inl t ↦ rw (t, n x t) (omega arith)
-          | inr f ↦ elim (cases_Bool (q x)) [ inl u ↦ rw (f, u) (omega arith) | inr u ↦ rw (f, u) (omega arith) ]
-        ]
+    fewer_before n (x ∷ xs) = grind (arith, fewer_before n xs, n x, cases_Bool (p x), cases_Bool (q x))
 
   -- the part of a list from one bound to another
   pub span_range : (p q : X → Bool) (xs : List X) (i j : ℕ) → IsPartitioned p xs → IsPartitioned q xs → i ≤ j
