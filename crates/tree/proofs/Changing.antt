@@ -50,10 +50,7 @@ module _ {N : ℕ} where
   pub changes_if_moves : (a b : Arena (Node N)) (was now : List ℕ) → Moves a b was now → Changes a b was now
   changes_if_moves a b was now h =
       let slots : (s : ℕ) → Contains now s → Contains was s ⊎ (record_at a s ≡ None) =
-      λ s has. elim (none_or_some (times s was)) [
-        | inl none ↦ inr (h.from s (times_if_contains s now has) none)
-        | inr used ↦ inl (contains_if_times s was used)
-      ] in
+      λ s has. grind (arith, none_or_some (times s was), h.from s (times_if_contains s now has), contains_if_times s was) in
       let others = λ (s : ℕ) (without : ¬ Contains was s). h.others s (times_unless_contains s was without) in
       search (rules, distinct_if_once now h.few, slots, others)
 
@@ -144,7 +141,7 @@ module _ {N : ℕ} where
       record {
         few = λ s. omega (arith, once_few s slot);
         from = λ s some none. grind (arith, once_cases s slot);
-        others = λ s none alive. others s (λ same. not_both (record_at a s) (rw same free) alive);
+        others = λ s none alive. others s (λ same. absurd (cc (ap is_some free)));
         live = omega arith;
         spare = omega arith;
         keyless = keyless_but a b slot keyless others (rw here refl);

@@ -26,10 +26,7 @@ from_index es index e inside is = rw is (drop_more es index e inside)
 pub all_stay : (edge before : ℤ) (xs : List Item) → expired edge before xs ≡ [] → unexpired edge before xs ≡ xs
 all_stay edge before [] none = refl
 all_stay edge before (x ∷ xs) none =
-    elim (cases_Bool (int_lt before edge && int_lt x.version edge)) [
-      | inl t ↦ let some = rw t at none in absurd (cc)
-      | inr f ↦ rw f (ap (λ l. x ∷ l) (all_stay edge x.version xs (rw f at none)))
-    ]
+    grind (arith, cases_Bool (int_lt before edge && int_lt x.version edge), all_stay edge x.version xs)
 
 module _ (edge last : ℤ) (es : List Entry) (index : ℕ) (e : Entry) (inside : index < length es) (is : e ≡ get_or es index e) where
   -- Where the entry at an index stays, those that go are behind it.

@@ -22,8 +22,7 @@ filter_around p a c b t f =
 module _ {X : Type 0} (p q : X → Bool) (n : (x : X) → p x ≡ true → q x ≡ true) where
   -- Where none is below the second bound, none passes the first.
   pub none_of_fewer : (xs : List X) → All (λ x. q x ≡ false) xs → All (λ x. p x ≡ false) xs
-  none_of_fewer xs a i d inside =
-      elim (cases_Bool (p (get_or xs i d))) [ inl t ↦ absurd (not_both _ (n _ t) (a i d inside)) | inr h ↦ h ]
+  none_of_fewer xs a i d inside = grind (arith, cases_Bool (p (get_or xs i d)), n (get_or xs i d), a i d inside)
 
   -- From the last one before the first bound to the second one, where one of a part is below the bound, all before it are, and
   -- none behind it is before the second bound.

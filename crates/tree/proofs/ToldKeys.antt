@@ -25,10 +25,8 @@ last_passes is_below es i e partitioned some at is =
 -- The one behind it doesn't.
 pub next_fails : (is_below : ℕ → Bool) (es : List Entry) (i : ℕ) (e : Entry) → IsPartitioned (λ e. is_below e.key) es
     → i ≡ index_in is_below es → slice_get es (i + 1) ≡ Some e → is_below e.key ≡ false
-next_fails is_below es i e partitioned at there = elim (cases_Bool (is_below e.key)) [
-  | inr fails ↦ fails
-  | inl passes ↦ absurd (omega (arith, passing_inside (λ (e : Entry). is_below e.key) es (i + 1) e partitioned there passes))
-]
+next_fails is_below es i e partitioned at there =
+    grind (arith, cases_Bool (is_below e.key), passing_inside (λ (e : Entry). is_below e.key) es (i + 1) e partitioned there)
 
 -- Where the first entry doesn't pass, no item does.
 none_from_first : (is_below : ℕ → Bool) (under : Entry → List Item) (es : List Entry) (e : Entry) → slice_get es 0 ≡ Some e

@@ -6,7 +6,7 @@ use Rattle.std.proofs.lemmas.List.{drop_more}
 use Rattle.std.proofs.lemmas.Grind.{flat_map-append}
 use Rattle.std.proofs.lemmas.List.Elements.{All-nil, All-drop, All-head, All-tail, filter-append}
 use Rattle.tree.proofs.Words.{Arena, Entry, Node, Item, Tells, IsPartitioned, index_in, child_in, items_of, entries_at, items_in, IsChild, IsSubtree}
-use Rattle.tree.proofs.callers.Partitions.{none_pass, IsPartitioned-parts, rest_fails, length-items_below, behind_partitioned, All-back}
+use Rattle.tree.proofs.callers.Partitions.{none_pass, IsPartitioned-parts, rest_fails, length-items_below, behind_partitioned, All-back, All-apart}
 
 -- an element of a list, between those before it and those behind it
 pub around_element : {X : Type 0} (xs : List X) (i : ℕ) (d : X) → i < length xs
@@ -39,8 +39,7 @@ module _ (is_below : ℕ → Bool) (below : Entry → List Item) where
   entries_fail : (es : List Entry) → AllTell es → All Fails (flat_map below es) → All (λ e. is_below e.key ≡ false) es
   entries_fail es t a = λ i d inside.
       let k = t i d inside in
-      let all = All-back Fails (flat_map below (take i es)) (flat_map below (drop i es)) (rw (whole i es) at a) in
-      rw k.key (All-head Fails k.first _ (rw (drop_more es i d inside, k.items_are) at all))
+      rw k.key (All-head Fails k.first k.others (rw k.items_are at (All-apart Fails below es a i d inside)))
 
   -- No item passes, where the first entry fails.
   all_fail : (es : List Entry) → AllTell es → IsPartitioned (λ x. is_below x.key) (flat_map below es)

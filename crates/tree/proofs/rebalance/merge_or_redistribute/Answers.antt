@@ -1,4 +1,4 @@
-use Rattle.std.proofs.Common.{◌≡◌, ◌≤◌, ◌+◌, ℕ, List, [], ◌∷◌, append-nil, length, length-append, length-drop, length-set, length-take, get_or, ap, ◌∙◌, sym, arith, rules}
+use Rattle.std.proofs.Common.{◌≡◌, ◌≤◌, ◌+◌, ℕ, List, [], ◌∷◌, append-nil, length, length-append, length-drop, length-set, length-take, get_or, ap, ◌∙◌, sym, arith, rules, ◌≢◌}
 use Rattle.tree.proofs.Words.{Entry, entries_of, AreTwo, entries_at, least_of}
 use Rattle.std.proofs.lemmas.List.Elements.{All-nil, All-cons}
 use Rattle.tree.proofs.Changing.{moves_if_changes}
@@ -39,13 +39,10 @@ module _ (g : given.Over) (c : After-index-entries-index-2 g) where
       let live = live_subtree c.args.nodes.now (least_of g.row.N) f.0 in
       let apart = apart_pair c.args.nodes.now (least_of g.row.N) f.0 es c.args.index c.index-entries-index.result
       c.index-entries-index-2.result can.within f.1 in
-      record {
-        live_first = live first (rw first_is (f.1.below c.args.index c.index-entries-index.result (omega arith)));
-        live_second = live second (rw second_is (f.1.below (c.args.index + 1) c.index-entries-index-2.result can.within));
-        apart = λ same. apart (sym first_is ∙ same ∙ second_is);
-        keyless = can.keyless;
-        headed = can.headed;
-      }
+      let live_first = live first (rw first_is (f.1.below c.args.index c.index-entries-index.result (omega arith))) in
+      let live_second = live second (rw second_is (f.1.below (c.args.index + 1) c.index-entries-index-2.result can.within)) in
+      let differ : first ≢ second = λ same. apart (sym first_is ∙ same ∙ second_is) in
+      search rules
 
   filled : least_of g.row.N ≤ length (entries_at c.args.nodes.now first) + length (entries_at c.args.nodes.now second)
   filled =
@@ -62,25 +59,22 @@ header_ref-requires-2 g c = record { live = (two g (goal.at.header_ref-requires-
 
 pub merge-requires : goal.merge-requires
 merge-requires g c =
-    let s = (goal.at.merge-requires g c).After-index-entries-index-2 in
-    let first_was = entries_from_header c.args.nodes.now (first g s) _ c.header_ref.ensures.header in
-    let second_was = entries_from_header c.args.nodes.now (second g s) _ c.header_ref-2.ensures.header in
-    (search rules, (two g s, rw (first_was, second_was) (omega arith)))
+    let first_was = entries_from_header c.args.nodes.now _ _ c.header_ref.ensures.header in
+    let second_was = entries_from_header c.args.nodes.now _ _ c.header_ref-2.ensures.header in
+    (search rules, (two g (goal.at.merge-requires g c).After-index-entries-index-2, rw (first_was, second_was) (omega arith)))
 
 pub redistribute-requires : goal.redistribute-requires
 redistribute-requires g c =
-    let s = (goal.at.redistribute-requires g c).After-index-entries-index-2 in
-    let first_was = entries_from_header c.args.nodes.now (first g s) _ c.header_ref.ensures.header in
-    let second_was = entries_from_header c.args.nodes.now (second g s) _ c.header_ref-2.ensures.header in
-    (search rules, (two g s, rw (first_was, second_was) (omega arith)))
+    let first_was = entries_from_header c.args.nodes.now _ _ c.header_ref.ensures.header in
+    let second_was = entries_from_header c.args.nodes.now _ _ c.header_ref-2.ensures.header in
+    (search rules, (two g (goal.at.redistribute-requires g c).After-index-entries-index-2, rw (first_was, second_was) (omega arith)))
 
 pub entry_for-requires : goal.entry_for-requires
 entry_for-requires g c =
     let s = (goal.at.entry_for-requires g c).After-index-entries-index-2 in
-    let b = c.merge.new.nodes in
     let all = simp length-append at (ap length c.merge.ensures.entries) in
-    let some : 1 ≤ length (entries_at b (first g s)) = omega (arith, filled g s, all) in
-    (search rules, (live_if_some b (first g s) some, some))
+    let some : 1 ≤ length (entries_at c.merge.new.nodes (first g s)) = omega (arith, filled g s, all) in
+    (search rules, (live_if_some c.merge.new.nodes (first g s) some, some))
 
 pub entry_for-requires-2 : goal.entry_for-requires-2
 entry_for-requires-2 g c = (search rules, (live_if_some c.redistribute.new.nodes _ (omega arith), omega arith))
