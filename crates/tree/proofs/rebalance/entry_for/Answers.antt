@@ -8,9 +8,6 @@ use Rattle.tree.proofs.rebalance.entry_for.Goals as goal
 
 pub returns : goal.returns
 returns g c =
-    let a = c.args.nodes.now in
-    let e = c.index-entries-0.result in
-    let xs = c.entries.result.now in
     let here = entries_from_header a c.args.child _ c.header_ref-node.ensures.header in
     let same : entries_at a c.args.child ≡ xs = here ∙ sym c.entries.ensures.entries in
     let some : 0 < length xs = rw (← same) c.requires.some in
@@ -24,3 +21,5 @@ returns g c =
       known = λ bytes headed. rw (← c.index-entries-0.is)
           ((rw (same ∙ parts) at (common_prefix_len_at bytes a c.args.child headed)) 0 e.key (omega arith));
     }
+  where
+    open c use {args.{nodes.{now as a}}, index-entries-0.{result as e}, entries.{result.{now as xs}}}

@@ -84,16 +84,10 @@ entry_for-requires-3 g c = (search rules, (live_if_some c.redistribute.new.nodes
 
 pub returns-then-count-clause-rebalanced : goal.returns-then-count-clause-rebalanced
 returns-then-count-clause-rebalanced g c height family =
-    let a = c.args.nodes.now in
-    let b = c.merge.new.nodes in
-    let i = c.args.index in
     let least = least_of g.row.N in
     let s = (goal.at.returns-then-count-clause-rebalanced g c).After-index-entries-index-2 in
     let x = first g s in
     let y = second g s in
-    let child = c.entry_for.ensures.child in
-    let within = c.requires.can_merge.within in
-    let merge = c.merge.ensures in
     let many : least ≤ length (entries_at b x) = omega (arith, filled g s, simp length-append at (ap length merge.entries)) in
     let is = made b least height x c.entry_for.result child (omega (arith, many)) many (c.entry_for.ensures.tells height least) in
     let P = IsMade b least height in
@@ -103,22 +97,16 @@ returns-then-count-clause-rebalanced g c height family =
     (All-cons P c.entry_for.result [] is (All-nil P))
     (cc (append-nil (entries_at b x), append-nil (entries_at a y), first_is g s, second_is g s, merge.entries))
     (rw (← first_is g s, ← second_is g s, child) (moves_if_changes a b (x ∷ y ∷ []) (x ∷ []) merge.changes))
+  where
+    open c use {args.{nodes.{now as a}, index as i}, merge.{new.{nodes as b}, ensures as merge}, entry_for.{ensures.{child}}}
+    open c use {requires.{can_merge.{within}}}
 
 pub returns-clause-rebalanced : goal.returns-clause-rebalanced
 returns-clause-rebalanced g c height family =
-    let a = c.args.nodes.now in
-    let b = c.redistribute.new.nodes in
-    let i = c.args.index in
     let least = least_of g.row.N in
     let s = (goal.at.returns-clause-rebalanced g c).After-index-entries-index-2 in
     let x = first g s in
     let y = second g s in
-    let t = c.entry_for-2.result in
-    let u = c.entry_for-3.result in
-    let t_is = c.entry_for-2.ensures in
-    let u_is = c.entry_for-3.ensures in
-    let shared = c.redistribute.ensures in
-    let within = c.requires.can_merge.within in
     let P = IsMade b least height in
     let one = made b least height x t t_is.child (omega arith) (omega (arith, shared.filled.left)) (t_is.tells height least) in
     let other = made b least height y u u_is.child (omega arith) (omega (arith, shared.filled.right)) (u_is.tells height least) in
@@ -128,6 +116,10 @@ returns-clause-rebalanced g c height family =
     (All-cons P t (u ∷ []) one (All-cons P u [] other (All-nil P)))
     (cc (append-nil (entries_at b y), append-nil (entries_at a y), first_is g s, second_is g s, shared.entries))
     (rw (← first_is g s, ← second_is g s, t_is.child, u_is.child) (moves_if_changes a b (x ∷ y ∷ []) (x ∷ y ∷ []) shared.changes))
+  where
+    open c use {args.{nodes.{now as a}, index as i}, redistribute.{new.{nodes as b}, ensures as shared}}
+    open c use {entry_for-2.{result as t, ensures as t_is}, entry_for-3.{result as u, ensures as u_is}}
+    open c use {requires.{can_merge.{within}}}
 
 pub returns-then-count-clause-rest : goal.returns-then-count-clause-rest
 returns-then-count-clause-rest g c =

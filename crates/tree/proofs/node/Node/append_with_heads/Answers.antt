@@ -18,10 +18,6 @@ compute_heads-requires g c =
 pub lengthen_prefix-requires : goal.lengthen_prefix-requires
 lengthen_prefix-requires g c =
     let bytes = g.P.Bound.bytes c.args.bound.now in
-    let one = c.args.self.now in
-    let other = c.args.other.now in
-    let es = c.entries.result.now in
-    let first = c.in-Some.first.now in
     let get : slice_get es 0 ≡ Some first = sym {b = slice_get es 0} c.in-Some.ensures.value in
     let there = keys_there es 0 first (slice_get_within es 0 first get) (get_or_from_slice_get es 0 first first get) in
     let alike : (one.prefix_len ≡ other.prefix_len)
@@ -32,8 +28,10 @@ lengthen_prefix-requires g c =
           absurd (w.if-self-other.false (eqb-true one.prefix_len other.prefix_len (sym w.alike-is ∙ c.if-not-alike.false)))
     ] in
     let keys = rw c.entries-2.ensures.entries at c.append.ensures.entries in
-    let heads = c.append.ensures.heads in
     let joined = headed_joined bytes (key_heads_of one) (key_heads_of other) c.requires.headed c.requires.other_headed first.key
     alike.0 (rw c.entries.ensures.entries at there) alike.1 _ (simp map-append at (ap keys_of keys)) heads.prefix_len
     (rw c.heads.ensures.heads at heads.heads_are) in
     (search rules, joined)
+  where
+    open c use {args.{self.{now as one}, other.{now as other}}, entries.{result.{now as es}}, in-Some.{first.{now as first}}}
+    open c use {append.{ensures.{heads}}}

@@ -9,11 +9,6 @@ use Rattle.tree.proofs.node.Node.copy.Goals as goal
 
 pub returns : goal.returns
 returns g c =
-    let node = c.args.self.now in
-    let from = c.args.from in
-    let to = c.args.to in
-    let e = c.index-self-from.result in
-    let is = c.index-self-from.is in
     let most : node.len ≤ length node.entries = omega arith in
     let len = length-take-le node.len node.entries most in
     let from_inside : from < node.len = omega (arith, c.requires.from, len) in
@@ -28,3 +23,5 @@ returns g c =
           (head_there node.entries node.len from e from_inside most is (head_at bytes node.prefix_len) node.heads h.heads)
           (cc (simp map-set at (ap keys_of set))) refl (take-set-lt node.len node.heads to (get_or node.heads from 0) to_inside);
     }
+  where
+    open c use {args.{self.{now as node}, from, to}, index-self-from.{result as e, is}}

@@ -5,11 +5,7 @@ use Rattle.tree.proofs.node.Node.head_of.Goals as goal
 
 pub returns-then-eq : goal.returns-then-eq
 returns-then-eq g c =
-    let node = c.args.self.now in
     let bytes = g.P.Bound.bytes c.args.bound.now in
-    let i = c.args.index in
-    let e = c.index-self-index.result in
-    let is = c.index-self-index.is in
     let inside : i < node.len = omega (arith, c.requires.within, length-take-le node.len node.entries (omega arith)) in
     let equal = eqb-true (slice_index_or node.entries i e).key c.args.key (sym c.eq.ensures ∙ c.if-eq.true) in
     let same : e.key ≡ c.args.key = cc in
@@ -21,3 +17,5 @@ returns-then-eq g c =
             c.requires.headed.heads;
       };
     }
+  where
+    open c use {args.{self.{now as node}, index as i}, index-self-index.{result as e, is}}

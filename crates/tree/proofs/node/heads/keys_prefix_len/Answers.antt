@@ -11,13 +11,8 @@ loop-entry-init g c = record { most = omega (arith, c.from-count.ensures); commo
 pub loop-entry-preserved : goal.loop-entry-preserved
 loop-entry-preserved g c =
     let bytes = g.P.Bound.bytes c.args.bound.now in
-    let xs = c.args.entries.now in
     let keys = keys_of xs in
     let key : Entry → ℕ = λ x. x.key in
-    let i = c.loop-entry.entry-index in
-    let count = c.loop-entry.count in
-    let inv = c.loop-entry.invariant in
-    let e = c.entry-item.result in
     let inside : i < length keys = omega (arith, c.loop-entry-test.true, length-map xs key) in
     let here : e.key ≡ get_or keys i e.key = cc (get_or-map key xs i e e.key c.loop-entry-test.true, c.entry-item.is) in
     elim c.if-not-is_empty.branch [
@@ -31,6 +26,8 @@ loop-entry-preserved g c =
           (λ b other. (c.is_empty.ensures.empty b other).0 w.if-not-is_empty.false) inv.common in
           rw w.count-is record { most = inv.most; common = more }
     ]
+  where
+    open c use {args.{entries.{now as xs}}, loop-entry.{entry-index as i, count, invariant as inv}, entry-item.{result as e}}
 
 pub overflow_cast-result : goal.overflow_cast-result
 overflow_cast-result g c = omega (arith, c.loop-entry.invariant.most)

@@ -9,10 +9,6 @@ raised h = let same : h ≡ h * 4294967296 / 4294967296 = omega arith in ap (to_
 
 pub returns : goal.returns
 returns c =
-    let r = c.same_bytes.result in
-    let m = c.min.result in
-    let a = c.args.a in
-    let b = c.args.b in
     let a_is : c.from.result * 4294967296 % 18446744073709551616 ≡ a * 4294967296 = omega (arith, c.from.ensures, c.ranges.a) in
     let b_is : c.from-2.result * 4294967296 % 18446744073709551616 ≡ b * 4294967296 = omega (arith, c.from-2.ensures, c.ranges.b) in
     let alike : take r (to_be_bytes w64 (a * 4294967296)) ≡ take r (to_be_bytes w64 (b * 4294967296)) =
@@ -31,3 +27,5 @@ returns c =
           (ap (λ x. get_or (to_be_bytes w64 x) r 0) a_is ∙ sym (at a) ∙ e ∙ at b
           ∙ sym (ap (λ x. get_or (to_be_bytes w64 x) r 0) b_is));
     }
+  where
+    open c use {same_bytes.{result as r}, min.{result as m}, args.{a, b}}
