@@ -20,8 +20,7 @@ module _ (v : ℤ) where
   -- where none is greater than a version that isn't above it, none is above it
   pub not_above : (w : ℤ) (items : List Item) → All (Bounds w) items → w ≤ℤ v → IsAbove items → ⊥
   not_above w items bound le a =
-      let most = rw a.3 at (bound a.0 a.1 a.2) in
-      let lt : v <ℤ a.1.version = a.4 in omega (arith, ints, le, most, lt)
+      let lt : v <ℤ a.1.version = a.4 in omega (arith, ints, le, rw a.3 at (bound a.0 a.1 a.2), lt)
 
   -- what the code answers of entries, where these are the items
   pub leaf_above : (b : Bool) (whole : List Item) (es : List Entry) → whole ≡ map item_of es

@@ -27,8 +27,7 @@ module _ {N : ℕ} (nodes : Arena (Node N)) (least : ℕ) where
       → k * length (slots_in nodes height slot) + length (entries_at nodes slot) ≤ length (items_in nodes height slot) + k
   few_nodes k one_less zero slot s = omega (arith, length-map (entries_at nodes slot) item_of)
   few_nodes k one_less (suc height) slot s =
-      let each = fill_each k 1 height (λ t h filled. omega (arith, few_nodes k one_less height t h)) _ s.2 in
-      omega (arith, each)
+      omega (arith, fill_each k 1 height (λ t h filled. omega (arith, few_nodes k one_less height t h)) _ s.2)
 
   -- Each level has twice as many items.
   many_items : 2 ≤ least → (height slot : ℕ) → IsSubtree nodes least height slot → 2 ≤ length (entries_at nodes slot)

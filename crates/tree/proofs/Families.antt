@@ -54,16 +54,13 @@ module _ {N : ℕ} where
           let live_behind = live_children a least height behind right_behind in
           let agree_before = moves_agree a b ys ws xs moves live_before (λ s. omega (arith, apart s)) in
           let agree_behind = moves_agree a b ys ws zs moves live_behind (λ s. omega (arith, apart s)) in
-          let same_before = slots_of_same a b height before agree_before in
-          let same_behind = slots_of_same a b height behind agree_behind in
-          let items_before = items_of_same a b height before agree_before in
           let items_behind = items_of_same a b height behind agree_behind in
           let now : slots_of b height (before ++ (new ++ behind)) ≡ xs ++ (ws ++ zs) =
-          simp (slots_of-append, same_before, same_behind) in
+          simp (slots_of-append, slots_of_same a b height before agree_before, slots_of_same a b height behind agree_behind) in
           record {
             front = children_same a b height before agree_before least right_before;
             back = children_same a b height behind agree_behind least right_behind;
-            items = simp (items_of-append, items_before, items_behind);
+            items = simp (items_of-append, items_of_same a b height before agree_before, items_behind);
             moves = moves_beside a b ys ws (xs ++ zs) _ _ moves
                 (λ s. rw was (simp times-append (omega arith)))
                 (λ s. rw now (simp times-append (omega arith)))

@@ -127,13 +127,12 @@ module _ (bytes : KeyBytes) where
       → All (Begins bytes (take count text)) keys → All (Begins bytes (take fewer text)) keys
   begin_fewer fewer count text keys less long begins = λ i d inside.
       let b = begins i d inside in
-      let size = length-take-le count text long in
       let short = length-take-le fewer text (omega (arith, less, long)) in
       record {
         text = b.text;
         known = b.known;
         are_bytes = b.are_bytes;
-        begins = grind (arith, less, size, short, b.begins, take_fewer fewer count b.text text);
+        begins = grind (arith, less, length-take-le count text long, short, b.begins, take_fewer fewer count b.text text);
       }
 
   -- The head of a target is that of a key with its bytes.

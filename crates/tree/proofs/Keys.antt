@@ -74,5 +74,4 @@ module _ {N : ℕ} (nodes : Arena (Node N)) (least height slot : ℕ) (is_below 
   pub key_behind_child : first_key next (behind_leaf nodes (height - 1) child is_below)
       ≡ first_key key (behind_leaf nodes height slot is_below)
   key_behind_child =
-      let own = ap (λ m. behind_leaf nodes m slot is_below) f.lower in
-      rw (← own, f.is, f.way.child, first_key-append, key_of_next) refl
+      rw (← ap (λ m. behind_leaf nodes m slot is_below) f.lower, f.is, f.way.child, first_key-append, key_of_next) refl

@@ -68,8 +68,7 @@ pub most_passed : (least : Option ℤ) (e : Entry) (xs : List Item) (p : Item �
     → IsGreatestWith least (filter p xs) least
 most_passed None e xs p above fits tells fails told = let yes = told.1 tt in absurd (cc)
 most_passed (Some l) e xs p above fits tells fails told =
-    let same = to_z-of_z w64 e.version fits in
-    let not_less : l <ℤ e.version → ⊥ = λ lt. (let yes = told.1 (rw same lt) in cc) in
+    let not_less : l <ℤ e.version → ⊥ = λ lt. (let yes = told.1 (rw (to_z-of_z w64 e.version fits) lt) in cc) in
     let le : e.version ≤ℤ l = grind (arith, ints) in
     let bound = All-filter p (Bounds l) xs (higher e.version l xs le tells.greatest.bound) in
     record { bound = bound; least_bound = omega (arith, ints); reached = inl refl }

@@ -47,11 +47,10 @@ module _ {X : Type 0} where
   span_range p q xs i j c d le m n =
       let front = rw (← m) at (before_partitioned p xs c) in
       let later = rw (← m) at (behind_partitioned p xs c) in
-      let sooner = rw (← n) at (before_partitioned q xs d) in
       let back = rw (← n) at (behind_partitioned q xs d) in
       let up : i + (j - i) ≡ j = omega arith in
       let is : drop i (take j xs) ≡ slice_range xs i j = cc (drop-take i (j - i) xs) in
-      let inside = rw is at (All-drop (λ x. q x ≡ true) i (take j xs) sooner) in
+      let inside = rw is at (All-drop (λ x. q x ≡ true) i (take j xs) (rw (← n) at (before_partitioned q xs d))) in
       let whole = span_all p q (slice_range xs i j) (All-take (λ x. p x ≡ false) (j - i) (drop i xs) later) inside in
       let parts : xs ≡ take i xs ++ (slice_range xs i j ++ drop j xs) =
       cc (take-append-drop i xs, take-append-drop (j - i) (drop i xs), drop-drop (j - i) i xs) in
@@ -69,9 +68,8 @@ module _ {X : Type 0} (below : Entry → List X) (p q : X → Bool) (es : List E
   span_of_child same inside =
       let a = flat_map below (take i es) in
       let b = flat_map below (drop (i + 1) es) in
-      let behind = rw (← same) at back in
       ap (λ xs. span p q (flat_map below xs)) (around_element es i d inside)
-      ∙ simp (flat_map-append, filter-append, span_before p q a front, span_behind p q b behind, append-nil)
+      ∙ simp (flat_map-append, filter-append, span_before p q a front, span_behind p q b (rw (← same) at back), append-nil)
 
   -- where they lie in two
   pub span_of_two : i < j → j < length es

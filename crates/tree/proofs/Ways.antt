@@ -82,8 +82,7 @@ module _ (is_below : ℕ → Bool) (below : Entry → List Item) where
         | inr fail ↦
             let none = none_pass p (drop k es) (entries_fail (drop k es) (All-drop (λ e. Tells e (below e)) k es t) fail) in
             let count = simp (filter-append, length-append) at (ap (λ l. length (filter p l)) (take-append-drop k es)) in
-            let few = length-items_below p (take k es) in
-            let zero : k ≡ 0 = omega (arith, count, ap length none.0, few, length-take k es) in
+            let zero : k ≡ 0 = omega (arith, count, ap length none.0, length-items_below p (take k es), length-take k es) in
             rw zero (All-nil Passes)
       ]
 

@@ -11,11 +11,10 @@ loop-entry-init c = refl
 pub returns-then-entry-edge : goal.returns-then-entry-edge
 returns-then-entry-edge c =
     let e = c.entry-item.result in
-    let below = rw (to_z-of_z w64 e.version (search rules)) at c.if-entry-edge.true in
     let edge = to_z-of_z w64 c.args.edge c.ranges.edge in
     let before = to_z-of_z w64 c.args.before c.ranges.before in
     let found = one_found (to_z w64 (of_z w64 c.args.edge)) (to_z w64 c.loop-entry.last-bits) _ _ e c.loop-entry-test.true
-    c.entry-item.is (rw (c.if-last-edge.true, below) refl) in
+    c.entry-item.is (rw (c.if-last-edge.true, rw (to_z-of_z w64 e.version (search rules)) at c.if-entry-edge.true) refl) in
     record { expired = (λ _ none. found (rw (← c.loop-entry.invariant, edge, before) none), λ _. refl) }
 
 pub loop-entry-preserved : goal.loop-entry-preserved
@@ -33,8 +32,7 @@ loop-entry-preserved c =
 
 pub returns : goal.returns
 returns c =
-    let edge = to_z-of_z w64 c.args.edge c.ranges.edge in
     let before = to_z-of_z w64 c.args.before c.ranges.before in
     let behind = drop_all c.loop-entry.entry-index c.args.entries.now (omega (arith, c.loop-entry-test.false)) in
-    let none = rw (edge, before, behind) at c.loop-entry.invariant in
+    let none = rw (to_z-of_z w64 c.args.edge c.ranges.edge, before, behind) at c.loop-entry.invariant in
     record { expired = (λ said. absurd (cc), λ some. absurd (some none)) }

@@ -47,9 +47,8 @@ module _ (g : given.Over) (c : After-index-entries-index-2 g) where
   filled : least_of g.row.N ≤ length (entries_at c.args.nodes.now first) + length (entries_at c.args.nodes.now second)
   filled =
       let can = c.requires.can_merge in
-      let child = child_is es c.args.index c.index-entries-index.result (omega arith) in
       let child_next = child_is es (c.args.index + 1) c.index-entries-index-2.result can.within in
-      rw (first_is, second_is, ← child, ← child_next) can.filled
+      rw (first_is, second_is, ← child_is es c.args.index c.index-entries-index.result (omega arith), ← child_next) can.filled
 
 pub header_ref-requires : goal.header_ref-requires
 header_ref-requires g c = record { live = (two g c).live_first }

@@ -29,8 +29,7 @@ pub place-requires : goal.place-requires
 place-requires g c =
     let a = c.args.nodes.now in
     let now = c.splice_apart-right.new.self in
-    let b = with_header a c.args.slot now in
-    let put = put_moves a b c.args.slot now refl c.requires.can_split.live
+    let put = put_moves a (with_header a c.args.slot now) c.args.slot now refl c.requires.can_split.live
     c.requires.can_split.keyless in
     (search rules, (put.keyless, omega (arith, c.requires.can_split.room, put.live, put.spare)))
 

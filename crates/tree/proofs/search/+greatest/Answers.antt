@@ -97,8 +97,7 @@ greatest-most-requires g t c κs within =
 pub greatest-most-requires-then-is_above-2 : goal.greatest-most-requires-then-is_above-2
 greatest-most-requires-then-is_above-2 g t c κs within =
     let h = halves g t (goal.at.greatest-most-requires-then-is_above-2 g t c).After-index-entries-last in
-    let to = ask_to (λ q. g.Q.Bound.below q.now) (right_items h) c.args.to (right_to h) in
-    search (rules, (right_is h).subtree, to)
+    search (rules, (right_is h).subtree, ask_to (λ q. g.Q.Bound.below q.now) (right_items h) c.args.to (right_to h))
 
 pub returns-then-not-is_above : goal.returns-then-not-is_above
 returns-then-not-is_above g t c =

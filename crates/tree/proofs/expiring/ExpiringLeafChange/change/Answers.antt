@@ -85,9 +85,8 @@ returns-then-not-has_expired-clause-changed g c =
 pub returns-then-not-has_expired-clause-items : goal.returns-then-not-has_expired-clause-items
 returns-then-not-has_expired-clause-items g c =
     let t = (goal.at.returns-then-not-has_expired-clause-items g c).After-has_expired in
-    let edge_is = to_z-of_z w64 c.args.self.now.edge (search rules) in
     let before_is = to_z-of_z w64 c.args.self.now.before (search rules) in
-    let none = rw (edge_is, before_is, c.entries-2.ensures.entries) at
+    let none = rw (to_z-of_z w64 c.args.self.now.edge (search rules), before_is, c.entries-2.ensures.entries) at
     (none_goes _ c.has_expired.result c.has_expired.ensures.expired.1 c.if-not-has_expired.true) in
     swept g t _ _ (ap (map item_of) (read g t)
     ∙ untouched (es g t) (begin g t) (end g t) (some_looked g t) (within g t) c.args.self.now.edge c.args.self.now.before none)

@@ -25,9 +25,8 @@ compute_heads-requires g c =
 pub returns-clause-headed : goal.returns-clause-headed
 returns-clause-headed g c =
     let bytes = g.P.Bound.bytes c.args.bound.now in
-    let size = length-take-le new.len new.entries (omega arith) in
     let count = ap length c.set-2.ensures.entries ∙ length-set (entries_of old) i c.args.entry in
-    let inside : i < new.len = omega (arith, c.requires.within, size, count) in
+    let inside : i < new.len = omega (arith, c.requires.within, length-take-le new.len new.entries (omega arith), count) in
     let prefix_len : new.prefix_len ≡ old.prefix_len = ap (λ (h : KeyHeads). h.prefix_len) kept in
     let known = head_known bytes c.prefix_len.result key head c.requires.known c.head_of.ensures.head in
     headed_set bytes (key_heads_of old) c.requires.headed _ i key head c.requires.known
