@@ -1,5 +1,5 @@
 -- What a node's heads tells of the key at an index.
-use Rattle.std.proofs.Common.{◌≡◌, ◌≢◌, ◌⊎◌, ℕ, ◌+◌, ◌-◌, ◌<◌, ◌≤◌, Bool, true, nat_lt, List, [], ◌∷◌, length, filter, get_or, take, slice_get, slice_index, Option, None, Some, refl, sym, ap, ◌∙◌, inl, inr, arith, length-take, get_or-take, lt-ltb, ltb-true}
+use Rattle.std.proofs.Common.{◌≡◌, ◌≢◌, ◌⊎◌, ℕ, ◌+◌, ◌-◌, ◌<◌, ◌≤◌, Bool, true, nat_lt, List, [], length, filter, get_or, take, slice_get, slice_index, Option, None, Some, refl, sym, ap, ◌∙◌, inl, inr, arith, length-take, get_or-take, lt-ltb, ltb-true}
 use Rattle.std.specs.Int.{w32, to_be_bytes}
 use Rattle.std.specs.List.{Contains}
 use Rattle.std.proofs.lemmas.List.Elements.{All-contains}

@@ -1,5 +1,5 @@
 -- What nodes know of the bytes of keys, while nodes are put, placed and released.
-use Rattle.std.proofs.Common.{rules, ◌≡◌, ◌≢◌, ◌⊎◌, inl, inr, ℕ, ◌≤◌, List, [], ◌∷◌, length, map, take, Option, Some, None, option_map, unwrap_or, refl, ap, arith, ◌∙◌, IfSome, All}
+use Rattle.std.proofs.Common.{rules, ◌≡◌, ◌≢◌, ◌⊎◌, inl, inr, ℕ, ◌≤◌, List, [], ◌∷◌, length, map, take, Option, Some, None, option_map, unwrap_or, refl, arith, ◌∙◌, IfSome, All}
 use Rattle.std.proofs.lemmas.List.{nil_from_length}
 use Rattle.std.proofs.lemmas.Option.{IfSome_then}
 use Rattle.std.proofs.lemmas.List.Elements.{All-head, All-tail}

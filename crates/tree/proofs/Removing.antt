@@ -1,5 +1,5 @@
 -- The removal of the expired items of a run, entry by entry.
-use Rattle.std.proofs.Common.{◌≡◌, ◌≢◌, ℕ, suc, ◌+◌, ◌-◌, ◌<◌, ◌≤◌, ℤ, int_lt, int_le, ◌&&◌, true, false, List, [], ◌∷◌, ◌++◌, length, get_or, map, take, drop, set, refl, ◌∙◌, ap, arith, inl, inr, length-append, length-drop, append_assoc, length-set}
+use Rattle.std.proofs.Common.{◌≡◌, ◌≢◌, ℕ, suc, ◌+◌, ◌-◌, ◌<◌, ◌≤◌, ℤ, int_lt, int_le, ◌&&◌, true, false, List, [], ◌∷◌, ◌++◌, length, get_or, map, take, drop, set, refl, ◌∙◌, arith, length-append, length-drop, append_assoc, length-set}
 use Rattle.std.proofs.lemmas.Grind.{drop_more_same}
 use Rattle.std.proofs.lemmas.Int.{ints}
 use Rattle.std.proofs.lemmas.List.{append-nil, get_or-drop, map-append, take_more, take_more_set, drop-set-lt, drop_more}

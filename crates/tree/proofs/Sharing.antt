@@ -1,7 +1,6 @@
 -- Two neighbours that are merged or merge_or_redistribute their entries, and the entries of the node above.
 use Rattle.std.proofs.Common.{◌≡◌, ℕ, zero, suc, ◌+◌, add-one, ◌<◌, ◌≤◌, List, [], ◌∷◌, ◌++◌, length, length-append, get_or, set, take, drop, map, option_map, unwrap_or, refl, sym, ap, ap₂, subst, ◌∙◌, arith, append_assoc, All, flat_map}
 use Rattle.std.proofs.lemmas.List.{map-append, take-append-drop, drop_more, set_split, take_more_set, drop-set-lt, length-set}
-use Rattle.std.proofs.lemmas.List.Elements.{All-nil, All-cons}
 use Rattle.std.proofs.lemmas.Option.{slice_get-get_or}
 use Rattle.tree.proofs.Words.{Arena, Entry, Node, item_of, Tells, entries_at, items_in, IsSubtree, child_at, items_of, slots_of, AreChildren, IsFamily, IsRebalanced}
 use Rattle.tree.proofs.callers.Times.{times, times-append, once_if_distinct}

@@ -1,5 +1,5 @@
 -- What lies from one bound to another, in parts.
-use Rattle.std.proofs.Common.{◌≡◌, ℕ, ◌+◌, ◌-◌, ◌<◌, ◌≤◌, Bool, true, false, not, ◌&&◌, List, [], ◌∷◌, ◌++◌, length, get_or, take, drop, filter, flat_map, All, refl, sym, ◌∙◌, ap, inl, inr, arith, take-add, take-append-drop, append-nil, slice_range}
+use Rattle.std.proofs.Common.{◌≡◌, ℕ, ◌+◌, ◌-◌, ◌<◌, ◌≤◌, Bool, true, false, not, ◌&&◌, List, [], ◌∷◌, ◌++◌, length, get_or, take, drop, filter, flat_map, All, refl, ◌∙◌, ap, arith, take-add, take-append-drop, append-nil, slice_range}
 use Rattle.std.proofs.lemmas.Bool.{and_right, cases_Bool}
 use Rattle.std.proofs.lemmas.Grind.{flat_map-append}
 use Rattle.std.proofs.lemmas.List.{append_assoc, drop-drop, drop-take, drop_more, take_more}

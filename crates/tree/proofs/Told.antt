@@ -7,7 +7,7 @@ use Rattle.std.proofs.lemmas.List.{length-map}
 use Rattle.std.proofs.lemmas.List.Elements.{All-nil, filter-append}
 use Rattle.tree.proofs.Words.{Arena, Entry, Node, Item, Tells, item_of, IsPartitioned, from_last, IsTold, items_in}
 use Rattle.tree.proofs.Above.{IsAbove, none_above, leaf_above}
-use Rattle.tree.proofs.callers.Partitions.{All-front, not_both, none_pass, none_fail, IsPartitioned-parts, rest_fails}
+use Rattle.tree.proofs.callers.Partitions.{All-front, none_pass, none_fail, IsPartitioned-parts, rest_fails}
 use Rattle.tree.proofs.FromLast.{from_last_of, leaf_from_last, none_told}
 use Rattle.tree.proofs.Keys.{filter-items}
 use Rattle.tree.proofs.Looks.{IsLook, look_items}

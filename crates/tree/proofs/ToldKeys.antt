@@ -1,5 +1,5 @@
 -- What is known of the first keys of nodes, where a search goes on with the last entry below the bound.
-use Rattle.std.proofs.Common.{◌≡◌, ℕ, ◌+◌, ◌-◌, ◌<◌, ◌≤◌, Bool, true, false, List, [], ◌∷◌, Some, None, length, get_or, slice_get, filter, flat_map, All, refl, sym, arith, ◌≢◌, Option, unwrap_or, inl, inr}
+use Rattle.std.proofs.Common.{◌≡◌, ℕ, ◌+◌, ◌-◌, ◌<◌, ◌≤◌, Bool, true, false, List, [], ◌∷◌, Some, None, length, get_or, slice_get, filter, flat_map, All, refl, sym, arith, ◌≢◌, Option, unwrap_or}
 use Rattle.std.proofs.lemmas.Bool.{cases_Bool}
 use Rattle.std.proofs.lemmas.Option.{slice_get_read}
 use Rattle.tree.proofs.Words.{Arena, Entry, Node, KeyBytes, IsPrefixLenAt, Item, Tells, CanReach, IsPartitioned, index_in, entries_at, items_in}
