@@ -1,11 +1,7 @@
 -- Whether a version is above another, of items and of the entries for them.
-use Rattle.std.proofs.Common.{◌≡◌, Bool, true, false, List, map, IsTrue, ◌↔◌, All, Any, int_le, arith}
-use Rattle.std.specs.Prelude.{ℤ, ◌<ℤ◌, ◌≤ℤ◌}
+use Rattle.std.proofs.Common.{◌≡◌, Bool, true, false, List, map, IsTrue, ◌↔◌, All, Any, int_le, arith, ℤ, ◌<ℤ◌, ◌≤ℤ◌, w64, SFits, to_z, of_z}
 use Rattle.std.proofs.lemmas.Int.{ints, to_z-of_z}
-use mir.Syntax.{w64}
-use mir.Val.{SFits, to_z, of_z}
-use Rattle.tree.specs.declared.entry.Entry.{Entry}
-use Rattle.tree.specs.Item.{Item, item_of}
+use Rattle.tree.proofs.Words.{Entry, Item, item_of}
 use Rattle.tree.proofs.GreatestParts.{Bounds}
 use Rattle.tree.proofs.callers.Partitions.{not_both}
 use Rattle.keys.proofs.callers.SomeElement.{Any-map, Any-unmap}
@@ -24,8 +20,7 @@ module _ (v : ℤ) where
   -- where none is greater than a version that isn't above it, none is above it
   pub not_above : (w : ℤ) (items : List Item) → All (Bounds w) items → w ≤ℤ v → IsAbove items → ⊥
   not_above w items bound le a =
-      let most = rw a.3 at (bound a.0 a.1 a.2) in
-      let lt : v <ℤ a.1.version = a.4 in omega (arith, ints, le, most, lt)
+      let lt : v <ℤ a.1.version = a.4 in omega (arith, ints, le, rw a.3 at (bound a.0 a.1 a.2), lt)
 
   -- what the code answers of entries, where these are the items
   pub leaf_above : (b : Bool) (whole : List Item) (es : List Entry) → whole ≡ map item_of es

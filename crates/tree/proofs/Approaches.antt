@@ -1,13 +1,6 @@
 -- Where the way of a question leads.
-use Rattle.std.proofs.Common.{rules, ℕ, Bool, false, List, Option, Some}
-use Rattle.std.specs.Prelude.{ℤ}
-use Rattle.arena.specs.Arena.{Arena}
-use Rattle.tree.specs.declared.node.Node.{Node}
-use Rattle.tree.specs.declared.approach.Approach.{Approach}
-use Rattle.tree.specs.declared.approach.Approach.TheVariants.{Leaf, Clear, Open}
-use Rattle.tree.specs.Heads.{KeyBytes}
-use Rattle.tree.specs.Question.{IsApproach, IsLeading, IsTold}
-use Rattle.tree.specs.Subtree.{items_in}
+use Rattle.std.proofs.Common.{rules, ℕ, Bool, false, List, Option, Some, ℤ}
+use Rattle.tree.proofs.Words.{Arena, Node, Approach, Leaf, Clear, Open, KeyBytes, IsApproach, IsLeading, IsTold, items_in}
 
 module _ {N : ℕ} (nodes : Arena (Node N)) (bytes : KeyBytes) (p q : ℕ → Bool) (target : List ℕ) (v : ℤ) where
   -- What answers for a part answers for the whole, where what is told of the part is told of the whole.

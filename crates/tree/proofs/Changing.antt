@@ -1,13 +1,10 @@
 -- Changes of the slots that are used, by how often each stands in the lists.
-use Rattle.std.proofs.Common.{◌≡◌, ◌≢◌, ◌⊎◌, inl, inr, ℕ, ◌+◌, ◌-◌, ◌≤◌, true, false, List, [], ◌∷◌, length, Option, Some, None, IsSome, is_some, unwrap_or, refl, sym, ap, ◌∙◌, arith}
-use Rattle.std.specs.Prelude.{IfSome}
+use Rattle.std.proofs.Common.{◌≡◌, ◌≢◌, ◌⊎◌, inl, inr, ℕ, ◌+◌, ◌-◌, ◌≤◌, true, false, List, [], ◌∷◌, length, Option, Some, None, IsSome, is_some, unwrap_or, refl, sym, ap, ◌∙◌, arith, IfSome, rules, Contains}
 use Rattle.std.specs.FinMap as map
 use Rattle.std.specs.Ordering.{nat_cmp, eq_by_cmp}
 use Rattle.std.specs.Cmp.{nat_cmp_total, eq_by_cmp_equiv}
 use Rattle.std.proofs.lemmas.Bool.Decides.{nat_tests, eqb_tells}
-use Rattle.arena.specs.Arena.{Arena, Record, IsLive, record_at, key_at, spare_of, with_header}
-use Rattle.tree.specs.declared.node.Node.{Node}
-use Rattle.tree.specs.Replace.{Changes, IsKeyless}
+use Rattle.tree.proofs.Words.{Arena, Record, IsLive, record_at, key_at, spare_of, with_header, Node, Changes, IsKeyless}
 use Rattle.tree.proofs.callers.Times.{times, once, once_same, once_cases, none_or_some, times_if_contains, contains_if_times, times_unless_contains, once_if_distinct, distinct_if_once}
 use Rattle.tree.proofs.Frames.{Agree}
 
@@ -44,46 +41,26 @@ module _ {N : ℕ} where
     pub keyless : IsKeyless new
 
   pub moves_if_changes : (a b : Arena (Node N)) (was now : List ℕ) → Changes a b was now → Moves a b was now
-  moves_if_changes a b was now h = record {
-    few = once_if_distinct now h.distinct;
-    from = λ s some none. elim (h.slots s (contains_if_times s now some)) [
-      | inl used ↦ absurd (omega (arith, times_if_contains s was used))
-      | inr free ↦ free
-    ];
-    others = λ s none. h.others s (λ has. absurd (omega (arith, times_if_contains s was has)));
-    live = h.live;
-    spare = h.spare;
-    keyless = h.keyless;
-  }
+  moves_if_changes a b was now h =
+      let from : (s : ℕ) → 1 ≤ times s now → times s was ≡ 0 → record_at a s ≡ None =
+      λ s some none. grind (arith, h.slots s (contains_if_times s now some), times_if_contains s was) in
+      let others = λ (s : ℕ) (none : times s was ≡ 0). h.others s (λ has. absurd (omega (arith, times_if_contains s was has))) in
+      search (rules, once_if_distinct now h.distinct, from, others)
 
   pub changes_if_moves : (a b : Arena (Node N)) (was now : List ℕ) → Moves a b was now → Changes a b was now
-  changes_if_moves a b was now h = record {
-    distinct = distinct_if_once now h.few;
-    slots = λ s has. elim (none_or_some (times s was)) [
-      | inl none ↦ inr (h.from s (times_if_contains s now has) none)
-      | inr used ↦ inl (contains_if_times s was used)
-    ];
-    others = λ s without. h.others s (times_unless_contains s was without);
-    live = h.live;
-    spare = h.spare;
-    keyless = h.keyless;
-  }
+  changes_if_moves a b was now h =
+      let slots : (s : ℕ) → Contains now s → Contains was s ⊎ (record_at a s ≡ None) =
+      λ s has. grind (arith, none_or_some (times s was), h.from s (times_if_contains s now has), contains_if_times s was) in
+      let others = λ (s : ℕ) (without : ¬ Contains was s). h.others s (times_unless_contains s was without) in
+      search (rules, distinct_if_once now h.few, slots, others)
 
   pub moves_trans : (a b c : Arena (Node N)) (xs ys zs : List ℕ) → Moves a b xs ys → Moves b c ys zs
       → Moves a c xs zs
   moves_trans a b c xs ys zs h k = record {
     few = k.few;
-    from = λ s some none. elim (none_or_some (times s ys)) [
-      | inl apart ↦ elim (none_or_live (record_at a s)) [
-        | inl dead ↦ dead
-        | inr live ↦ sym (h.others s none live) ∙ k.from s some apart
-      ]
-      | inr used ↦ h.from s used none
-    ];
-    others = λ s none live. elim (none_or_some (times s ys)) [
-      | inl apart ↦ k.others s apart (ap is_some (h.others s none live) ∙ live) ∙ h.others s none live
-      | inr used ↦ absurd (not_both (record_at a s) (h.from s used none) live)
-    ];
+    from = λ s some none.
+        grind (arith, none_or_some (times s ys), none_or_live (record_at a s), h.others s none, k.from s some, h.from s);
+    others = λ s none live. grind (arith, none_or_some (times s ys), h.others s none live, k.others s, h.from s);
     live = omega (arith, h.live, k.live);
     spare = omega (arith, h.spare, k.spare);
     keyless = k.keyless;
@@ -106,13 +83,8 @@ module _ {N : ℕ} where
       → length was ≡ length xs + length zs → length now ≡ length ys + length zs
       → ((s : ℕ) → times s was ≤ 1) → ((s : ℕ) → 1 ≤ times s zs → IsLive a s) → Moves a b was now
   moves_beside a b xs ys zs was now h before after len_was len_now few live = record {
-    few = λ s. elim (none_or_some (times s zs)) [
-      | inl none ↦ omega (arith, h.few s, after s)
-      | inr some ↦ elim (none_or_some (times s ys)) [
-        | inl apart ↦ omega (arith, few s, before s, after s)
-        | inr used ↦ absurd (not_both (record_at a s) (h.from s used (omega (arith, few s, before s))) (live s some))
-      ]
-    ];
+    few = λ s.
+        grind (arith, none_or_some (times s zs), none_or_some (times s ys), h.few s, few s, before s, after s, h.from s, live s);
     from = λ s some none. h.from s (omega (arith, before s, after s)) (omega (arith, before s));
     others = λ s none. h.others s (omega (arith, before s));
     live = omega (arith, h.live);
@@ -168,11 +140,8 @@ module _ {N : ℕ} where
       rw (placed, map.len-insert nat_cmp_total a.records slot r, free) refl in
       record {
         few = λ s. omega (arith, once_few s slot);
-        from = λ s some none. elim (once_cases s slot) [
-          | inl same ↦ rw (← same.0) free
-          | inr other ↦ absurd (omega (arith, other.1))
-        ];
-        others = λ s none alive. others s (λ same. not_both (record_at a s) (rw same free) alive);
+        from = λ s some none. grind (arith, once_cases s slot);
+        others = λ s none alive. others s (λ same. absurd (cc (ap is_some free)));
         live = omega arith;
         spare = omega arith;
         keyless = keyless_but a b slot keyless others (rw here refl);
@@ -187,12 +156,8 @@ module _ {N : ℕ} where
       rw (released, map.get-remove nat_cmp_total a.records slot slot, same_number slot slot refl) refl in
       let count : map.len b.records ≡ map.len a.records - 1 =
       rw (released, map.len-remove nat_cmp_total a.records slot, live) refl in
-      let some : 1 ≤ map.len a.records = elim (none_or_some (map.len a.records)) [
-        | inl none ↦
-            let empty : record_at a slot ≡ None = rw (map.empty_of_len a.records none) (map.get-empty nat_cmp slot) in
-            absurd (not_both (record_at a slot) empty live)
-        | inr some ↦ some
-      ] in
+      let some : 1 ≤ map.len a.records =
+      grind (arith, none_or_some (map.len a.records), map.empty_of_len a.records, map.get-empty {X = Record (Node N)} nat_cmp slot) in
       record {
         few = λ s. omega arith;
         from = λ s some none. absurd (omega arith);

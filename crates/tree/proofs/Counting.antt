@@ -4,13 +4,7 @@ use Rattle.std.proofs.lemmas.List.{length-map}
 use Rattle.std.proofs.Math.Nat.{mul-le-mul_left, pow-le-pow_right, two-pow-succ}
 use Rattle.std.proofs.lemmas.Bool.{cases_lt}
 use Rattle.std.proofs.lemmas.List.Elements.{All-head, All-tail}
-use Rattle.arena.specs.Arena.{Arena, spare_of}
-use Rattle.tree.specs.declared.entry.Entry.{Entry}
-use Rattle.tree.specs.declared.node.Node.{Node}
-use Rattle.tree.specs.Item.{item_of}
-use Rattle.tree.specs.Replace.{AreChildren, items_of, slots_of}
-use Rattle.tree.specs.Subtree.{entries_at, items_in, slots_in, IsSubtree}
-use Rattle.tree.specs.Tree.{IsTree, least_of}
+use Rattle.tree.proofs.Words.{Arena, spare_of, Entry, Node, item_of, AreChildren, items_of, slots_of, entries_at, items_in, slots_in, IsSubtree, IsTree, least_of}
 use Rattle.tree.proofs.Frames.{IsRight}
 use Rattle.tree.proofs.LeafChange.{root_some}
 
@@ -33,8 +27,7 @@ module _ {N : ℕ} (nodes : Arena (Node N)) (least : ℕ) where
       → k * length (slots_in nodes height slot) + length (entries_at nodes slot) ≤ length (items_in nodes height slot) + k
   few_nodes k one_less zero slot s = omega (arith, length-map (entries_at nodes slot) item_of)
   few_nodes k one_less (suc height) slot s =
-      let each = fill_each k 1 height (λ t h filled. omega (arith, few_nodes k one_less height t h)) _ s.2 in
-      omega (arith, each)
+      omega (arith, fill_each k 1 height (λ t h filled. omega (arith, few_nodes k one_less height t h)) _ s.2)
 
   -- Each level has twice as many items.
   many_items : 2 ≤ least → (height slot : ℕ) → IsSubtree nodes least height slot → 2 ≤ length (entries_at nodes slot)

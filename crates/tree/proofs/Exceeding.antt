@@ -1,14 +1,9 @@
 -- Whether a version is above another one from the last item before a bound to another bound: of that item, or of those behind it.
-use Rattle.std.proofs.Common.{◌≡◌, ℕ, ◌-◌, Bool, true, List, [], ◌∷◌, ◌++◌, Some, length, IsTrue, ◌↔◌, int_lt, inl, inr, arith, length-append}
-use Rattle.std.specs.Prelude.{ℤ, ◌<ℤ◌}
+use Rattle.std.proofs.Common.{◌≡◌, ℕ, ◌-◌, Bool, true, List, [], ◌∷◌, ◌++◌, Some, length, IsTrue, ◌↔◌, int_lt, inl, inr, arith, length-append, ℤ, ◌<ℤ◌, w64, SFits, to_z, of_z}
 use Rattle.std.proofs.Math.Seq.{drop-append_seam}
 use Rattle.std.proofs.lemmas.Int.{ints, to_z-of_z}
-use mir.Syntax.{w64}
-use mir.Val.{SFits, to_z, of_z}
 use Rattle.keys.proofs.callers.SomeElement.{Any-weaker, Any-first, Any-later, Any-cases}
-use Rattle.tree.specs.Item.{Item, IsMost}
-use Rattle.tree.specs.Path.{IsPartitioned, between, from_last, items_below}
-use Rattle.tree.specs.Tree.{IsLast}
+use Rattle.tree.proofs.Words.{Item, IsMost, IsPartitioned, between, from_last, items_below, IsLast}
 use Rattle.tree.proofs.Above.{IsAbove}
 use Rattle.tree.proofs.FromLast.{last_and_between}
 

@@ -1,12 +1,8 @@
 -- Entries of which some in the middle are replaced, and the node that has them.
-use Rattle.std.proofs.Common.{◌≡◌, inl, inr, ℕ, suc, ◌+◌, ◌≤◌, List, ◌∷◌, ◌++◌, length, length-append, ap, ◌∙◌, arith}
+use Rattle.std.proofs.Common.{◌≡◌, ℕ, suc, ◌+◌, ◌≤◌, List, ◌∷◌, ◌++◌, length, length-append, ap, ◌∙◌, arith}
 use Rattle.std.proofs.lemmas.List.Concat.{flat_map-append}
 use Rattle.std.proofs.lemmas.List.Elements.{All-append}
-use Rattle.arena.specs.Arena.{Arena, IsLive}
-use Rattle.tree.specs.declared.entry.Entry.{Entry}
-use Rattle.tree.specs.declared.node.Node.{Node}
-use Rattle.tree.specs.Subtree.{entries_at, items_in, slots_in, IsSubtree}
-use Rattle.tree.specs.Replace.{items_of, slots_of, AreChildren}
+use Rattle.tree.proofs.Words.{Arena, IsLive, Entry, Node, entries_at, items_in, slots_in, IsSubtree, items_of, slots_of, AreChildren}
 use Rattle.tree.proofs.callers.Times.{times, none_or_some, times-append}
 use Rattle.tree.proofs.Frames.{Agree, IsRight, items_of_same, slots_of_same, children_same}
 use Rattle.tree.proofs.Changing.{Moves, moves_beside, moves_agree}
@@ -58,26 +54,20 @@ module _ {N : ℕ} where
           let live_behind = live_children a least height behind right_behind in
           let agree_before = moves_agree a b ys ws xs moves live_before (λ s. omega (arith, apart s)) in
           let agree_behind = moves_agree a b ys ws zs moves live_behind (λ s. omega (arith, apart s)) in
-          let same_before = slots_of_same a b height before agree_before in
-          let same_behind = slots_of_same a b height behind agree_behind in
-          let items_before = items_of_same a b height before agree_before in
           let items_behind = items_of_same a b height behind agree_behind in
           let now : slots_of b height (before ++ (new ++ behind)) ≡ xs ++ (ws ++ zs) =
-          simp (slots_of-append, same_before, same_behind) in
+          simp (slots_of-append, slots_of_same a b height before agree_before, slots_of_same a b height behind agree_behind) in
           record {
             front = children_same a b height before agree_before least right_before;
             back = children_same a b height behind agree_behind least right_behind;
-            items = simp (items_of-append, items_before, items_behind);
+            items = simp (items_of-append, items_of_same a b height before agree_before, items_behind);
             moves = moves_beside a b ys ws (xs ++ zs) _ _ moves
                 (λ s. rw was (simp times-append (omega arith)))
                 (λ s. rw now (simp times-append (omega arith)))
                 (rw was (simp length-append (omega arith)))
                 (rw now (simp length-append (omega arith)))
                 few
-                (λ s some. elim (none_or_some (times s xs)) [
-                  | inl none ↦ live_behind s (omega (arith, times-append s xs zs))
-                  | inr here ↦ live_before s here
-                ]);
+                (λ s some. grind (arith, none_or_some (times s xs), live_behind s, live_before s, times-append s xs zs));
           }
 
       pub replaced : AreChildren b least height new → Replaced

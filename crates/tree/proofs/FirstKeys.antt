@@ -1,17 +1,9 @@
 -- The first key of a child's entries is that of its entry.
-use Rattle.std.proofs.Common.{◌≡◌, ℕ, zero, suc, ◌-◌, ◌≤◌, Bool, List, [], ◌∷◌, Some, length, get_or, slice_get, flat_map, All, refl, sym, ◌∙◌, ap, arith}
-use Rattle.std.specs.Prelude.{◌≤ℤ◌, Option}
+use Rattle.std.proofs.Common.{◌≡◌, ℕ, zero, suc, ◌-◌, ◌≤◌, Bool, List, [], ◌∷◌, Some, length, get_or, slice_get, flat_map, All, refl, sym, ◌∙◌, ap, arith, ◌≤ℤ◌, Option}
 use Rattle.std.proofs.lemmas.Int.{ints}
 use Rattle.std.proofs.lemmas.List.Concat.{flat_map_single}
 use Rattle.std.proofs.lemmas.List.Elements.{All-cons, All-nil, All-head}
-use Rattle.arena.specs.Arena.{Arena, header_at}
-use Rattle.tree.specs.declared.entry.Entry.{Entry}
-use Rattle.tree.specs.declared.node.Node.{Node}
-use Rattle.tree.specs.Heads.{KeyBytes, IsPrefixLen, IsPrefixLenAt}
-use Rattle.tree.specs.Item.{Item, Tells, item_of}
-use Rattle.tree.specs.Node.{entries_of}
-use Rattle.tree.specs.Path.{index_in}
-use Rattle.tree.specs.Subtree.{entries_at, items_in, IsChild, IsSubtree}
+use Rattle.tree.proofs.Words.{Arena, header_at, Entry, Node, KeyBytes, IsPrefixLen, IsPrefixLenAt, Item, Tells, item_of, entries_of, index_in, entries_at, items_in, IsChild, IsSubtree}
 use Rattle.tree.proofs.Found.{IsFound, entries_read}
 use Rattle.keys.proofs.callers.SomeElement.{Any-first}
 

@@ -2,13 +2,7 @@
 use Rattle.std.proofs.Common.{◌≡◌, ℕ, suc, ◌-◌, ◌<◌, Bool, List, [], ◌∷◌, length, Some, option_map, unwrap_or, map, slice_get, slice_index_or, sym, ◌∙◌, ap, subst, inl, inr, arith}
 use Rattle.std.proofs.lemmas.Option.{get_or_from_slice_get}
 use Rattle.std.proofs.lemmas.List.{get_or-map, length-map}
-use Rattle.arena.specs.Arena.{Arena, header_at}
-use Rattle.tree.specs.declared.entry.Entry.{Entry}
-use Rattle.tree.specs.declared.node.Node.{Node}
-use Rattle.tree.specs.Item.{Item, item_of}
-use Rattle.tree.specs.Node.{entries_of}
-use Rattle.tree.specs.Path.{IsPartitioned, index_in, leaf_in}
-use Rattle.tree.specs.Subtree.{entries_at, items_in, IsSubtree}
+use Rattle.tree.proofs.Words.{Arena, header_at, Entry, Node, Item, item_of, entries_of, IsPartitioned, index_in, leaf_in, entries_at, items_in, IsSubtree}
 use Rattle.tree.proofs.callers.Partitions.{Falls, Falls-below_from, IsPartitioned-from_falls}
 use Rattle.tree.proofs.Ways.{IsWay, way}
 

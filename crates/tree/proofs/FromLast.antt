@@ -1,14 +1,8 @@
 -- The items before a bound, of those before another bound the last alone, in parts.
-use Rattle.std.proofs.Common.{◌≡◌, ℕ, ◌+◌, ◌-◌, ◌≤◌, Bool, true, false, not, List, [], ◌∷◌, ◌++◌, length, drop, filter, map, refl, sym, ◌∙◌, ap, inl, inr, arith}
-use Rattle.std.specs.Prelude.{ℤ, ◌≤ℤ◌, slice_range}
+use Rattle.std.proofs.Common.{◌≡◌, ℕ, ◌+◌, ◌-◌, ◌≤◌, Bool, true, false, not, List, [], ◌∷◌, ◌++◌, length, drop, filter, map, refl, sym, ◌∙◌, ap, inl, inr, arith, ℤ, ◌≤ℤ◌, slice_range}
 use Rattle.std.proofs.lemmas.List.{drop-append-le, drop-take, drop-map, take-map, length-map, take_at}
 use Rattle.std.proofs.lemmas.List.Elements.{All-cons, All-drop, All-filter}
-use Rattle.arena.specs.Arena.{Arena}
-use Rattle.tree.specs.declared.entry.Entry.{Entry}
-use Rattle.tree.specs.declared.node.Node.{Node}
-use Rattle.tree.specs.Item.{Item, Tells, item_of}
-use Rattle.tree.specs.Path.{IsPartitioned}
-use Rattle.tree.specs.Subtree.{items_in}
+use Rattle.tree.proofs.Words.{Arena, Entry, Node, Item, Tells, item_of, IsPartitioned, items_in}
 use Rattle.tree.proofs.Above.{IsAbove, not_above}
 use Rattle.tree.proofs.callers.Partitions.{Falls, Falls-below_from, none_pass}
 use Rattle.tree.proofs.GreatestParts.{Bounds}

@@ -1,10 +1,9 @@
 -- The greatest version of lists in parts.
-use Rattle.std.proofs.Common.{rules, ◌≡◌, List, [], ◌∷◌, Option, Some, None, MatchOption, map, flat_map, All, Any, ap, inl, inr, arith}
-use Rattle.std.specs.Prelude.{ℤ, ◌≤ℤ◌}
+use Rattle.std.proofs.Common.{rules, ◌≡◌, List, [], ◌∷◌, Option, Some, None, MatchOption, map, flat_map, All, Any, ap, inl, inr, arith, ℤ, ◌≤ℤ◌}
+use Rattle.tree.proofs.callers.Partitions.{All-joined}
 use Rattle.std.proofs.lemmas.Int.{ints}
-use Rattle.std.proofs.lemmas.List.Elements.{All-nil, All-head, All-tail, All-append, All-weaker, All-map}
-use Rattle.tree.specs.declared.entry.Entry.{Entry}
-use Rattle.tree.specs.Item.{Item, Tells, IsGreatest, item_of, version_of}
+use Rattle.std.proofs.lemmas.List.Elements.{All-head, All-tail, All-weaker, All-map}
+use Rattle.tree.proofs.Words.{Entry, Item, Tells, IsGreatest, item_of, version_of}
 use Rattle.keys.proofs.callers.SomeElement.{Any-none, Any-cases, Any-left, Any-right, Any-map}
 
 -- this is the greatest version of them, or there are none of them
@@ -34,11 +33,8 @@ module _ (below : Entry → List Item) where
   Low v e = version_of e ≤ℤ v
 
   children_bound : (v : ℤ) (es : List Entry) → All Told es → All (Low v) es → All (Bounds v) (flat_map below es)
-  children_bound v [] t a = All-nil (Bounds v)
-  children_bound v (e ∷ es) t a =
-      All-append (Bounds v) (below e) (flat_map below es)
-      (higher e.version v (below e) (All-head (Low v) e es a) (All-head Told e es t).greatest.bound)
-      (children_bound v es (All-tail Told e es t) (All-tail (Low v) e es a))
+  children_bound v es t a =
+      All-joined (Bounds v) below es (λ i d inside. higher _ v _ (a i d inside) (t i d inside).greatest.bound)
 
   children_reached : (v : ℤ) (es : List Entry) → All Told es → Any (λ e. version_of e ≡ v) es
       → Any (Reaches v) (flat_map below es)

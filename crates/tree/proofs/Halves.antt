@@ -1,16 +1,10 @@
 -- The items from one bound to another below a node that is no leaf: those of the child that the first bound is in, those of the
 -- children between, and those of the child that the second bound is in.
-use Rattle.std.proofs.Common.{◌≡◌, ℕ, ◌+◌, ◌-◌, ◌<◌, ◌≤◌, Bool, true, false, List, ◌++◌, length, get_or, flat_map, All, arith}
-use Rattle.std.specs.Prelude.{slice_range}
+use Rattle.std.proofs.Common.{◌≡◌, ℕ, ◌+◌, ◌-◌, ◌<◌, ◌≤◌, Bool, true, false, List, ◌++◌, length, get_or, flat_map, All, arith, slice_range}
 use Rattle.std.proofs.lemmas.List.Elements.{All-take, All-drop}
-use Rattle.arena.specs.Arena.{Arena}
-use Rattle.tree.specs.declared.entry.Entry.{Entry}
-use Rattle.tree.specs.declared.node.Node.{Node}
-use Rattle.tree.specs.Item.{Item, Tells}
-use Rattle.tree.specs.Path.{IsPartitioned}
-use Rattle.tree.specs.Subtree.{IsSubtree, items_in}
+use Rattle.tree.proofs.Words.{Arena, Entry, Node, Item, Tells, IsPartitioned, IsChild, IsSubtree, items_in}
 use Rattle.tree.proofs.Spans.{span}
-use Rattle.tree.proofs.Looks.{IsLook, look_apart, look_one, look_two, look_tell, child_subtree, child_tells, child_from, child_to, first_inside, last_inside}
+use Rattle.tree.proofs.Looks.{IsLook, look_apart, look_one, look_two, look_tell, child_is, child_from, child_to, first_inside, last_inside}
 
 -- a look at such a node, with the entries of the two children
 pub record AreHalves {N : ℕ} (nodes : Arena (Node N)) (least height slot : ℕ) (f t : ℕ → Bool) : Type 0 where
@@ -54,29 +48,23 @@ module _ {N : ℕ} {nodes : Arena (Node N)} {least height slot : ℕ} {f t : ℕ
   last_within : h.last < length h.es
   last_within = omega (arith, last_inside _ _ _ _ _ _ _ _ _ h.look h.some, h.last_is)
 
-  pub left_tells : Tells h.left left_items
-  left_tells = child_tells _ _ _ _ _ _ _ _ _ h.look h.some h.first h.left first_within h.left_at
+  pub left_is : IsChild nodes least (height - 1) (IsSubtree nodes least (height - 1)) h.left
+  left_is = child_is _ _ _ _ _ _ _ _ _ h.look h.some h.first h.left first_within h.left_at
 
-  pub right_tells : Tells h.right right_items
-  right_tells = child_tells _ _ _ _ _ _ _ _ _ h.look h.some h.last h.right last_within h.right_at
+  pub right_is : IsChild nodes least (height - 1) (IsSubtree nodes least (height - 1)) h.right
+  right_is = child_is _ _ _ _ _ _ _ _ _ h.look h.some h.last h.right last_within h.right_at
 
   pub middle_tells : All (λ e. Tells e (items_in nodes (height - 1) e.child)) middle
   middle_tells =
       let p = λ (e : Entry). Tells e (items_in nodes (height - 1) e.child) in
       All-take p _ _ (All-drop p (h.first + 1) h.es (look_tell _ _ _ _ _ _ _ _ _ h.look h.some))
 
-  -- what the search in the left child asks, and that in the right one
-  pub left_subtree : IsSubtree nodes least (height - 1) h.left.child
-  left_subtree = child_subtree _ _ _ _ _ _ _ _ _ h.look h.some h.first h.left first_within h.left_at
-
+  -- what the searches in the two children ask of their bounds
   pub left_from : IsPartitioned (λ x. f x.key) left_items
   left_from = child_from _ _ _ _ _ _ _ _ _ h.look h.some h.first h.left first_within h.left_at
 
   pub left_to : IsPartitioned (λ x. t x.key) left_items
   left_to = child_to _ _ _ _ _ _ _ _ _ h.look h.some h.first h.left first_within h.left_at
-
-  pub right_subtree : IsSubtree nodes least (height - 1) h.right.child
-  right_subtree = child_subtree _ _ _ _ _ _ _ _ _ h.look h.some h.last h.right last_within h.right_at
 
   pub right_to : IsPartitioned (λ x. t x.key) right_items
   right_to = child_to _ _ _ _ _ _ _ _ _ h.look h.some h.last h.right last_within h.right_at

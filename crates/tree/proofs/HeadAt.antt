@@ -1,5 +1,5 @@
 -- What a node's heads tells of the key at an index.
-use Rattle.std.proofs.Common.{◌≡◌, ◌≢◌, ◌⊎◌, ℕ, ◌+◌, ◌-◌, ◌<◌, ◌≤◌, Bool, true, nat_lt, List, [], ◌∷◌, length, filter, get_or, take, slice_get, slice_index, Option, None, Some, refl, sym, ap, ◌∙◌, inl, inr, arith, length-take, get_or-take, lt-ltb, ltb-true}
+use Rattle.std.proofs.Common.{◌≡◌, ◌≢◌, ◌⊎◌, ℕ, ◌+◌, ◌-◌, ◌<◌, ◌≤◌, Bool, true, nat_lt, List, [], length, filter, get_or, take, slice_get, slice_index, Option, None, Some, refl, sym, ap, ◌∙◌, inl, inr, arith, length-take, get_or-take, lt-ltb, ltb-true}
 use Rattle.std.specs.Int.{w32, to_be_bytes}
 use Rattle.std.specs.List.{Contains}
 use Rattle.std.proofs.lemmas.List.Elements.{All-contains}
@@ -8,22 +8,12 @@ use Rattle.std.proofs.lemmas.Bool.Decides.{nat_tests}
 use Rattle.std.proofs.lemmas.List.{get_or_default, get_or-map}
 use Rattle.std.proofs.lemmas.Option.{get_or_from_slice_get, slice_get_within, slice_get-get_or, slice_get-map}
 use Rattle.keys.specs.Key.{IsBytes, IsBefore}
-use Rattle.tree.specs.declared.entry.Entry.{Entry}
-use Rattle.tree.specs.declared.node.Node.{Node}
-use Rattle.tree.specs.declared.node.TheConstants.{PADDING}
-use Rattle.tree.specs.Node.{entries_of, key_heads_of, keys_of}
-use Rattle.tree.specs.Heads.{KeyBytes, Begins, head_behind, head_at, KeyHeads, AreHeads, IsBelowInOrder, IsCommonPrefixLen, IsPrefixLenAt, HasPrefix, IsTargetHead}
-use Rattle.tree.specs.Path.{IsPartitioned}
-use Rattle.tree.specs.Finding.{CanStep, IsStep}
+pub use Rattle.keys.proofs.callers.Lists.{some_at as entry_at}
+use Rattle.tree.proofs.Words.{Entry, Node, PADDING, entries_of, key_heads_of, keys_of, KeyBytes, Begins, head_behind, head_at, KeyHeads, AreHeads, IsBelowInOrder, IsCommonPrefixLen, IsPrefixLenAt, HasPrefix, IsTargetHead, IsPartitioned, CanStep, IsStep}
 use Rattle.tree.proofs.callers.Partitions.{length-items_below, none_fail, not_both}
 use Rattle.tree.proofs.HeadChanges.{heads_count, prefix_begins}
 use Rattle.tree.proofs.HeadCounts.{passing_before, passing_inside}
 use Rattle.tree.proofs.HeadOrder.{empty_head, empty_before, empty_before_too, tells_empty, told_by_heads, too, common_by_heads}
-
--- an entry, where there are so many
-pub entry_at : (entries : List Entry) (index : ℕ) → index < length entries → (e : Entry) × (slice_get entries index ≡ Some e)
-entry_at [] index inside = absurd (omega arith)
-entry_at (e ∷ es) index inside = (get_or (e ∷ es) index e, slice_get-get_or (e ∷ es) index e inside)
 
 -- the key of the entry there
 pub key_there : (entries : List Entry) (index : ℕ) (e : Entry) → slice_get entries index ≡ Some e

@@ -1,13 +1,10 @@
 -- What nodes know of the bytes of their keys, through changes of these.
-use Rattle.std.proofs.Common.{◌≡◌, ◌≢◌, ◌⊎◌, inl, inr, ℕ, ◌+◌, ◌-◌, ◌<◌, ◌≤◌, min, List, [], ◌∷◌, ◌++◌, Some, length, get_or, take, drop, map, All, refl, sym, ◌∙◌, arith}
-use Rattle.std.specs.Prelude.{slice_get, slice_set}
+use Rattle.std.proofs.Common.{◌≡◌, ◌≢◌, ◌⊎◌, inl, inr, ℕ, ◌+◌, ◌-◌, ◌<◌, ◌≤◌, min, List, [], ◌∷◌, ◌++◌, Some, length, get_or, take, drop, map, All, refl, sym, ◌∙◌, arith, slice_get, slice_set}
 use Rattle.std.specs.List.{AllZip, Contains}
 use Rattle.std.proofs.lemmas.List.{get_or-map, get_or-take, length-map, length-take, length-take-le, drop_at, map-append, map-set, map_more, set-get_or, take_all, take_at, take-map, drop-map, take_more_set}
 use Rattle.std.proofs.lemmas.Option.{slice_get_within, get_or_from_slice_get}
 use Rattle.std.proofs.lemmas.List.Elements.{All-nil, All-cons, All-append, All-contains, All-drop, All-more, All-set, All-take}
-use Rattle.tree.specs.declared.entry.Entry.{Entry}
-use Rattle.tree.specs.Heads.{KeyBytes, IsKnown, Begins, KeyHeads, AreHeads, HasPrefix, IsHeadBeside, IsTargetHead, head_behind, head_at}
-use Rattle.tree.specs.Node.{keys_of}
+use Rattle.tree.proofs.Words.{Entry, KeyBytes, IsKnown, Begins, KeyHeads, AreHeads, HasPrefix, IsHeadBeside, IsTargetHead, head_behind, head_at, keys_of}
 use Rattle.tree.proofs.Headed.{all_known, begins_if_long}
 use Rattle.tree.proofs.HeadOrder.{take_fewer}
 use Rattle.tree.proofs.callers.Partitions.{All-front, All-back}
@@ -130,19 +127,13 @@ module _ (bytes : KeyBytes) where
       → All (Begins bytes (take count text)) keys → All (Begins bytes (take fewer text)) keys
   begin_fewer fewer count text keys less long begins = λ i d inside.
       let b = begins i d inside in
-      let size = length-take-le count text long in
       let short = length-take-le fewer text (omega (arith, less, long)) in
       record {
         text = b.text;
         known = b.known;
         are_bytes = b.are_bytes;
-        begins = grind (arith, less, size, short, b.begins, take_fewer fewer count b.text text);
+        begins = grind (arith, less, length-take-le count text long, short, b.begins, take_fewer fewer count b.text text);
       }
-
-  -- Where no bytes are asked for, known keys begin with them.
-  pub begin_none : (keys : List ℕ) → All (IsKnown bytes) keys
-      → (beginning : List ℕ) × (length beginning ≡ 0) × All (Begins bytes beginning) keys
-  begin_none keys known = ([], refl, λ i d inside. begins_with [] (get_or keys i d) (known i d inside) (inr refl))
 
   -- The head of a target is that of a key with its bytes.
   pub target_beside : (key_heads : KeyHeads) (key head : ℕ) → IsKnown bytes key

@@ -12,10 +12,9 @@ module _ {X : Type 0} (p : X → Bool) where
   among_first : (xs : List X) (n : ℕ) → Falls p xs → length (filter p (take n xs)) ≡ min n (length (filter p xs))
   among_first xs zero falls = omega arith
   among_first [] (suc n) falls = omega arith
-  among_first (x ∷ xs) (suc n) falls = elim falls [
-    | inl h ↦ rw h.0 (omega (arith, among_first xs n h.1))
-    | inr h ↦ rw (h.0, (none_pass p (take n xs) (All-take (λ y. p y ≡ false) n xs h.1)).0, (none_pass p xs h.1).0) (omega arith)
-  ]
+  among_first (x ∷ xs) (suc n) (inl h) = rw h.0 (omega (arith, among_first xs n h.1))
+  among_first (x ∷ xs) (suc n) (inr h) =
+      rw (h.0, (none_pass p (take n xs) (All-take (λ y. p y ≡ false) n xs h.1)).0, (none_pass p xs h.1).0) (omega arith)
 
   -- a list in which those that pass come first, and an element of it
   module _ (xs : List X) (i : ℕ) (x : X) (partitioned : IsPartitioned p xs) (there : slice_get xs i ≡ Some x) where

@@ -1,14 +1,10 @@
 -- What the nodes of a tree know, as a list and by their slots.
-use Rattle.std.proofs.Common.{◌≡◌, ℕ, List, [], ◌∷◌, map, option_map, refl, sym, subst, inl, inr}
-use Rattle.std.specs.Prelude.{IfSome}
+use Rattle.std.proofs.Common.{◌≡◌, ℕ, List, [], ◌∷◌, map, option_map, refl, sym, subst, inl, inr, IfSome}
 use Rattle.std.specs.FinMap as finite
 use Rattle.std.specs.FinMap.{find}
 use Rattle.std.specs.Ordering.{nat_cmp, eq_by_cmp}
-use Rattle.arena.specs.Arena.{Arena, Record}
+use Rattle.tree.proofs.Words.{Arena, Record, Node, KeyBytes, AreHeads, AllAreHeads, key_heads_of, all_heads_of, heads_list}
 use Rattle.std.proofs.lemmas.Bool.{cases_Bool}
-use Rattle.tree.specs.declared.node.Node.{Node}
-use Rattle.tree.specs.Heads.{KeyBytes, AreHeads, AllAreHeads}
-use Rattle.tree.specs.Node.{key_heads_of, all_heads_of, heads_list}
 
 module _ {N : ℕ} where
   found : (s : ℕ) (es : List (ℕ × Record (Node N))) → find nat_cmp s (map (λ e. (e.0, key_heads_of e.1.header)) es)

@@ -1,14 +1,13 @@
 -- What the bytes with which a key and the target begin, and the heads of what stands behind, tell of the two.
-use Rattle.std.proofs.Common.{◌≡◌, ◌≢◌, ℕ, zero, suc, ◌+◌, ◌-◌, ◌/◌, ◌<◌, ◌≤◌, Bool, nat_lt, List, [], ◌∷◌, ◌++◌, length, get_or, take, drop, replicate, slice_index, refl, sym, ap, ◌∙◌, inl, inr, arith, length-take, get_or-take, take-add}
-use Rattle.std.specs.Int.{w32, to_be_bytes, from_be_bytes}
+use Rattle.std.proofs.Common.{◌≡◌, ◌≢◌, ℕ, zero, suc, ◌+◌, ◌-◌, ◌/◌, ◌%◌, ◌<◌, ◌≤◌, Bool, nat_lt, List, [], ◌∷◌, ◌++◌, length, get_or, take, drop, replicate, slice_index, refl, sym, ap, ◌∙◌, inl, inr, arith, length-take, get_or-take, take-add}
+use Rattle.std.specs.Int.{w32, w64, to_be_bytes, from_be_bytes}
 use Rattle.std.proofs.lemmas.Bool.{cases_lt}
 use Rattle.std.proofs.lemmas.Bool.Decides.{nat_tests}
-use Rattle.std.proofs.lemmas.List.{take-take, take-append-le, take_all, take_more_same, drop-take, length-drop, get_or_append_left, get_or_past}
-use Rattle.std.proofs.lemmas.List.Elements.{All-drop, All-take, All-append, All-replicate, All-get_or}
-use Rattle.std.proofs.lemmas.Nat.{be_bytes_4}
+use Rattle.std.proofs.lemmas.List.{take-take, take-append-le, take_all, take_more_same, drop-take, length-drop, get_or_append_left}
+use Rattle.std.proofs.lemmas.List.Elements.{All-drop}
 use Rattle.keys.specs.Key.{IsBytes, IsBefore}
 use Rattle.keys.specs.Head.{first_eight, head_of}
-use Rattle.keys.proofs.callers.KeyHeads.{head_less, length-first_eight, behind_common, behind_shorter, behind_differing}
+use Rattle.keys.proofs.callers.KeyHeads.{head_less, head_of-bytes, behind_common, behind_shorter, behind_differing}
 use Rattle.tree.specs.Heads.{head_behind, IsBelowInOrder, IsCommonPrefixLen}
 
 pub take_fewer : (m n : ℕ) (a b : List ℕ) → m ≤ n → take n a ≡ take n b → take m a ≡ take m b
@@ -64,39 +63,25 @@ module _ (shared n : ℕ) (first text target : List ℕ) (less : shared < n) (fi
         ),
       )
 
-first_eight-bytes : (a : List ℕ) → IsBytes a → (i : ℕ) → get_or (first_eight a) i 0 < 256
-first_eight-bytes a bytes i =
-    let all : IsBytes (first_eight a) =
-    All-take (λ byte. byte < 256) 8 (a ++ replicate 8 0) (All-append (λ byte. byte < 256) a (replicate 8 0) bytes
-    (All-replicate (λ byte. byte < 256) 8 0 (omega arith))) in
-    elim (cases_lt i (length (first_eight a))) [
-      | inl inside ↦ All-get_or (λ byte. byte < 256) (first_eight a) i 0 inside all
-      | inr past ↦ omega (arith, get_or_past (first_eight a) i 0 past)
-    ]
+-- The upper half of a number is written with its first four bytes.
+pub upper_half : (h : ℕ) → to_be_bytes w32 (h / 4294967296) ≡ take 4 (to_be_bytes w64 h)
+upper_half h =
+    let a : h / 4294967296 / 16777216 % 256 ≡ h / 72057594037927936 % 256 = omega arith in
+    let b : h / 4294967296 / 65536 % 256 ≡ h / 281474976710656 % 256 = omega arith in
+    let c : h / 4294967296 / 256 % 256 ≡ h / 1099511627776 % 256 = omega arith in
+    cc
 
 -- The upper half of a head is the number that the first four bytes make, with zeros for those that are missing.
 head_number : (a : List ℕ) → IsBytes a → head_of a / 4294967296 ≡ from_be_bytes w32 (take 4 (first_eight a))
 unfolding head_of
 head_number a bytes =
-    let b = first_eight-bytes a bytes in
+    let b = λ (i : ℕ). ap (λ (l : List ℕ). get_or l i 0) (head_of-bytes a bytes) in
     let same = λ (i : ℕ) (inside : i < 4). get_or-take 4 (first_eight a) i 0 inside in
     omega (arith, b 0, b 1, b 2, b 3, b 4, b 5, b 6, b 7, same 0 (omega arith), same 1 (omega arith), same 2 (omega arith), same 3 (omega arith))
 
 -- It is written with these bytes,
 head_four : (a : List ℕ) → IsBytes a → to_be_bytes w32 (head_of a / 4294967296) ≡ take 4 (first_eight a)
-head_four a bytes =
-    let b = first_eight-bytes a bytes in
-    be_bytes_4 (take 4 (first_eight a)) (head_of a / 4294967296)
-    (omega (arith, length-take 4 (first_eight a), length-first_eight a))
-    (λ i. elim (cases_lt i 4) [
-      | inl inside ↦ omega (arith, get_or-take 4 (first_eight a) i 0 inside, b i)
-      | inr past ↦ omega (
-        arith,
-        get_or_past (take 4 (first_eight a)) i 0
-            (omega (arith, past, length-take 4 (first_eight a))),
-      )
-    ])
-    (head_number a bytes)
+head_four a bytes = upper_half (head_of a) ∙ ap (take 4) (head_of-bytes a bytes)
 
 -- and is the same where these are.
 same_four : (a b : List ℕ) → IsBytes a → IsBytes b → take 4 (first_eight a) ≡ take 4 (first_eight b)

@@ -1,14 +1,9 @@
 -- What nodes know of the bytes of keys, while nodes are put, placed and released.
-use Rattle.std.proofs.Common.{rules, ◌≡◌, ◌≢◌, ◌⊎◌, inl, inr, ℕ, ◌≤◌, List, [], ◌∷◌, length, map, take, Option, Some, None, option_map, unwrap_or, refl, ap, arith, ◌∙◌}
-use Rattle.std.specs.Prelude.{IfSome}
-use Rattle.std.specs.List.{All}
+use Rattle.std.proofs.Common.{rules, ◌≡◌, ◌≢◌, ◌⊎◌, inl, inr, ℕ, ◌≤◌, List, [], ◌∷◌, length, map, take, Option, Some, None, option_map, unwrap_or, refl, arith, ◌∙◌, IfSome, All}
+use Rattle.std.proofs.lemmas.List.{nil_from_length}
 use Rattle.std.proofs.lemmas.Option.{IfSome_then}
 use Rattle.std.proofs.lemmas.List.Elements.{All-head, All-tail}
-use Rattle.arena.specs.Arena.{Arena, record_at, header_at}
-use Rattle.tree.specs.declared.node.Node.{Node}
-use Rattle.tree.specs.Heads.{KeyBytes, IsKnown, Begins, KeyHeads, AreHeads, AllAreHeads, head_at}
-use Rattle.tree.specs.Node.{entries_of, keys_of, key_heads_of, all_heads_of}
-use Rattle.tree.specs.Subtree.{entries_at}
+use Rattle.tree.proofs.Words.{Arena, record_at, header_at, Node, KeyBytes, IsKnown, Begins, KeyHeads, AreHeads, AllAreHeads, head_at, entries_of, keys_of, key_heads_of, all_heads_of, entries_at}
 use Rattle.std.specs.FinMap as finite
 use Rattle.std.specs.Cmp.{nat_cmp_total}
 use Rattle.tree.proofs.Changing.{same_number}
@@ -17,9 +12,7 @@ use Rattle.tree.proofs.callers.Times.{once_cases}
 -- a text that isn't too short for it begins with these bytes
 pub begins_if_long : (beginning text : List ℕ) → (text ≡ []) ⊎ (take (length beginning) text ≡ beginning)
     → length beginning ≤ length text → take (length beginning) text ≡ beginning
-begins_if_long beginning text (inr same) long = same
-begins_if_long [] text (inl empty) long = refl
-begins_if_long (x ∷ xs) text (inl empty) long = absurd (omega (arith, ap length empty))
+begins_if_long beginning text begins long = grind (arith, nil_from_length beginning)
 
 -- each key of which a node knows is known
 pub all_known : (bytes : KeyBytes) (key_heads : KeyHeads) → AreHeads bytes key_heads → All (IsKnown bytes) key_heads.keys

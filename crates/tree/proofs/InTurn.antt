@@ -1,5 +1,7 @@
 -- Lists of which each element of one goes with the element of the other at the same place.
-use Rattle.std.proofs.Common.{◌≡◌, ℕ, zero, suc, map, ◌+◌, ◌<◌, ◌≤◌, List, [], ◌∷◌, ◌++◌, length, get_or, take, refl, arith}
+use Rattle.std.proofs.Common.{◌≡◌, ℕ, map, ◌+◌, ◌<◌, ◌≤◌, List, [], ◌∷◌, ◌++◌, length, get_or, take, refl}
+use Rattle.keys.proofs.callers.Lists.{AllZip-at as zip_at}
+use Rattle.std.proofs.lemmas.Option.{slice_get_read}
 use Rattle.std.specs.List.{AllZip}
 use Rattle.std.proofs.lemmas.List.{map-append, take_all, take_more}
 use Rattle.std.proofs.lemmas.Slice.Zip.{all_zipped_more}
@@ -13,10 +15,7 @@ map-turn f xs zs ys i n x inside is more pushed made =
 module _ {X Y : Type 0} (R : X → Y → Type 0) where
   pub AllZip-at : (xs : List X) (ys : List Y) (i : ℕ) (x : X) (y : Y) → i < length xs → x ≡ get_or xs i x → y ≡ get_or ys i y
       → AllZip R xs ys → R x y
-  AllZip-at [] ys i x y inside is at all = absurd (omega arith)
-  AllZip-at (first ∷ xs) [] i x y inside is at all = absurd all
-  AllZip-at (first ∷ xs) (other ∷ ys) zero x y inside is at all = rw (is, at) all.0
-  AllZip-at (first ∷ xs) (other ∷ ys) (suc i) x y inside is at all = AllZip-at xs ys i x y (omega arith) is at all.1
+  AllZip-at xs ys i x y inside is at all = rw at (zip_at R xs ys i x y (slice_get_read xs (length xs) i x refl inside is) all)
 
   -- one element more is gone through, where the lists are so long after it
   pub AllZip-turn : (xs : List X) (i n : ℕ) (ys zs : List Y) (x : X) (y : Y) → i < length xs → x ≡ get_or xs i x → n ≡ i + 1

@@ -1,21 +1,14 @@
 -- The key of the first item that isn't below the bound.
-use Rattle.std.proofs.Common.{◌≡◌, ℕ, ◌+◌, ◌-◌, Bool, true, false, not, List, [], ◌∷◌, ◌++◌, Option, Some, map, take, drop, filter, flat_map, All, refl, sym, ◌∙◌, ap, inl, inr}
+use Rattle.std.proofs.Common.{arith, ◌≡◌, ℕ, ◌+◌, ◌-◌, Bool, true, false, not, List, [], ◌∷◌, ◌++◌, Option, Some, map, take, drop, filter, flat_map, All, refl, sym, ◌∙◌, ap}
 use Rattle.std.proofs.lemmas.Bool.{cases_Bool}
 use Rattle.std.proofs.lemmas.List.Elements.{All-head, All-drop, filter-append}
-use Rattle.arena.specs.Arena.{Arena, header_at}
-use Rattle.tree.specs.declared.entry.Entry.{Entry}
-use Rattle.tree.specs.declared.node.Node.{Node}
-use Rattle.tree.specs.Item.{Item, Tells, item_of}
-use Rattle.tree.specs.Node.{entries_of}
-use Rattle.tree.specs.Path.{index_in, behind, behind_leaf, first_key}
-use Rattle.tree.specs.Subtree.{entries_at, items_in}
+use Rattle.tree.proofs.Words.{Arena, header_at, Entry, Node, Item, Tells, item_of, entries_of, index_in, behind, behind_leaf, first_key, entries_at, items_in}
 use Rattle.tree.proofs.callers.Partitions.{none_pass, none_fail}
 use Rattle.tree.proofs.Found.{IsFound, entries_read}
 
 pub filter-items : (p : Item → Bool) (es : List Entry) → filter p (map item_of es) ≡ map item_of (filter (λ e. p (item_of e)) es)
 filter-items p [] = refl
-filter-items p (e ∷ es) =
-    elim (cases_Bool (p (item_of e))) [ inl t ↦ rw (t, filter-items p es) refl | inr f ↦ rw f (filter-items p es) ]
+filter-items p (e ∷ es) = grind (arith, filter-items p es, cases_Bool (p (item_of e)))
 
 pub first_key-append : (key : Option ℕ) (xs ys : List Item) → first_key key (xs ++ ys) ≡ first_key (first_key key ys) xs
 first_key-append key [] ys = refl
@@ -81,5 +74,4 @@ module _ {N : ℕ} (nodes : Arena (Node N)) (least height slot : ℕ) (is_below 
   pub key_behind_child : first_key next (behind_leaf nodes (height - 1) child is_below)
       ≡ first_key key (behind_leaf nodes height slot is_below)
   key_behind_child =
-      let own = ap (λ m. behind_leaf nodes m slot is_below) f.lower in
-      rw (← own, f.is, f.way.child, first_key-append, key_of_next) refl
+      rw (← ap (λ m. behind_leaf nodes m slot is_below) f.lower, f.is, f.way.child, first_key-append, key_of_next) refl

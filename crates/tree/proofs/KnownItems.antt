@@ -1,21 +1,10 @@
 -- Each key of which a node knows is that of an item.
-use Rattle.std.proofs.Common.{◌≡◌, ◌≢◌, inl, inr, ℕ, zero, suc, ◌≤◌, List, [], ◌∷◌, length, get_or, map, Option, Some, None, IsSome, is_some, option_map, refl, sym, ap, arith}
-use mathlib.Core.List.{map-map}
-use Rattle.std.specs.Prelude.{IfSome}
-use Rattle.std.specs.List.{All, Contains}
+use Rattle.std.proofs.Common.{◌≡◌, ◌≢◌, inl, inr, ℕ, zero, suc, ◌≤◌, List, [], ◌∷◌, length, get_or, map, Option, Some, None, IsSome, is_some, option_map, refl, sym, ap, arith, IfSome, All, Contains, nat_cmp}
+use mathlib.Core.List.{map-map, map-append}
 use Rattle.std.specs.FinMap as finite
-use Rattle.std.specs.Ordering.{nat_cmp}
 use Rattle.std.specs.Cmp.{nat_cmp_total}
-use Rattle.std.proofs.lemmas.List.{map-append}
 use Rattle.std.proofs.lemmas.List.Elements.{All-contains, All-map, All-contains_itself, Contains-get_or, Contains-append_left, Contains-append_right}
-use Rattle.arena.specs.Arena.{Arena, Record, record_at}
-use Rattle.tree.specs.declared.entry.Entry.{Entry}
-use Rattle.tree.specs.declared.node.Node.{Node}
-use Rattle.tree.specs.Item.{Item}
-use Rattle.tree.specs.Node.{keys_of, key_heads_of, heads_list}
-use Rattle.tree.specs.Replace.{items_of, slots_of}
-use Rattle.tree.specs.Subtree.{entries_at, items_in, slots_in, IsSubtree}
-use Rattle.tree.specs.Tree.{KnowItems, IsRooted, least_of}
+use Rattle.tree.proofs.Words.{Arena, Record, record_at, Entry, Node, Item, keys_of, key_heads_of, heads_list, items_of, slots_of, entries_at, items_in, slots_in, IsSubtree, KnowItems, IsRooted, least_of}
 use Rattle.tree.proofs.Changing.{other_number}
 use Rattle.tree.proofs.Frames.{IsRight, live_in}
 use Rattle.tree.proofs.HeadList.{read_list}

@@ -1,21 +1,8 @@
--- What holds of all keys of entries, as that they are known.
-use Rattle.std.proofs.Common.{◌≡◌, ℕ, ◌<◌, List, length, get_or, option_map, ap, arith}
-use Rattle.std.specs.List.{All}
-use Rattle.std.proofs.lemmas.List.{get_or-map, length-map}
-use Rattle.arena.specs.Arena.{Arena, with_header}
-use Rattle.tree.specs.declared.node.Node.{Node}
-use Rattle.tree.specs.declared.entry.Entry.{Entry}
-use Rattle.tree.specs.Heads.{KeyBytes, AllAreHeads, AreHeads}
-use Rattle.tree.specs.Node.{keys_of, key_heads_of, all_heads_of}
+-- What nodes know of their keys, once a header is put.
+use Rattle.std.proofs.Common.{◌≡◌, ℕ, option_map, ap}
+use Rattle.tree.proofs.Words.{Arena, with_header, Node, KeyBytes, AllAreHeads, AreHeads, key_heads_of, all_heads_of}
 use Rattle.tree.proofs.Headed.{headed_put}
 use Rattle.tree.proofs.Placing.{put_record_is, put_others}
-
-module _ (P : ℕ → Type 0) where
-  -- the key of one of them
-  pub key_of_one : (es : List Entry) (i : ℕ) (d : Entry) → i < length es → All P (keys_of es) → P (get_or es i d).key
-  key_of_one es i d within h =
-      let key : Entry → ℕ = λ e. e.key in
-      rw (get_or-map key es i d d.key within) at (h i d.key (omega (arith, length-map es key)))
 
 module _ {N : ℕ} where
   -- A header is put whose knowledge is right.

@@ -1,19 +1,10 @@
 -- A leaf of which a run is swept of expired items that begins with the last item below the bound.
-use Rattle.std.proofs.Common.{◌≡◌, ℕ, ℤ, ◌+◌, ◌-◌, ◌<◌, ◌≤◌, Bool, List, Option, [], ◌∷◌, ◌++◌, pos, length, get_or, take, drop, filter, map}
-use Rattle.std.proofs.Common.{sym, ◌∙◌, ap, arith, refl, length-drop}
+use Rattle.std.proofs.Common.{◌≡◌, ℕ, ℤ, ◌+◌, ◌-◌, ◌<◌, ◌≤◌, Bool, List, Option, [], ◌∷◌, ◌++◌, pos, length, get_or, take, drop, filter, map, sym, ◌∙◌, ap, arith, length-drop}
 use Rattle.std.proofs.lemmas.List.{take_more, drop_more, map-append, length-map, length-take-le, take-append-drop, drop-drop}
-use Rattle.tree.specs.declared.entry.Entry.{Entry}
-use Rattle.tree.specs.declared.expiring.Removal.{Removal}
-use Rattle.tree.specs.Item.{Item, item_of, version_of}
-use Rattle.tree.specs.Path.{IsPartitioned, first_key}
-use Rattle.tree.specs.Expire.{RemovesExpired}
-use Rattle.tree.specs.Tree.{IsLast, unexpired, expired}
+use mathlib.Core.List.{map-map}
+use Rattle.tree.proofs.Words.{Entry, Removal, Item, item_of, version_of, IsPartitioned, first_key, RemovesExpired, IsLast, unexpired, expired}
 use Rattle.tree.proofs.Removing.{run, all_stay}
 use Rattle.tree.proofs.WrittenLeaf.{items_parted}
-
-versions : (es : List Entry) → map (λ (x : Item). x.version) (map item_of es) ≡ map version_of es
-versions [] = refl
-versions (e ∷ es) = ap (λ l. e.version ∷ l) (versions es)
 
 module _ (es : List Entry) (begin end : ℕ) (some : begin < end) (most : end ≤ length es) where
   -- the entries from the first of the run on
@@ -62,6 +53,6 @@ module _ (es : List Entry) (begin end : ℕ) (some : begin < end) (most : end �
         few = omega (arith, looked_at, few);
         now_is = now_is;
         run_is = run_is;
-        last = rw (versions (run es begin end)) last;
+        last = rw (map-map (λ (x : Item). x.version) item_of (run es begin end)) last;
         next_is = next_is;
       }

@@ -1,21 +1,14 @@
 -- What the leaf that a bound finds says of the items below the bound.
-use Rattle.std.proofs.Common.{◌≡◌, ℕ, zero, suc, ◌+◌, ◌-◌, ◌≤◌, inl, inr, Bool, true, false, List, [], ◌∷◌, ◌++◌, Option, Some, length, get_or, slice_get, take, drop, filter, flat_map, map, All, refl, sym, ◌∙◌, ap, arith}
-use Rattle.std.specs.Prelude.{MatchOption}
-use Rattle.std.proofs.lemmas.Bool.{cases_Bool}
+use Rattle.std.proofs.Common.{◌≡◌, ℕ, zero, suc, ◌+◌, ◌-◌, ◌≤◌, inl, inr, Bool, true, false, List, [], ◌∷◌, ◌++◌, Option, Some, length, get_or, slice_get, take, drop, filter, flat_map, map, All, refl, sym, ◌∙◌, ap, arith, MatchOption}
 use Rattle.std.proofs.lemmas.Option.{slice_get-get_or}
 use Rattle.std.proofs.lemmas.List.{drop_all, drop_more, take-append-drop, append-nil, append_assoc, map-append}
 use Rattle.std.proofs.lemmas.List.Elements.{All-head, All-append, All-map, filter-append}
-use Rattle.arena.specs.Arena.{Arena}
-use Rattle.tree.specs.declared.entry.Entry.{Entry}
-use Rattle.tree.specs.declared.node.Node.{Node}
-use Rattle.tree.specs.Item.{Item, item_of}
-use Rattle.tree.specs.Path.{IsPartitioned, index_in, child_in, leaf_in, before_leaf, behind_leaf, items_below}
-use Rattle.tree.specs.Subtree.{entries_at, items_in, IsSubtree}
-use Rattle.tree.specs.Tree.{IsLast}
+use Rattle.tree.proofs.Words.{Arena, Entry, Node, Item, item_of, IsPartitioned, index_in, child_in, leaf_in, before_leaf, behind_leaf, items_below, entries_at, items_in, IsSubtree, IsLast}
 use Rattle.tree.proofs.callers.Times.{none_or_some}
 use Rattle.tree.proofs.callers.Partitions.{not_both, none_pass, none_passed, none_fail, IsPartitioned-parts}
 use Rattle.tree.proofs.HeadCounts.{passing_at}
 use Rattle.tree.proofs.Found.{partitioned-entries}
+use Rattle.tree.proofs.Keys.{filter-items as filter_items}
 use Rattle.tree.proofs.Ways.{way}
 
 -- the last of those that pass does
@@ -56,12 +49,7 @@ none_before nodes least (suc height) slot is_below s c none =
 
 pub filter-items : (q : ℕ → Bool) (es : List Entry)
     → filter (λ (x : Item). q x.key) (map item_of es) ≡ map item_of (filter (λ (e : Entry). q e.key) es)
-filter-items q [] = refl
-filter-items q (e ∷ es) =
-    elim (cases_Bool (q e.key)) [
-      | inl t ↦ rw (t, filter-items q es) refl
-      | inr f ↦ rw (f, filter-items q es) refl
-    ]
+filter-items q es = filter_items (λ (x : Item). q x.key) es
 
 -- entries whose items are partitioned are partitioned
 pub entries_of_partitioned : (is_below : ℕ → Bool) (es : List Entry)

@@ -57,4 +57,5 @@ pub mod Trees
 pub mod Walked
 pub mod Walking
 pub mod Ways
+pub mod Words
 pub mod WrittenLeaf

@@ -1,34 +1,25 @@
 -- A look at the items from one bound to another, below a node.
-use Rattle.std.proofs.Common.{rules, ◌≡◌, ℕ, zero, suc, ◌+◌, ◌-◌, ◌<◌, ◌≤◌, Bool, true, false, List, ◌++◌, Option, Some, None, option_map, length, get_or, take, drop, filter, flat_map, map, All, IfSome, sym, refl, not, ◌&&◌, ◌∙◌, ap, subst, arith}
-use Rattle.std.specs.Prelude.{slice_range}
+use Rattle.std.proofs.Common.{rules, ◌≡◌, ℕ, zero, suc, ◌+◌, ◌-◌, ◌<◌, ◌≤◌, Bool, true, false, List, ◌++◌, Option, Some, None, option_map, length, get_or, take, drop, filter, flat_map, map, All, IfSome, sym, refl, not, ◌&&◌, ◌∙◌, ap, subst, arith, slice_range, append-nil}
 use Rattle.std.proofs.lemmas.List.{get_or_read}
-use Rattle.arena.specs.Arena.{Arena, header_at}
-use Rattle.tree.specs.declared.entry.Entry.{Entry}
-use Rattle.tree.specs.declared.node.Node.{Node}
-use Rattle.tree.specs.Item.{Item, Tells, item_of}
-use Rattle.tree.specs.Node.{entries_of}
-use Rattle.tree.specs.Path.{IsPartitioned, below_from, below_to}
-use Rattle.tree.specs.Subtree.{entries_at, items_in, IsChild, IsSubtree}
+use Rattle.tree.proofs.Words.{Arena, header_at, Entry, Node, Item, Tells, item_of, entries_of, IsPartitioned, below_from, below_to, entries_at, items_in, IsChild, IsSubtree, CanStep, KeyBytes, IsPrefixLenAt, CanReach}
+use Rattle.tree.proofs.callers.Partitions.{none_pass, none_fail}
 use Rattle.tree.proofs.Ways.{children_partitioned, pass_before, fail_behind_index, index_inside}
 use Rattle.tree.proofs.Found.{partitioned-entries, entries_read, read_partitioned}
 use Rattle.tree.proofs.Headed.{headed_at}
 use Rattle.tree.proofs.Placing.{entries_from_header}
-use Rattle.tree.specs.Finding.{CanStep}
-use Rattle.tree.specs.Heads.{KeyBytes, IsPrefixLenAt}
-use Rattle.tree.specs.Reached.{CanReach}
 use Rattle.tree.proofs.Keys.{filter-items}
-use Rattle.tree.proofs.Spans.{IsPartitioned-none, IsPartitioned-all, span, span_range, span_of_child, span_of_two, fewer_before}
+use Rattle.tree.proofs.Spans.{span, span_range, span_of_child, span_of_two, fewer_before}
 
 -- What `requires` says of a bound that may be missing, as a bound, and back.
 module _ {A : Type 0} (lets : A → ℕ → Bool) (items : List Item) where
   pub from_asked : (o : Option A) → IfSome o (λ p. IsPartitioned (λ x. lets p x.key) items)
       → IsPartitioned (λ x. below_from (option_map lets o) x.key) items
-  from_asked None h = IsPartitioned-none items
+  from_asked None h = let n = none_pass (λ (x : Item). false) items (λ i d inside. refl) in rw (n.0, n.1) refl
   from_asked (Some p) h = h
 
   pub to_asked : (o : Option A) → IfSome o (λ p. IsPartitioned (λ x. lets p x.key) items)
       → IsPartitioned (λ x. below_to (option_map lets o) x.key) items
-  to_asked None h = IsPartitioned-all items
+  to_asked None h = let n = none_fail (λ (x : Item). true) items (λ i d inside. refl) in rw (n.0, n.1) (sym (append-nil items))
   to_asked (Some p) h = h
 
   pub ask_from : (o : Option A) → IsPartitioned (λ x. below_from (option_map lets o) x.key) items
@@ -156,12 +147,6 @@ module _ {N : ℕ} (nodes : Arena (Node N)) (least height slot : ℕ) (f t : ℕ
     module _ (i : ℕ) (e : Entry) (inside : i < length es) (is : e ≡ get_or es i e) where
       pub child_is : IsChild nodes least (height - 1) (IsSubtree nodes least (height - 1)) e
       child_is = rw is (node.1 i e inside)
-
-      pub child_subtree : IsSubtree nodes least (height - 1) e.child
-      child_subtree = child_is.subtree
-
-      pub child_tells : Tells e (below e)
-      child_tells = child_is.tells
 
       pub child_from : IsPartitioned p (below e)
       child_from = rw is (children_partitioned f below es from_items i e inside)

@@ -1,14 +1,10 @@
 -- The greatest of a version, which may be missing, and those of items in parts.
-use Rattle.std.proofs.Common.{◌≡◌, Bool, false, List, [], ◌∷◌, ◌++◌, Option, Some, None, IfSome, IsTrue, ◌↔◌, filter, flat_map, All, refl, ap, inl, inr, arith, append-nil, append_assoc}
-use Rattle.std.specs.Prelude.{ℤ, ◌≤ℤ◌, ◌<ℤ◌}
+use Rattle.std.proofs.Common.{◌≡◌, Bool, false, List, [], ◌∷◌, ◌++◌, Option, Some, None, IfSome, IsTrue, ◌↔◌, filter, flat_map, All, refl, ap, inl, inr, arith, append-nil, append_assoc, ℤ, ◌≤ℤ◌, ◌<ℤ◌, w64, SFits, to_z, of_z}
 use Rattle.std.specs.Int.{int_max}
 use Rattle.std.proofs.lemmas.Int.{ints, clamps, to_z-of_z}
-use mir.Syntax.{w64}
-use mir.Val.{SFits, to_z, of_z}
 use Rattle.std.proofs.lemmas.List.Elements.{All-nil, All-append, All-filter}
 use Rattle.keys.proofs.callers.SomeElement.{Any-parts, Any-left, Any-right}
-use Rattle.tree.specs.declared.entry.Entry.{Entry}
-use Rattle.tree.specs.Item.{Item, Tells, IsGreatestWith, greater_of, version_of}
+use Rattle.tree.proofs.Words.{Entry, Item, Tells, IsGreatestWith, greater_of, version_of}
 use Rattle.tree.proofs.callers.Partitions.{All-front, All-back}
 use Rattle.tree.proofs.Greatest.{one_of_both}
 use Rattle.tree.proofs.GreatestParts.{IsPeak, IsPeak-children, Bounds, Reaches, higher}
@@ -72,8 +68,7 @@ pub most_passed : (least : Option ℤ) (e : Entry) (xs : List Item) (p : Item �
     → IsGreatestWith least (filter p xs) least
 most_passed None e xs p above fits tells fails told = let yes = told.1 tt in absurd (cc)
 most_passed (Some l) e xs p above fits tells fails told =
-    let same = to_z-of_z w64 e.version fits in
-    let not_less : l <ℤ e.version → ⊥ = λ lt. (let yes = told.1 (rw same lt) in cc) in
+    let not_less : l <ℤ e.version → ⊥ = λ lt. (let yes = told.1 (rw (to_z-of_z w64 e.version fits) lt) in cc) in
     let le : e.version ≤ℤ l = grind (arith, ints) in
     let bound = All-filter p (Bounds l) xs (higher e.version l xs le tells.greatest.bound) in
     record { bound = bound; least_bound = omega (arith, ints); reached = inl refl }

@@ -1,10 +1,6 @@
 -- A node is put at its slot, and then its right neighbour in a spare one.
 use Rattle.std.proofs.Common.{◌≡◌, ℕ, [], ◌∷◌, refl, ◌∙◌, arith}
-use Rattle.arena.specs.Arena.{Arena, IsLive, record_at, with_header}
-use Rattle.tree.specs.declared.node.Node.{Node}
-use Rattle.tree.specs.Node.{entries_of}
-use Rattle.tree.specs.Replace.{Changes, IsKeyless}
-use Rattle.tree.specs.Subtree.{entries_at}
+use Rattle.tree.proofs.Words.{Arena, IsLive, record_at, with_header, Node, entries_of, Changes, IsKeyless, entries_at}
 use Rattle.tree.proofs.Changing.{changes_if_moves, moves_beside, moves_if_changes, moves_trans}
 use Rattle.tree.proofs.Frames.{entries_same, live_same}
 use Rattle.tree.proofs.Placing.{live_one, put_entries, put_live, put_moves}

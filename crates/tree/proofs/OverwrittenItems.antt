@@ -1,15 +1,8 @@
 -- How many items there are once a run is written over, and what tells whether the run was ended.
-use Rattle.std.proofs.Common.{◌≡◌, ◌≢◌, ℕ, ℤ, ◌+◌, ◌≤◌, inl, inr, Bool, true, false, List}
-use Rattle.std.proofs.Common.{[], ◌∷◌, ◌++◌, Option, Some, None, IsTrue, length, refl, unwrap_or}
-use Rattle.std.proofs.Common.{ap, arith, length-append}
+use Rattle.std.proofs.Common.{◌≡◌, ◌≢◌, ℕ, ℤ, ◌+◌, ◌≤◌, Bool, true, false, List, [], ◌∷◌, ◌++◌, Option, Some, None, IsTrue, length, refl, unwrap_or, ap, arith, length-append}
 use Rattle.std.proofs.lemmas.Bool.{cases_Bool}
 use Rattle.std.proofs.lemmas.List.{nil_from_length}
-use Rattle.tree.specs.declared.overwrite.Written.{Written}
-use Rattle.tree.specs.declared.overwrite.Written.TheVariants.{Partly, Whole}
-use Rattle.tree.specs.Item.{Item}
-use Rattle.tree.specs.Overwrite.{Overwrites, first_is_below, put_of}
-use Rattle.tree.specs.Path.{IsPartitioned, items_below, behind, between, first_key}
-use Rattle.tree.specs.Tree.{ended_by}
+use Rattle.tree.proofs.Words.{Written, Partly, Whole, Item, Overwrites, first_is_below, put_of, IsPartitioned, items_below, behind, between, first_key, ended_by}
 use Rattle.tree.proofs.callers.Partitions.{IsPartitioned-parts}
 use Rattle.tree.proofs.Inserting.{ended_some}
 use Rattle.tree.proofs.Overwriting.{between_is, first_tells}
@@ -30,12 +23,7 @@ module _ (p q r : ℕ → Bool) (nested : (key : ℕ) → p key ≡ true → q k
   length-between : (items : List Item)
       → length (items_below p items) + (length (between (Some p) (Some q) items) + length (behind q items)) ≡ length items
   length-between [] = refl
-  length-between (x ∷ items) =
-      let rest = length-between items in
-      elim (cases_Bool (p x.key)) [
-        | inl t ↦ rw (t, nested x.key t) (omega arith)
-        | inr f ↦ elim (cases_Bool (q x.key)) [ inl t ↦ rw (f, t) (omega arith) | inr n ↦ rw (f, n) (omega arith) ]
-      ]
+  length-between (x ∷ items) = grind (arith, length-between items, nested x.key, cases_Bool (p x.key), cases_Bool (q x.key))
 
   -- as many more are there as were put in place of the run, and one at least
   pub length-overwritten : (first : Item) (second : ℕ) (given : Option ℤ) (written : Written) (run was now : List Item)

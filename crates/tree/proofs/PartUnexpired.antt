@@ -1,13 +1,7 @@
 -- Items of which a run is swept of expired items: what is said of a leaf's is said of all of them, and how many stay.
-use Rattle.std.proofs.Common.{◌≡◌, ◌≢◌, ℕ, ℤ, ◌+◌, ◌≤◌, ◌≤ℤ◌, int_lt, Bool, true, false, inl, inr, List, [], ◌∷◌, ◌++◌, Option, None}
-use Rattle.std.proofs.Common.{length, sym, ◌∙◌, ap, arith, append_assoc, length-append}
+use Rattle.std.proofs.Common.{◌≡◌, ◌≢◌, ℕ, ℤ, ◌+◌, ◌≤◌, ◌≤ℤ◌, int_lt, Bool, true, false, List, [], ◌∷◌, ◌++◌, Option, None, length, sym, ◌∙◌, ap, arith, append_assoc, length-append}
 use Rattle.std.proofs.lemmas.Int.{ints}
-use Rattle.tree.specs.declared.expiring.Removal.{Removal}
-use Rattle.tree.specs.Item.{Item}
-use Rattle.tree.specs.Path.{items_below}
-use Rattle.tree.specs.Expire.{RemovesExpired, GivesUnexpired}
-use Rattle.tree.specs.Tree.{unexpired}
-use Rattle.tree.specs.Walk.{IsChangedWithin}
+use Rattle.tree.proofs.Words.{Removal, Item, items_below, RemovesExpired, GivesUnexpired, unexpired, IsChangedWithin}
 use Rattle.tree.proofs.callers.Times.{none_or_some}
 use Rattle.tree.proofs.Inserting.{length-partitioned}
 use Rattle.tree.proofs.Keys.{behind-parts, first_key-append}
@@ -54,8 +48,5 @@ length-unexpired p count edge before removal run was now next h first =
     let looked = simp length-append at (ap length h.looked_is) in
     let is_below = simp length-append at (ap length h.front_is) in
     let kept = expired_or_kept edge before h.looked in
-    let some : 1 ≤ length now = elim (none_or_some (length h.front)) [
-      | inl none ↦ omega (arith, first_stays edge before h.looked (omega arith) (first (omega (arith, is_below, none))))
-      | inr filled ↦ omega arith
-    ] in
+    let some : 1 ≤ length now = grind (arith, none_or_some (length h.front), first_stays edge before h.looked) in
     (omega (arith, ap length h.run_is, length-partitioned p was), some)

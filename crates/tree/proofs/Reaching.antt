@@ -1,14 +1,7 @@
 -- The leaf that a bound finds: the items before it and behind it.
-use Rattle.std.proofs.Common.{rules, ◌≡◌, ℕ, zero, suc, Bool, true, false, ◌++◌}
-use Rattle.std.proofs.Common.{map}
-use Rattle.std.proofs.Common.{All, sym}
-use Rattle.std.proofs.lemmas.List.{append_assoc, append-nil}
+use Rattle.std.proofs.Common.{rules, ◌≡◌, ℕ, zero, suc, Bool, true, false, ◌++◌, map, All, sym, append_assoc, append-nil}
 use Rattle.std.proofs.lemmas.List.Elements.{All-nil, All-append}
-use Rattle.arena.specs.Arena.{Arena}
-use Rattle.tree.specs.declared.node.Node.{Node}
-use Rattle.tree.specs.Item.{Item, item_of}
-use Rattle.tree.specs.Path.{IsPartitioned, child_in, leaf_in, before_leaf, behind_leaf}
-use Rattle.tree.specs.Subtree.{entries_at, items_in, IsSubtree}
+use Rattle.tree.proofs.Words.{Arena, Node, Item, item_of, IsPartitioned, child_in, leaf_in, before_leaf, behind_leaf, entries_at, items_in, IsSubtree}
 use Rattle.tree.proofs.Ways.{way}
 
 module _ {N : ℕ} (nodes : Arena (Node N)) where

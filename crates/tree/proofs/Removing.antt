@@ -1,13 +1,10 @@
 -- The removal of the expired items of a run, entry by entry.
-use Rattle.std.proofs.Common.{◌≡◌, ◌≢◌, ℕ, suc, ◌+◌, ◌-◌, ◌<◌, ◌≤◌, ℤ, int_lt, int_le, ◌&&◌, true, false, List, [], ◌∷◌, ◌++◌, length, get_or, map, take, drop, set, refl, ◌∙◌, ap, arith, inl, inr, length-append, length-drop, append_assoc}
+use Rattle.std.proofs.Common.{◌≡◌, ◌≢◌, ℕ, suc, ◌+◌, ◌-◌, ◌<◌, ◌≤◌, ℤ, int_lt, int_le, ◌&&◌, true, false, List, [], ◌∷◌, ◌++◌, length, get_or, map, take, drop, set, refl, ◌∙◌, arith, length-append, length-drop, append_assoc, length-set}
 use Rattle.std.proofs.lemmas.Grind.{drop_more_same}
 use Rattle.std.proofs.lemmas.Int.{ints}
 use Rattle.std.proofs.lemmas.List.{append-nil, get_or-drop, map-append, take_more, take_more_set, drop-set-lt, drop_more}
-use Rattle.std.proofs.Math.ListN.{length-set}
 use Rattle.std.proofs.lemmas.Bool.{cases_Bool}
-use Rattle.tree.specs.declared.entry.Entry.{Entry}
-use Rattle.tree.specs.Item.{Item, item_of, version_of}
-use Rattle.tree.specs.Tree.{IsLast, unexpired, expired}
+use Rattle.tree.proofs.Words.{Entry, Item, item_of, version_of, IsLast, unexpired, expired}
 
 -- the entries from an index up to another
 abbrev pub run : List Entry → ℕ → ℕ → List Entry
@@ -18,8 +15,7 @@ pub expired_or_kept : (edge before : ℤ) (xs : List Item)
     → length (unexpired edge before xs) + length (expired edge before xs) ≡ length xs
 expired_or_kept edge before [] = omega arith
 expired_or_kept edge before (x ∷ xs) =
-    let i = expired_or_kept edge x.version xs in
-    elim (cases_Bool (int_lt before edge && int_lt x.version edge)) [ inl t ↦ rw t (omega arith) | inr f ↦ rw f (omega arith) ]
+    grind (arith, expired_or_kept edge x.version xs, cases_Bool (int_lt before edge && int_lt x.version edge))
 
 -- the entries from an index on
 from_index : (es : List Entry) (index : ℕ) (e : Entry) → index < length es → e ≡ get_or es index e
@@ -30,10 +26,7 @@ from_index es index e inside is = rw is (drop_more es index e inside)
 pub all_stay : (edge before : ℤ) (xs : List Item) → expired edge before xs ≡ [] → unexpired edge before xs ≡ xs
 all_stay edge before [] none = refl
 all_stay edge before (x ∷ xs) none =
-    elim (cases_Bool (int_lt before edge && int_lt x.version edge)) [
-      | inl t ↦ let some = rw t at none in absurd (cc)
-      | inr f ↦ rw f (ap (λ l. x ∷ l) (all_stay edge x.version xs (rw f at none)))
-    ]
+    grind (arith, cases_Bool (int_lt before edge && int_lt x.version edge), all_stay edge x.version xs)
 
 module _ (edge last : ℤ) (es : List Entry) (index : ℕ) (e : Entry) (inside : index < length es) (is : e ≡ get_or es index e) where
   -- Where the entry at an index stays, those that go are behind it.

@@ -1,13 +1,7 @@
 -- The entries of a node once a child was changed or split.
 use Rattle.std.proofs.Common.{◌≡◌, ℕ, ◌+◌, ◌≤◌, List, [], ◌∷◌, length, take, drop, arith}
 use Rattle.std.proofs.lemmas.List.Elements.{All-nil, All-cons, All-take, All-drop}
-use Rattle.arena.specs.Arena.{Arena}
-use Rattle.tree.specs.declared.entry.Entry.{Entry}
-use Rattle.tree.specs.declared.node.Node.{Node}
-use Rattle.tree.specs.Item.{Tells}
-use Rattle.tree.specs.Subtree.{entries_at, items_in, slots_in, IsSubtree}
-use Rattle.tree.specs.Replace.{slots_of, AreChildren}
-use Rattle.tree.specs.Tree.{least_of}
+use Rattle.tree.proofs.Words.{Arena, Entry, Node, Tells, entries_at, items_in, slots_in, IsSubtree, slots_of, AreChildren, least_of}
 use Rattle.tree.proofs.Frames.{IsRight}
 use Rattle.tree.proofs.Changing.{Moves}
 use Rattle.tree.proofs.Families.{Loose, loose}

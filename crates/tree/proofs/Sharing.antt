@@ -1,29 +1,19 @@
 -- Two neighbours that are merged or merge_or_redistribute their entries, and the entries of the node above.
-use Rattle.std.proofs.Common.{◌≡◌, ℕ, zero, suc, ◌+◌, add-one, ◌<◌, ◌≤◌, List, [], ◌∷◌, ◌++◌, length, length-append, get_or, set, take, drop, map, option_map, unwrap_or, refl, sym, ap, ap₂, subst, ◌∙◌, arith, append_assoc}
+use Rattle.std.proofs.Common.{◌≡◌, ℕ, zero, suc, ◌+◌, add-one, ◌<◌, ◌≤◌, List, [], ◌∷◌, ◌++◌, length, length-append, get_or, set, take, drop, map, option_map, unwrap_or, refl, sym, ap, ap₂, subst, ◌∙◌, arith, append_assoc, All, flat_map}
 use Rattle.std.proofs.lemmas.List.{map-append, take-append-drop, drop_more, set_split, take_more_set, drop-set-lt, length-set}
-use Rattle.std.specs.List.{All, flat_map}
-use Rattle.std.proofs.lemmas.List.Elements.{All-nil, All-cons, All-head, All-tail, All-append}
 use Rattle.std.proofs.lemmas.Option.{slice_get-get_or}
-use Rattle.arena.specs.Arena.{Arena}
-use Rattle.tree.specs.declared.entry.Entry.{Entry}
-use Rattle.tree.specs.declared.node.Node.{Node}
-use Rattle.tree.specs.Item.{item_of, Tells}
-use Rattle.tree.specs.Subtree.{entries_at, items_in, IsSubtree}
-use Rattle.tree.specs.Replace.{child_at, items_of, slots_of, AreChildren, IsFamily, IsRebalanced}
+use Rattle.tree.proofs.Words.{Arena, Entry, Node, item_of, Tells, entries_at, items_in, IsSubtree, child_at, items_of, slots_of, AreChildren, IsFamily, IsRebalanced}
 use Rattle.tree.proofs.callers.Times.{times, times-append, once_if_distinct}
 use Rattle.tree.proofs.Frames.{IsRight, items_of_same, slots_of_same, children_same}
 use Rattle.tree.proofs.Changing.{Moves, moves_beside, moves_agree, changes_if_moves}
 use Rattle.tree.proofs.Families.{slots_of-append, items_of-append, times-slots_of, live_children, replaced}
 use Rattle.tree.proofs.Placing.{live_if_some}
-use Rattle.tree.proofs.callers.Partitions.{All-front, All-back}
+use Rattle.tree.proofs.callers.Partitions.{All-front, All-back, All-joined, All-apart}
+pub use Rattle.tree.proofs.Ways.{around_element as around_one}
 
--- the entries around one, and around two
+-- the child of an entry, and the entries around two
 pub child_is : (es : List Entry) (i : ℕ) (d : Entry) → i < length es → child_at es i ≡ (get_or es i d).child
 child_is es i d within = ap (λ o. unwrap_or (option_map (λ (e : Entry). e.child) o) 0) (slice_get-get_or es i d within)
-
-pub around_one : (es : List Entry) (i : ℕ) (d : Entry) → i < length es
-    → es ≡ take i es ++ (get_or es i d ∷ [] ++ drop (i + 1) es)
-around_one es i d within = sym (take-append-drop i es) ∙ ap (λ l. take i es ++ l) (drop_more es i d within)
 
 pub around_two : (es : List Entry) (i : ℕ) (d e : Entry) → i + 1 < length es
     → es ≡ take i es ++ (get_or es i d ∷ get_or es (i + 1) e ∷ [] ++ drop (i + 2) es)
@@ -76,22 +66,14 @@ module _ {N : ℕ} where
 
   right_below : (a : Arena (Node N)) (least height : ℕ) (es : List Entry)
       → All (λ e. IsSubtree a least (suc height) e.child) es → AreChildren a least height (entries_below a es)
-  right_below a least height [] h = All-nil (IsRight a least height)
-  right_below a least height (e ∷ es) h =
-      All-append (IsRight a least height) (entries_at a e.child) (entries_below a es)
-      (All-head (λ e. IsSubtree a least (suc height) e.child) e es h).2
-      (right_below a least height es (All-tail (λ e. IsSubtree a least (suc height) e.child) e es h))
+  right_below a least height es h =
+      All-joined (IsRight a least height) (λ (e : Entry). entries_at a e.child) es (λ i d inside. (h i d inside).2)
 
   subtrees_above : (a : Arena (Node N)) (least height : ℕ) (es : List Entry) → All (λ e. 1 ≤ length (entries_at a e.child)) es
       → AreChildren a least height (entries_below a es) → All (λ e. IsSubtree a least (suc height) e.child) es
-  subtrees_above a least height [] some right = All-nil (λ e. IsSubtree a least (suc height) e.child)
-  subtrees_above a least height (e ∷ es) some right =
-      let P : Entry → Type 0 = λ e. 1 ≤ length (entries_at a e.child) in
-      let here = All-head P e es some in
-      let own = All-front (IsRight a least height) (entries_at a e.child) (entries_below a es) right in
-      let rest = All-back (IsRight a least height) (entries_at a e.child) (entries_below a es) right in
-      All-cons (λ e. IsSubtree a least (suc height) e.child) e es (live_if_some a e.child here, here, own)
-      (subtrees_above a least height es (All-tail P e es some) rest)
+  subtrees_above a least height es some right =
+      let each = All-apart (IsRight a least height) (λ (e : Entry). entries_at a e.child) es right in
+      λ i d inside. (live_if_some a _ (some i d inside), some i d inside, each i d inside)
 
   -- children that have the entries of others
   pub record Regrouped (a b : Arena (Node N)) (least height : ℕ) (old new : List Entry) : Type 0 where

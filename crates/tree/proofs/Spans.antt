@@ -1,33 +1,17 @@
 -- What lies from one bound to another, in parts.
-use Rattle.std.proofs.Common.{◌≡◌, ℕ, ◌+◌, ◌-◌, ◌<◌, ◌≤◌, Bool, true, false, not, ◌&&◌, List, [], ◌∷◌, ◌++◌, length, get_or, take, drop, filter, flat_map, All, refl, sym, ◌∙◌, ap, inl, inr, arith, take-add, take_at, drop_at, take-append-drop, append-nil}
-use Rattle.std.specs.Prelude.{slice_range}
+use Rattle.std.proofs.Common.{◌≡◌, ℕ, ◌+◌, ◌-◌, ◌<◌, ◌≤◌, Bool, true, false, not, ◌&&◌, List, [], ◌∷◌, ◌++◌, length, get_or, take, drop, filter, flat_map, All, refl, ◌∙◌, ap, arith, take-add, take-append-drop, append-nil, slice_range}
 use Rattle.std.proofs.lemmas.Bool.{and_right, cases_Bool}
 use Rattle.std.proofs.lemmas.Grind.{flat_map-append}
 use Rattle.std.proofs.lemmas.List.{append_assoc, drop-drop, drop-take, drop_more, take_more}
 use Rattle.std.proofs.lemmas.List.Elements.{All-head, All-tail, All-take, All-drop, filter-append}
-use Rattle.tree.specs.declared.entry.Entry.{Entry}
-use Rattle.tree.specs.Path.{IsPartitioned}
-use Rattle.tree.proofs.callers.Partitions.{passed, failed, All-front, All-back}
+use Rattle.tree.proofs.Words.{Entry, IsPartitioned}
+use Rattle.tree.proofs.callers.Partitions.{none_pass, none_fail, before_partitioned, behind_partitioned, All-front, All-back}
 use Rattle.tree.proofs.Ways.{around_element}
 
 module _ {X : Type 0} where
   -- those that don't pass the one test and pass the other
   abbrev pub span : (X → Bool) → (X → Bool) → List X → List X
   span p q xs = filter (λ x. not (p x) && q x) xs
-
-  pub none_before : (xs : List X) → filter (λ (x : X). false) xs ≡ []
-  none_before [] = refl
-  none_before (x ∷ xs) = none_before xs
-
-  pub all_before : (xs : List X) → filter (λ (x : X). true) xs ≡ xs
-  all_before [] = refl
-  all_before (x ∷ xs) = ap (λ ys. x ∷ ys) (all_before xs)
-
-  pub IsPartitioned-none : (xs : List X) → IsPartitioned (λ x. false) xs
-  IsPartitioned-none xs = rw (none_before xs) (sym (all_before xs))
-
-  pub IsPartitioned-all : (xs : List X) → IsPartitioned (λ x. true) xs
-  IsPartitioned-all xs = rw (all_before xs, none_before xs) (sym (append-nil xs))
 
   -- tests that agree on each element
   filter_same : (p q : X → Bool) (xs : List X) → All (λ x. p x ≡ q x) xs → filter p xs ≡ filter q xs
@@ -37,12 +21,11 @@ module _ {X : Type 0} where
 
   module _ (p q : X → Bool) where
     pub span_before : (xs : List X) → All (λ x. p x ≡ true) xs → span p q xs ≡ []
-    span_before xs a = filter_same _ (λ x. false) xs (λ i d inside. rw (a i d inside) refl) ∙ none_before xs
+    span_before xs a = (none_pass (λ x. not (p x) && q x) xs (λ i d inside. rw (a i d inside) refl)).0
 
     pub span_behind : (xs : List X) → All (λ x. q x ≡ false) xs → span p q xs ≡ []
     span_behind xs b =
-        filter_same _ (λ x. false) xs (λ i d inside. and_right (not (p (get_or xs i d))) (q (get_or xs i d)) (b i d inside))
-        ∙ none_before xs
+        (none_pass (λ x. not (p x) && q x) xs (λ i d inside. and_right (not (p (get_or xs i d))) (q _) (b i d inside))).0
 
     pub span_to_end : (xs : List X) → All (λ x. q x ≡ true) xs → span p q xs ≡ span p (λ x. true) xs
     span_to_end xs b = filter_same _ _ xs (λ i d inside. rw (b i d inside) refl)
@@ -51,28 +34,12 @@ module _ {X : Type 0} where
     span_from_begin xs a = filter_same _ _ xs (λ i d inside. rw (a i d inside) refl)
 
     pub span_all : (xs : List X) → All (λ x. p x ≡ false) xs → All (λ x. q x ≡ true) xs → span p q xs ≡ xs
-    span_all xs a b = filter_same _ (λ x. true) xs (λ i d inside. rw (a i d inside, b i d inside) refl) ∙ all_before xs
+    span_all xs a b = (none_fail (λ x. not (p x) && q x) xs (λ i d inside. rw (a i d inside, b i d inside) refl)).0
 
     pub fewer_before : ((x : X) → p x ≡ true → q x ≡ true) → (xs : List X)
         → length (filter p xs) ≤ length (filter q xs)
     fewer_before n [] = omega arith
-    fewer_before n (x ∷ xs) =
-        let i = fewer_before n xs in
-        elim (cases_Bool (p x)) [
-          | inl t ↦ rw (t, n x t) (omega arith)
-          | inr f ↦ elim (cases_Bool (q x)) [ inl u ↦ rw (f, u) (omega arith) | inr u ↦ rw (f, u) (omega arith) ]
-        ]
-
-  -- what stands before and behind a bound
-  pub before_partitioned : (p : X → Bool) (xs : List X) → IsPartitioned p xs
-      → All (λ x. p x ≡ true) (take (length (filter p xs)) xs)
-  before_partitioned p xs c =
-      rw (ap (take (length (filter p xs))) c ∙ take_at (filter p xs) (filter (λ x. not (p x)) xs) _ refl) (passed p xs)
-
-  pub behind_partitioned : (p : X → Bool) (xs : List X) → IsPartitioned p xs
-      → All (λ x. p x ≡ false) (drop (length (filter p xs)) xs)
-  behind_partitioned p xs c =
-      rw (ap (drop (length (filter p xs))) c ∙ drop_at (filter p xs) (filter (λ x. not (p x)) xs) _ refl) (failed p xs)
+    fewer_before n (x ∷ xs) = grind (arith, fewer_before n xs, n x, cases_Bool (p x), cases_Bool (q x))
 
   -- the part of a list from one bound to another
   pub span_range : (p q : X → Bool) (xs : List X) (i j : ℕ) → IsPartitioned p xs → IsPartitioned q xs → i ≤ j
@@ -80,11 +47,10 @@ module _ {X : Type 0} where
   span_range p q xs i j c d le m n =
       let front = rw (← m) at (before_partitioned p xs c) in
       let later = rw (← m) at (behind_partitioned p xs c) in
-      let sooner = rw (← n) at (before_partitioned q xs d) in
       let back = rw (← n) at (behind_partitioned q xs d) in
       let up : i + (j - i) ≡ j = omega arith in
       let is : drop i (take j xs) ≡ slice_range xs i j = cc (drop-take i (j - i) xs) in
-      let inside = rw is at (All-drop (λ x. q x ≡ true) i (take j xs) sooner) in
+      let inside = rw is at (All-drop (λ x. q x ≡ true) i (take j xs) (rw (← n) at (before_partitioned q xs d))) in
       let whole = span_all p q (slice_range xs i j) (All-take (λ x. p x ≡ false) (j - i) (drop i xs) later) inside in
       let parts : xs ≡ take i xs ++ (slice_range xs i j ++ drop j xs) =
       cc (take-append-drop i xs, take-append-drop (j - i) (drop i xs), drop-drop (j - i) i xs) in
@@ -102,9 +68,8 @@ module _ {X : Type 0} (below : Entry → List X) (p q : X → Bool) (es : List E
   span_of_child same inside =
       let a = flat_map below (take i es) in
       let b = flat_map below (drop (i + 1) es) in
-      let behind = rw (← same) at back in
       ap (λ xs. span p q (flat_map below xs)) (around_element es i d inside)
-      ∙ simp (flat_map-append, filter-append, span_before p q a front, span_behind p q b behind, append-nil)
+      ∙ simp (flat_map-append, filter-append, span_before p q a front, span_behind p q b (rw (← same) at back), append-nil)
 
   -- where they lie in two
   pub span_of_two : i < j → j < length es

@@ -1,10 +1,6 @@
 -- What an entry tells of the items of its child.
 use Rattle.std.proofs.Common.{rules, ◌≡◌, ℕ, List, ◌∷◌, ◌++◌, Some, flat_map, ap, ◌∙◌, arith}
-use Rattle.arena.specs.Arena.{Arena}
-use Rattle.tree.specs.declared.entry.Entry.{Entry}
-use Rattle.tree.specs.declared.node.Node.{Node}
-use Rattle.tree.specs.Item.{version_of, IsGreatest, Tells}
-use Rattle.tree.specs.Subtree.{entries_at, items_in, IsSubtree}
+use Rattle.tree.proofs.Words.{Arena, Entry, Node, version_of, IsGreatest, Tells, entries_at, items_in, IsSubtree}
 use Rattle.tree.proofs.FirstKeys.{items_under, node_items, node_tells}
 use Rattle.tree.proofs.GreatestParts.{IsPeak-children}
 

@@ -1,20 +1,13 @@
 -- What a search by heads tells of the items before a bound, of those before another bound the last alone.
-use Rattle.std.proofs.Common.{◌≡◌, ℕ, zero, suc, ◌+◌, ◌-◌, ◌<◌, ◌≤◌, Bool, true, false, List, [], ◌∷◌, ◌++◌, Option, Some, IsTrue, ◌↔◌, length, get_or, slice_get, take, drop, filter, flat_map, map, All, refl, ◌∙◌, ap, inl, inr, arith, append-nil, append_assoc, length-append}
-use Rattle.std.specs.Prelude.{ℤ, ◌<ℤ◌, ◌≤ℤ◌, slice_range, Any}
+use Rattle.std.proofs.Common.{◌≡◌, ℕ, zero, suc, ◌+◌, ◌-◌, ◌<◌, ◌≤◌, Bool, true, false, List, [], ◌∷◌, ◌++◌, Option, Some, IsTrue, ◌↔◌, length, get_or, slice_get, take, drop, filter, flat_map, map, All, refl, ◌∙◌, ap, inl, inr, arith, append-nil, append_assoc, length-append, ℤ, ◌<ℤ◌, ◌≤ℤ◌, slice_range, Any}
 use Rattle.std.proofs.Math.Seq.{drop-append-add}
 use Rattle.std.proofs.lemmas.Bool.{cases_Bool}
 use Rattle.std.proofs.lemmas.Grind.{flat_map-append}
 use Rattle.std.proofs.lemmas.List.{length-map}
 use Rattle.std.proofs.lemmas.List.Elements.{All-nil, filter-append}
-use Rattle.arena.specs.Arena.{Arena}
-use Rattle.tree.specs.declared.entry.Entry.{Entry}
-use Rattle.tree.specs.declared.node.Node.{Node}
-use Rattle.tree.specs.Item.{Item, Tells, item_of}
-use Rattle.tree.specs.Path.{IsPartitioned, from_last}
-use Rattle.tree.specs.Question.{IsTold}
-use Rattle.tree.specs.Subtree.{items_in}
+use Rattle.tree.proofs.Words.{Arena, Entry, Node, Item, Tells, item_of, IsPartitioned, from_last, IsTold, items_in}
 use Rattle.tree.proofs.Above.{IsAbove, none_above, leaf_above}
-use Rattle.tree.proofs.callers.Partitions.{All-front, not_both, none_pass, none_fail, IsPartitioned-parts, rest_fails}
+use Rattle.tree.proofs.callers.Partitions.{All-front, none_pass, none_fail, IsPartitioned-parts, rest_fails}
 use Rattle.tree.proofs.FromLast.{from_last_of, leaf_from_last, none_told}
 use Rattle.tree.proofs.Keys.{filter-items}
 use Rattle.tree.proofs.Looks.{IsLook, look_items}
@@ -29,8 +22,7 @@ filter_around p a c b t f =
 module _ {X : Type 0} (p q : X → Bool) (n : (x : X) → p x ≡ true → q x ≡ true) where
   -- Where none is below the second bound, none passes the first.
   pub none_of_fewer : (xs : List X) → All (λ x. q x ≡ false) xs → All (λ x. p x ≡ false) xs
-  none_of_fewer xs a i d inside =
-      elim (cases_Bool (p (get_or xs i d))) [ inl t ↦ absurd (not_both _ (n _ t) (a i d inside)) | inr h ↦ h ]
+  none_of_fewer xs a i d inside = grind (arith, cases_Bool (p (get_or xs i d)), n (get_or xs i d), a i d inside)
 
   -- From the last one before the first bound to the second one, where one of a part is below the bound, all before it are, and
   -- none behind it is before the second bound.

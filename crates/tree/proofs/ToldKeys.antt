@@ -1,19 +1,11 @@
 -- What is known of the first keys of nodes, where a search goes on with the last entry below the bound.
-use Rattle.std.proofs.Common.{◌≡◌, ℕ, ◌+◌, ◌-◌, ◌<◌, ◌≤◌, Bool, true, false, List, [], ◌∷◌, Some, None, length, get_or, slice_get, filter, flat_map, All, refl, sym, arith}
-use Rattle.std.specs.Prelude.{◌≢◌, Option, unwrap_or}
-use Rattle.std.proofs.lemmas.List.{get_or-drop, get_or-take, length-drop, length-take-le}
-use Rattle.std.proofs.lemmas.Option.{get_or_from_slice_get, slice_get_within}
-use Rattle.arena.specs.Arena.{Arena}
-use Rattle.tree.specs.declared.entry.Entry.{Entry}
-use Rattle.tree.specs.declared.node.Node.{Node}
-use Rattle.tree.specs.Heads.{KeyBytes, IsPrefixLenAt}
-use Rattle.tree.specs.Item.{Item, Tells}
-use Rattle.tree.specs.Reached.{CanReach}
-use Rattle.tree.specs.Path.{IsPartitioned, index_in}
-use Rattle.tree.specs.Subtree.{entries_at, items_in}
+use Rattle.std.proofs.Common.{◌≡◌, ℕ, ◌+◌, ◌-◌, ◌<◌, ◌≤◌, Bool, true, false, List, [], ◌∷◌, Some, None, length, get_or, slice_get, filter, flat_map, All, refl, sym, arith, ◌≢◌, Option, unwrap_or}
+use Rattle.std.proofs.lemmas.Bool.{cases_Bool}
+use Rattle.std.proofs.lemmas.Option.{slice_get_read}
+use Rattle.tree.proofs.Words.{Arena, Entry, Node, KeyBytes, IsPrefixLenAt, Item, Tells, CanReach, IsPartitioned, index_in, entries_at, items_in}
 use Rattle.tree.proofs.callers.Partitions.{none_pass, rest_fails, length-items_below}
+use Rattle.tree.proofs.HeadCounts.{passing_at, passing_inside}
 use Rattle.tree.proofs.FirstKeys.{first_tells, items_under, node_items, node_tells}
-use Rattle.tree.proofs.Spans.{before_partitioned, behind_partitioned}
 
 -- Where the first entry passes, some do.
 pub some_pass : (is_below : ℕ → Bool) (es : List Entry) → 1 ≤ length es
@@ -27,21 +19,14 @@ pub last_passes : (is_below : ℕ → Bool) (es : List Entry) (i : ℕ) (e : Ent
     → e ≡ get_or es i e → is_below e.key ≡ true
 last_passes is_below es i e partitioned some at is =
     let p = λ (e : Entry). is_below e.key in
-    let count = length (filter p es) in
-    let less : i < count = omega arith in
-    rw (is, ← get_or-take count es i e less)
-    (before_partitioned p es partitioned i e (omega (arith, length-take-le count es (length-items_below p es))))
+    let inside : i < length es = omega (arith, length-items_below p es) in
+    passing_at p es i e partitioned (slice_get_read es (length es) i e refl inside is) (omega arith)
 
 -- The one behind it doesn't.
 pub next_fails : (is_below : ℕ → Bool) (es : List Entry) (i : ℕ) (e : Entry) → IsPartitioned (λ e. is_below e.key) es
     → i ≡ index_in is_below es → slice_get es (i + 1) ≡ Some e → is_below e.key ≡ false
 next_fails is_below es i e partitioned at there =
-    let p = λ (e : Entry). is_below e.key in
-    let count = length (filter p es) in
-    let k = i + 1 - count in
-    let least : count + k ≡ i + 1 = omega arith in
-    rw (← get_or_from_slice_get es (i + 1) e e there, ← least, ← get_or-drop count es k e)
-    (behind_partitioned p es partitioned k e (omega (arith, length-drop count es, slice_get_within es (i + 1) e there)))
+    grind (arith, cases_Bool (is_below e.key), passing_inside (λ (e : Entry). is_below e.key) es (i + 1) e partitioned there)
 
 -- Where the first entry doesn't pass, no item does.
 none_from_first : (is_below : ℕ → Bool) (under : Entry → List Item) (es : List Entry) (e : Entry) → slice_get es 0 ≡ Some e

@@ -1,18 +1,12 @@
 -- What a bound through the items of a subtree says of its entries and of the children's subtrees.
-use Rattle.std.proofs.Common.{◌≡◌, ℕ, zero, suc, ◌+◌, ◌-◌, ◌<◌, ◌≤◌, ◌⊎◌, Bool, not, true, false, List, [], ◌∷◌, ◌++◌, Some, length, get_or, slice_get, pos, take, drop, filter, flat_map, All, refl, sym, ◌∙◌, ap, inl, inr, arith}
+use Rattle.std.proofs.Common.{◌≡◌, ℕ, zero, suc, ◌+◌, ◌-◌, ◌<◌, ◌≤◌, ◌⊎◌, Bool, true, false, List, [], ◌∷◌, ◌++◌, Some, length, get_or, slice_get, pos, take, drop, filter, flat_map, All, refl, sym, ◌∙◌, ap, inl, inr, arith, length-append, length-take, take-append-drop, drop-drop}
 use Rattle.std.proofs.lemmas.Bool.{cases_Bool}
 use Rattle.std.proofs.lemmas.Option.{slice_get-get_or}
-use Rattle.std.proofs.lemmas.List.{take-append-drop, drop_more}
+use Rattle.std.proofs.lemmas.List.{drop_more}
 use Rattle.std.proofs.lemmas.Grind.{flat_map-append}
-use Rattle.std.proofs.lemmas.List.Elements.{All-nil, All-cons, All-head, All-tail, All-append}
-use Rattle.arena.specs.Arena.{Arena}
-use Rattle.tree.specs.declared.entry.Entry.{Entry}
-use Rattle.tree.specs.declared.node.Node.{Node}
-use Rattle.tree.specs.Item.{Item, Tells}
-use Rattle.tree.specs.Path.{IsPartitioned, index_in, child_in}
-use Rattle.tree.specs.Replace.{items_of}
-use Rattle.tree.specs.Subtree.{entries_at, items_in, IsChild, IsSubtree}
-use Rattle.tree.proofs.callers.Partitions.{none_pass, IsPartitioned-parts, rest_fails, length-items_below, All-back}
+use Rattle.std.proofs.lemmas.List.Elements.{All-nil, All-drop, All-head, All-tail, filter-append}
+use Rattle.tree.proofs.Words.{Arena, Entry, Node, Item, Tells, IsPartitioned, index_in, child_in, items_of, entries_at, items_in, IsChild, IsSubtree}
+use Rattle.tree.proofs.callers.Partitions.{none_pass, IsPartitioned-parts, rest_fails, length-items_below, behind_partitioned, All-back, All-apart}
 
 -- an element of a list, between those before it and those behind it
 pub around_element : {X : Type 0} (xs : List X) (i : ℕ) (d : X) → i < length xs
@@ -30,93 +24,78 @@ module _ (is_below : ℕ → Bool) (below : Entry → List Item) where
   abbrev Passes : Item → Type 0
   Passes x = is_below x.key ≡ true
 
-  entries_fail : (es : List Entry) → AllTell es → All Fails (flat_map below es) → All (λ e. is_below e.key ≡ false) es
-  entries_fail [] t a = All-nil (λ (e : Entry). is_below e.key ≡ false)
-  entries_fail (e ∷ es) t a =
-      let k = All-head (λ e. Tells e (below e)) e es t in
-      All-cons (λ (e : Entry). is_below e.key ≡ false) e es
-      (rw k.key (All-head Fails k.first (k.others ++ flat_map below es) (rw k.items_are at a)))
-      (entries_fail es (All-tail (λ e. Tells e (below e)) e es t) (All-back Fails (below e) (flat_map below es) a))
+  -- the items of the first entries, and those of the others
+  whole : (i : ℕ) (es : List Entry) → flat_map below es ≡ flat_map below (take i es) ++ flat_map below (drop i es)
+  whole i es = ap (flat_map below) (sym (take-append-drop i es)) ∙ flat_map-append below (take i es) (drop i es)
 
-  -- No item of an entry that fails passes, and none behind it.
-  all_fail : (e : Entry) (es : List Entry) → AllTell (e ∷ es) → IsPartitioned (λ x. is_below x.key) (below e ++ flat_map below es)
-      → is_below e.key ≡ false → All Fails (below e ++ flat_map below es) × (filter (λ e. is_below e.key) es ≡ [])
-      × (filter (λ e. not (is_below e.key)) es ≡ es)
-  all_fail e es t c f =
-      let rest = flat_map below es in
+  parts : (i : ℕ) (es : List Entry) → IsPartitioned (λ x. is_below x.key) (flat_map below es)
+      → IsPartitioned (λ x. is_below x.key) (flat_map below (drop i es))
+      × (All Passes (flat_map below (take i es)) ⊎ All Fails (flat_map below (drop i es)))
+  parts i es c =
+      let p = IsPartitioned-parts (λ (x : Item). is_below x.key) (flat_map below (take i es)) (flat_map below (drop i es))
+      (rw (whole i es) at c) in
+      (p.1, p.2)
+
+  entries_fail : (es : List Entry) → AllTell es → All Fails (flat_map below es) → All (λ e. is_below e.key ≡ false) es
+  entries_fail es t a = λ i d inside.
+      let k = t i d inside in
+      rw k.key (All-head Fails k.first k.others (rw k.items_are at (All-apart Fails below es a i d inside)))
+
+  -- No item passes, where the first entry fails.
+  all_fail : (es : List Entry) → AllTell es → IsPartitioned (λ x. is_below x.key) (flat_map below es)
+      → ((d : Entry) → 0 < length es → is_below (get_or es 0 d).key ≡ false) → All Fails (flat_map below es)
+  all_fail [] t c f = All-nil Fails
+  all_fail (e ∷ es) t c f =
       let k = All-head (λ e. Tells e (below e)) e es t in
-      let a : All Fails (below e ++ rest) = rw k.items_are (rest_fails (λ (x : Item). is_below x.key) k.first (k.others ++ rest)
-      (rw k.items_are at c) (rw k.key at f)) in
-      let n = none_pass (λ (e : Entry). is_below e.key) es
-      (entries_fail es (All-tail (λ e. Tells e (below e)) e es t) (All-back Fails (below e) rest a)) in
-      (a, n.0, n.1)
+      rw k.items_are (rest_fails (λ (x : Item). is_below x.key) k.first (k.others ++ flat_map below es) (rw k.items_are at c)
+      (rw k.key at (f e (omega arith))))
 
   -- the entries are partitioned by their keys
   pub entries_partitioned : (es : List Entry) → AllTell es → IsPartitioned (λ x. is_below x.key) (flat_map below es)
       → IsPartitioned (λ e. is_below e.key) es
   entries_partitioned [] t c = refl
   entries_partitioned (e ∷ es) t c =
-      let parts = IsPartitioned-parts (λ (x : Item). is_below x.key) (below e) (flat_map below es) c in
+      let later = All-tail (λ e. Tells e (below e)) e es t in
       elim (cases_Bool (is_below e.key)) [
-        | inl h ↦ rw h (ap (λ ys. e ∷ ys) (entries_partitioned es (All-tail (λ e. Tells e (below e)) e es t) parts.1))
-        | inr h ↦ let n = all_fail e es t c h in rw (h, n.1, n.2) refl
+        | inl h ↦ rw h (ap (λ ys. e ∷ ys) (entries_partitioned es later (parts 1 (e ∷ es) c).0))
+        | inr h ↦
+            let fail = All-back Fails (below e) (flat_map below es) (all_fail (e ∷ es) t c (λ d some. h)) in
+            let n = none_pass (λ (e : Entry). is_below e.key) es (entries_fail es later fail) in
+            rw (h, n.0, n.1) refl
       ]
 
   -- and so are the items of each child
   pub children_partitioned : (es : List Entry) → IsPartitioned (λ x. is_below x.key) (flat_map below es)
       → All (λ e. IsPartitioned (λ x. is_below x.key) (below e)) es
-  children_partitioned [] c = All-nil (λ e. IsPartitioned (λ (x : Item). is_below x.key) (below e))
-  children_partitioned (e ∷ es) c =
-      let parts = IsPartitioned-parts (λ (x : Item). is_below x.key) (below e) (flat_map below es) c in
-      All-cons (λ e. IsPartitioned (λ (x : Item). is_below x.key) (below e)) e es parts.0 (children_partitioned es parts.1)
-
-  -- no item behind the entries that pass does
-  fail_behind : (es : List Entry) → AllTell es → IsPartitioned (λ x. is_below x.key) (flat_map below es)
-      → All Fails (flat_map below (drop (length (filter (λ e. is_below e.key) es)) es))
-  fail_behind [] t c = All-nil Fails
-  fail_behind (e ∷ es) t c =
-      let parts = IsPartitioned-parts (λ (x : Item). is_below x.key) (below e) (flat_map below es) c in
-      elim (cases_Bool (is_below e.key)) [
-        | inl h ↦ rw h (fail_behind es (All-tail (λ e. Tells e (below e)) e es t) parts.1)
-        | inr h ↦ let n = all_fail e es t c h in rw (h, n.1) n.0
-      ]
+  children_partitioned es c = λ i d inside.
+      let rest = rw (drop_more es i d inside) at (parts i es c).0 in
+      (IsPartitioned-parts (λ (x : Item). is_below x.key) (below (get_or es i d)) (flat_map below (drop (i + 1) es)) rest).0
 
   -- the items of all entries that pass do, but for those of the last
   pub pass_before : (es : List Entry) → AllTell es → IsPartitioned (λ x. is_below x.key) (flat_map below es)
       → All Passes (flat_map below (take (length (filter (λ e. is_below e.key) es) - 1) es))
-  pass_before [] t c = All-nil Passes
-  pass_before (e ∷ es) t c =
-      let others = All-tail (λ e. Tells e (below e)) e es t in
-      let parts = IsPartitioned-parts (λ (x : Item). is_below x.key) (below e) (flat_map below es) c in
-      elim (cases_Bool (is_below e.key)) [
-        | inl h ↦
-            let n = length (filter (λ (e : Entry). is_below e.key) es) in
-            let less : suc n - 1 ≡ n = omega arith in
-            rw (h, less) (one_more n refl (pass_before es others parts.1) parts.2 others)
-        | inr h ↦ let k = all_fail e es t c h in rw (h, k.1) (All-nil Passes)
+  pass_before es t c =
+      let p = λ (e : Entry). is_below e.key in
+      let k = index_in is_below es in
+      elim (parts k es c).1 [
+        | inl all ↦ all
+        | inr fail ↦
+            let none = none_pass p (drop k es) (entries_fail (drop k es) (All-drop (λ e. Tells e (below e)) k es t) fail) in
+            let count = simp (filter-append, length-append) at (ap (λ l. length (filter p l)) (take-append-drop k es)) in
+            let zero : k ≡ 0 = omega (arith, count, ap length none.0, length-items_below p (take k es), length-take k es) in
+            rw zero (All-nil Passes)
       ]
-    where
-      one_more : (n : ℕ) → n ≡ length (filter (λ e. is_below e.key) es)
-          → All Passes (flat_map below (take (length (filter (λ e. is_below e.key) es) - 1) es))
-          → All Passes (below e) ⊎ All Fails (flat_map below es) → AllTell es → All Passes (flat_map below (take n (e ∷ es)))
-      one_more zero k i w o = All-nil Passes
-      one_more (suc n) k i w o =
-          let less : length (filter (λ (e : Entry). is_below e.key) es) - 1 ≡ n = omega arith in
-          elim w [
-            | inl a ↦ All-append Passes (below e) (flat_map below (take n es)) a (rw less at i)
-            | inr b ↦ absurd (omega (arith, k, ap length (none_pass (λ (e : Entry). is_below e.key) es (entries_fail es o b)).0))
-          ]
 
   -- no item behind the last entry below the bound, or else behind the first entry, does
   pub fail_behind_index : (es : List Entry) → AllTell es → IsPartitioned (λ x. is_below x.key) (flat_map below es)
       → All Fails (flat_map below (drop (index_in is_below es + 1) es))
-  fail_behind_index es t c = from_count (length (filter (λ (e : Entry). is_below e.key) es)) es (fail_behind es t c)
-    where
-      from_count : (n : ℕ) (es : List Entry) → All Fails (flat_map below (drop n es))
-          → All Fails (flat_map below (drop (n - 1 + 1) es))
-      from_count zero [] a = a
-      from_count zero (e ∷ es) a = All-back Fails (below e) (flat_map below es) a
-      from_count (suc n) es a = let same : suc n - 1 + 1 ≡ suc n = omega arith in rw same a
+  fail_behind_index es t c =
+      let n = length (filter (λ (e : Entry). is_below e.key) es) in
+      let i = index_in is_below es + 1 in
+      let from : n + (i - n) ≡ i = omega arith in
+      let behind = behind_partitioned (λ (e : Entry). is_below e.key) es (entries_partitioned es t c) in
+      let fail = rw (drop-drop (i - n) n es, from) at (All-drop (λ e. is_below e.key ≡ false) (i - n) (drop n es) behind) in
+      all_fail (drop i es) (All-drop (λ e. Tells e (below e)) i es t) (parts i es c).0 (fail 0)
 
   pub index_inside : (es : List Entry) → 1 ≤ length es → index_in is_below es < length es
   index_inside es some = let le = length-items_below (λ (e : Entry). is_below e.key) es in omega arith

@@ -1,10 +1,10 @@
 -- Lemmas for callers: lists in which those below the bound come first.
-use Rattle.std.proofs.Common.{◌≡◌, ℕ, zero, suc, ◌+◌, ◌<◌, ◌≤◌, ◌⊎◌, Bool, true, false, not, List, [], ◌∷◌, ◌++◌, length, get_or, take, drop, filter, All, refl, ap, subst, inl, inr, arith}
+use Rattle.std.proofs.Common.{◌≡◌, ℕ, zero, suc, ◌+◌, ◌<◌, ◌≤◌, ◌⊎◌, Bool, true, false, not, List, [], ◌∷◌, ◌++◌, length, get_or, take, drop, filter, All, refl, ap, subst, ◌∙◌, inl, inr, arith, take_at, drop_at, flat_map}
 use Rattle.std.specs.List.Sorted.{IsPartitionedBy, IsPartitionPoint}
 use Rattle.std.proofs.lemmas.Bool.{cases_Bool}
 use Rattle.std.proofs.lemmas.List.{append-nil, get_or-drop, get_or-take, get_or_append_left, length-append, length-drop, length-take, take-append-drop}
 use Rattle.std.proofs.lemmas.List.Filters.{length-filter_both}
-use Rattle.std.proofs.lemmas.List.Elements.{All-nil, All-cons, All-head, All-tail, All-weaker, filter-append, filter_passes}
+use Rattle.std.proofs.lemmas.List.Elements.{All-nil, All-cons, All-head, All-tail, All-weaker, filter-append, filter_passes, All-append}
 use Rattle.tree.specs.Path.{IsPartitioned}
 
 pub not_both : (a : Bool) → a ≡ true → a ≡ false → ⊥
@@ -20,6 +20,18 @@ All-front P xs ys a = λ k d within. subst P (get_or_append_left xs ys d k withi
 pub All-back : {X : Type 0} (P : X → Type 0) (xs ys : List X) → All P (xs ++ ys) → All P ys
 All-back P [] ys a = a
 All-back P (x ∷ xs) ys a = All-back P xs ys (All-tail P x (xs ++ ys) a)
+
+-- what holds of all that is computed of each element
+pub All-joined : {X Y : Type 0} (P : Y → Type 0) (f : X → List Y) (xs : List X) → All (λ x. All P (f x)) xs → All P (flat_map f xs)
+All-joined P f [] a = All-nil P
+All-joined {X} P f (x ∷ xs) a =
+    let Q : X → Type 0 = λ x. All P (f x) in
+    All-append P (f x) (flat_map f xs) (All-head Q x xs a) (All-joined P f xs (All-tail Q x xs a))
+
+pub All-apart : {X Y : Type 0} (P : Y → Type 0) (f : X → List Y) (xs : List X) → All P (flat_map f xs) → All (λ x. All P (f x)) xs
+All-apart P f [] a = All-nil (λ x. All P (f x))
+All-apart P f (x ∷ xs) a =
+    All-cons (λ x. All P (f x)) x xs (All-front P (f x) (flat_map f xs) a) (All-apart P f xs (All-back P (f x) (flat_map f xs) a))
 
 -- a bound by recursion: behind one that fails all fail
 abbrev pub Falls : {X : Type 0} → (X → Bool) → List X → Type 0
@@ -51,12 +63,18 @@ module _ {X : Type 0} (p : X → Bool) where
       let i = none_fail xs (All-tail (λ y. p y ≡ true) x xs a) in
       (rw t (ap (λ ys. x ∷ ys) i.0), rw t i.1)
 
-  pub passed : (xs : List X) → All (λ x. p x ≡ true) (filter p xs)
-  passed xs = filter_passes p xs
-
   pub failed : (xs : List X) → All (λ x. p x ≡ false) (filter (λ x. not (p x)) xs)
   failed xs =
       All-weaker (λ x. not (p x) ≡ true) (λ x. p x ≡ false) (λ x. not_true (p x)) _ (filter_passes (λ x. not (p x)) xs)
+
+  -- what stands before and behind a bound
+  pub before_partitioned : (xs : List X) → IsPartitioned p xs → All (λ x. p x ≡ true) (take (length (filter p xs)) xs)
+  before_partitioned xs c =
+      rw (ap (take (length (filter p xs))) c ∙ take_at (filter p xs) (filter (λ x. not (p x)) xs) _ refl) (filter_passes p xs)
+
+  pub behind_partitioned : (xs : List X) → IsPartitioned p xs → All (λ x. p x ≡ false) (drop (length (filter p xs)) xs)
+  behind_partitioned xs c =
+      rw (ap (drop (length (filter p xs))) c ∙ drop_at (filter p xs) (filter (λ x. not (p x)) xs) _ refl) (failed xs)
 
   all_behind : (x : X) (xs ys zs : List X) → p x ≡ false → All (λ y. p y ≡ true) ys
       → All (λ y. p y ≡ false) zs → x ∷ xs ≡ ys ++ x ∷ zs → All (λ y. p y ≡ false) xs
@@ -69,7 +87,7 @@ module _ {X : Type 0} (p : X → Bool) where
   Falls-below_from (x ∷ xs) e =
       elim (cases_Bool (p x)) [
         | inl t ↦ let k = rw t at e in inl (t, Falls-below_from xs (cc))
-        | inr f ↦ inr (f, all_behind x xs (filter p xs) (filter (λ y. not (p y)) xs) f (passed xs) (failed xs) (rw f at e))
+        | inr f ↦ inr (f, all_behind x xs (filter p xs) (filter (λ y. not (p y)) xs) f (filter_passes p xs) (failed xs) (rw f at e))
       ]
 
   pub IsPartitioned-from_falls : (xs : List X) → Falls p xs → IsPartitioned p xs

@@ -1,6 +1,5 @@
 -- Lemmas for callers: how often a slot stands in a list. Distinct slots are those that stand there once at most.
-use Rattle.std.proofs.Common.{◌≡◌, ◌≢◌, ◌⊎◌, inl, inr, ℕ, zero, suc, ◌+◌, ◌≤◌, false, cond, List, [], ◌∷◌, ◌++◌, refl, sym, ap, arith}
-use Rattle.std.specs.Prelude.{nat_eq}
+use Rattle.std.proofs.Common.{◌≡◌, ◌≢◌, ◌⊎◌, inl, inr, ℕ, zero, suc, ◌+◌, ◌≤◌, false, cond, List, [], ◌∷◌, ◌++◌, refl, sym, ap, arith, nat_eq}
 use Rattle.std.specs.List.{Contains, IsDistinct, AllByRecursion}
 use Rattle.std.proofs.lemmas.Bool.{eq-eqb, ne_eqb, eqb-false}
 use Rattle.std.proofs.lemmas.Bool.Decides.{eqb_tells}
@@ -45,8 +44,7 @@ contains_if_times s (x ∷ xs) h = elim (once_cases s x) [
 ]
 
 pub times_unless_contains : (s : ℕ) (xs : List ℕ) → ¬ Contains xs s → times s xs ≡ 0
-times_unless_contains s xs without =
-    elim (none_or_some (times s xs)) [ inl none ↦ none | inr some ↦ absurd (without (contains_if_times s xs some)) ]
+times_unless_contains s xs without = grind (arith, none_or_some (times s xs), contains_if_times s xs)
 
 -- an element that no other is equal to
 none_later : (x : ℕ) (xs : List ℕ) → AllByRecursion (λ y. nat_eq x y ≡ false) xs → times x xs ≡ 0
@@ -61,10 +59,7 @@ differs_later x (y ∷ ys) h =
 pub once_if_distinct : (xs : List ℕ) → IsDistinct nat_eq xs → (s : ℕ) → times s xs ≤ 1
 unfolding IsDistinct
 once_if_distinct [] h s = omega arith
-once_if_distinct (x ∷ xs) h s = elim (once_cases s x) [
-  | inl same ↦ omega (arith, same.1, ap (λ n. times n xs) same.0, none_later x xs h.0)
-  | inr other ↦ omega (arith, other.1, once_if_distinct xs h.1 s)
-]
+once_if_distinct (x ∷ xs) h s = grind (arith, once_cases s x, none_later x xs h.0, once_if_distinct xs h.1 s)
 
 pub distinct_if_once : (xs : List ℕ) → ((s : ℕ) → times s xs ≤ 1) → IsDistinct nat_eq xs
 unfolding IsDistinct

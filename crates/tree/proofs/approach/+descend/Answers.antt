@@ -1,12 +1,7 @@
 use Rattle.std.proofs.Common.{rules, ◌≡◌, ◌≤◌, ℕ, ◌+◌, ◌-◌, Bool, false, List, length, filter, get_or, Option, Some, refl, arith}
 use Rattle.std.proofs.lemmas.Option.{slice_get_read}
-use Rattle.tree.specs.declared.entry.Entry.{Entry}
-use Rattle.tree.specs.Finding.{CanStep}
-use Rattle.tree.specs.Question.{IsTold}
+use Rattle.tree.proofs.Words.{Entry, CanStep, IsTold, entries_of, entries_at, items_in, least_of}
 use Rattle.tree.proofs.Approaches.{approach_wider}
-use Rattle.tree.specs.Node.{entries_of}
-use Rattle.tree.specs.Subtree.{entries_at, items_in}
-use Rattle.tree.specs.Tree.{least_of}
 use Rattle.tree.proofs.Above.{at_most_tested}
 use Rattle.tree.proofs.FirstKeys.{knows_child}
 use Rattle.tree.proofs.Frames.{IsRight}

@@ -1,12 +1,9 @@
-use Rattle.std.proofs.Common.{rules, Some, IsTrue, sym, ◌∙◌, arith}
-use Rattle.std.proofs.lemmas.Bool.{leb-true}
-use Rattle.tree.specs.Heads.{HasPrefix}
-use Rattle.tree.specs.Node.{key_heads_of}
+use Rattle.std.proofs.Common.{rules, Some, IsTrue, sym, ◌∙◌, arith, leb-true}
+use Rattle.tree.proofs.Words.{HasPrefix, key_heads_of}
 use Rattle.tree.proofs.Headed.{key_heads_kept}
 use Rattle.tree.proofs.NearBounds.{agrees_too, begin_alike, fewer_alike}
 use Rattle.tree.proofs.callers.Partitions.{not_both}
 use Rattle.tree.proofs.approach.end_head.Goals as goal
-use Rattle.tree.proofs.approach.end_head.Goals.{then-is_some, else-is_some}
 
 pub head_given-requires : goal.head_given-requires
 head_given-requires g c =
@@ -18,12 +15,12 @@ head_given-requires g c =
     let other = g.Q.Bound.target question.to in
     let agrees : IsTrue c.if-is_some.agrees → HasPrefix near key_heads other =
     elim c.if-is_some.branch [
-      | then-is_some w ↦
+      | goal.then-is_some w ↦
           λ yes.
           let short = leb-true w.prefix_len.result question.targets_prefix_len (sym w.agrees-is ∙ yes) in
           agrees_too near bytes key_heads other _ _ c.args.own question.bytes c.requires.searched.own_head
           (sym c.is_some.ensures ∙ w.if-is_some.true) (omega (arith, short, w.prefix_len.ensures.prefix_len)) question.begin_alike
-      | else-is_some w ↦ λ yes. absurd (not_both _ yes (w.agrees-is ∙ w.if-is_some.false))
+      | goal.else-is_some w ↦ λ yes. absurd (not_both _ yes (w.agrees-is ∙ w.if-is_some.false))
     ] in
     let fewer = fewer_alike c.min.result _ _ other (omega (arith, c.min.ensures)) question.begin_alike in
     let alike = begin_alike bytes near (g.P.Bound.below question.from) _ other _ (Some c.args.common_prefix_len)

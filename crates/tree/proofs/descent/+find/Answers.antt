@@ -1,11 +1,8 @@
-use Rattle.std.proofs.Common.{length, ◌<◌, rules, ℕ, get_or, ◌≤◌, ◌∙◌, ap, sym, refl, arith}
-use Rattle.tree.specs.Node.{entries_of}
-use Rattle.tree.specs.Path.{index_in}
-use Rattle.tree.specs.Tree.{least_of}
-use Rattle.tree.proofs.Found.{IsFound, entries_read, found, found_subtree, found_partitioned, found_leaf}
+use Rattle.std.proofs.Common.{rules, ℕ, get_or, ◌≤◌, ◌∙◌, ap, sym, arith}
+use Rattle.tree.proofs.Words.{index_in, least_of}
+use Rattle.tree.proofs.Found.{IsFound, found, found_subtree, found_partitioned, found_leaf}
 use Rattle.tree.proofs.FirstKeys.{known_below, some_below}
-use Rattle.tree.proofs.Headed.{headed_at}
-use Rattle.tree.proofs.Looks.{look_bound}
+use Rattle.tree.proofs.Looks.{can_step_at}
 use Rattle.tree.proofs.Keys.{key_behind_child}
 use Rattle.tree.proofs.descent.+find.Given.{Over}
 use Rattle.tree.proofs.descent.+find.Goals as goal
@@ -13,16 +10,8 @@ use Rattle.tree.proofs.descent.+find.Goals.{After-index-entries-step}
 
 pub step-step-requires : goal.step-step-requires
 step-step-requires g t c =
-    let header = c.header_ref-node.result.now in
-    let h = c.header_ref-node.ensures.header in
-    let read = entries_read c.args.nodes.now c.args.slot header (entries_of header) h refl in
-    let can = c.requires.can_reach in
-    let some = rw read at can.some in
-    let positive : 0 < length (entries_of header) = omega (arith, some) in
-    let headed = headed_at (g.P.Bound.bytes c.args.bound.now) c.args.nodes.now c.args.slot header can.headed h in
-    let is_below = g.P.Bound.below c.args.bound.now in
-    let partitioned = look_bound _ _ c.args.height _ is_below header (entries_of header) can.subtree can.partitioned h refl in
-    search (rules, headed, partitioned, positive, rw read at c.requires.known)
+    let can = can_step_at c.requires.can_reach c.requires.known c.header_ref-node.ensures.header in
+    search rules
 
 -- the child at which the search goes on
 child_found : (g : Over) (t : ℕ) (c : After-index-entries-step g t)

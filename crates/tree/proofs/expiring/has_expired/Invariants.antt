@@ -1,6 +1,5 @@
 use Rattle.std.proofs.Common.{◌≡◌, drop, map}
-use Rattle.tree.specs.Item.{item_of}
-use Rattle.tree.specs.Tree.{expired}
+use Rattle.tree.proofs.Words.{item_of, expired}
 use Rattle.tree.proofs.expiring.has_expired.Given as goal
 
 -- those that go are behind the entries so far

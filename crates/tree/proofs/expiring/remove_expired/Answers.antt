@@ -3,11 +3,9 @@ use Rattle.std.proofs.Math.Bool.{and-false}
 use Rattle.std.proofs.lemmas.Int.{to_z-of_z}
 use Rattle.std.proofs.lemmas.List.{length-map, map-append}
 use Rattle.std.proofs.lemmas.Option.{slice_get_read}
-use Rattle.tree.specs.Item.{item_of}
-use Rattle.tree.specs.Node.{entries_of}
+use Rattle.tree.proofs.Words.{item_of, entries_of}
 use Rattle.tree.proofs.Removing.{one_stays, one_goes, not_below, is_below, all_kept, all_expired}
 use Rattle.tree.proofs.expiring.remove_expired.Goals as goal
-use Rattle.tree.proofs.expiring.remove_expired.Goals.{then-last-edge, else-last-edge, then-version-edge, else-version-edge}
 
 pub push-requires : goal.push-requires
 push-requires g c =
@@ -32,12 +30,12 @@ loop-index-preserved g c =
     let is = rw c.entries.ensures.entries at c.index-entries-index.is in
     let inv = c.loop-index.invariant in
     elim c.if-version-edge.branch [
-      | then-version-edge w ↦
+      | goal.then-version-edge w ↦
           let nodes = w.copy.ensures.entries e (slice_get_read now (length now) _ e refl
           (omega (arith, inv.removal.same_length, c.requires.within, c.loop-index-test.true)) is) in
           let both : (int_lt last edge && int_lt e.version edge) ≡ false = elim c.if-last-edge.branch [
-            | then-last-edge u ↦ rw (not_below edge last u.if-last-edge.true) refl
-            | else-last-edge u ↦
+            | goal.then-last-edge u ↦ rw (not_below edge last u.if-last-edge.true) refl
+            | goal.else-last-edge u ↦
                 rw (not_below edge e.version (rw same at (sym u.value-is ∙ w.if-version-edge.true))) (and-false _)
           ] in
           record {
@@ -45,10 +43,10 @@ loop-index-preserved g c =
                 (one_stays inv.removal c.requires.within e c.loop-index-test.true is both);
             headed = λ bytes h. rw w.node-is (w.copy.ensures.headed bytes (inv.headed bytes h));
           }
-      | else-version-edge w ↦
+      | goal.else-version-edge w ↦
           let both : (int_lt last edge && int_lt e.version edge) ≡ true = elim c.if-last-edge.branch [
-            | then-last-edge u ↦ absurd (cc)
-            | else-last-edge u ↦
+            | goal.then-last-edge u ↦ absurd (cc)
+            | goal.else-last-edge u ↦
                 let below = is_below edge e.version (rw same at (sym u.value-is ∙ w.if-version-edge.false)) in
                 rw (is_below edge last u.if-last-edge.false, below) refl
           ] in

@@ -1,7 +1,5 @@
 use Rattle.std.proofs.Common.{map}
-use Rattle.tree.specs.Item.{item_of}
-use Rattle.tree.specs.Heads.{KeyBytes, AreHeads}
-use Rattle.tree.specs.Node.{entries_of, key_heads_of}
+use Rattle.tree.proofs.Words.{item_of, KeyBytes, AreHeads, entries_of, key_heads_of}
 use Rattle.tree.proofs.Removing.{RemovesExpired}
 use Rattle.tree.proofs.expiring.remove_expired.Given as goal
 

@@ -1,31 +1,25 @@
-use Rattle.std.proofs.Common.{◌≡◌, List, [], ◌∷◌, get_or, length, slice_set, ap, ◌∙◌, arith}
+use Rattle.std.proofs.Common.{◌≡◌, ℕ, ◌+◌, ◌<◌, List, get_or, length, slice_set, take, take_all, refl, arith, length-set, ◌∙◌}
+use Rattle.std.proofs.lemmas.List.{take_more, take_more_set}
 use Rattle.tree.proofs.node.copy_few.Goals as goal
 
--- the only element
-one : {X : Type 0} (xs ys : List X) (x : X) → length xs ≡ 1 → length ys ≡ length xs → x ≡ get_or xs 0 x → slice_set ys 0 x ≡ xs
-one [] ys x single same is = absurd (omega arith)
-one (a ∷ b ∷ xs) ys x single same is = absurd (omega arith)
-one (a ∷ []) [] x single same is = absurd (omega arith)
-one (a ∷ []) (c ∷ d ∷ ys) x single same is = absurd (omega arith)
-one (a ∷ []) (c ∷ []) x single same is = ap (λ y. y ∷ []) is
+module _ {X : Type 0} (xs : List X) where
+  -- one element more is copied
+  more : (ys : List X) (i : ℕ) (x : X) → i < length xs → length ys ≡ length xs → x ≡ get_or xs i x → take i ys ≡ take i xs
+      → take (i + 1) (slice_set ys i x) ≡ take (i + 1) xs
+  more ys i x inside same is before = cc (take_more xs i x inside, take_more_set ys i x (omega arith))
 
--- both of two
-two : {X : Type 0} (xs ys : List X) (x y : X) → length xs ≡ 2 → length ys ≡ length xs → x ≡ get_or xs 0 x → y ≡ get_or xs 1 y
-    → slice_set (slice_set ys 0 x) 1 y ≡ xs
-two [] ys x y both same first second = absurd (omega arith)
-two (a ∷ []) ys x y both same first second = absurd (omega arith)
-two (a ∷ b ∷ c ∷ xs) ys x y both same first second = absurd (omega arith)
-two (a ∷ b ∷ []) [] x y both same first second = absurd (omega arith)
-two (a ∷ b ∷ []) (c ∷ []) x y both same first second = absurd (omega arith)
-two (a ∷ b ∷ []) (c ∷ d ∷ e ∷ ys) x y both same first second = absurd (omega arith)
-two (a ∷ b ∷ []) (c ∷ d ∷ []) x y both same first second = ap (λ z. z ∷ y ∷ []) first ∙ ap (λ z. a ∷ z ∷ []) second
+  -- all are
+  whole : (ys : List X) (n : ℕ) → length xs ≡ n → length ys ≡ length xs → take n ys ≡ take n xs → ys ≡ xs
+  whole ys n all same is = cc (take_all n xs (omega arith), take_all n ys (omega arith))
 
 pub returns-in-1 : goal.returns-in-1
-returns-in-1 g c = record {
-  copied = one _ _ _ (omega (arith, c.in-1.is)) c.requires.same_len c.index-from-0.is;
-}
+returns-in-1 g c =
+    let one = more c.args.from.now _ 0 _ (omega (arith, c.in-1.is)) c.requires.same_len c.index-from-0.is refl in
+    record { copied = whole _ _ 1 (omega (arith, c.in-1.is)) (length-set _ _ _ ∙ c.requires.same_len) one }
 
 pub returns-in-2 : goal.returns-in-2
-returns-in-2 g c = record {
-  copied = two _ _ _ _ (omega (arith, c.in-2.is)) c.requires.same_len c.index-from-0-in-2.is c.index-from-1.is;
-}
+returns-in-2 g c =
+    let same = c.requires.same_len in
+    let one = more c.args.from.now _ 0 _ (omega (arith, c.in-2.is)) same c.index-from-0-in-2.is refl in
+    let two = more _ _ 1 _ (omega (arith, c.in-2.is)) (length-set _ _ _ ∙ same) c.index-from-1.is one in
+    record { copied = whole _ _ 2 (omega (arith, c.in-2.is)) (length-set _ _ _ ∙ length-set _ _ _ ∙ same) two }

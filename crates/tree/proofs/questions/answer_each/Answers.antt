@@ -1,5 +1,4 @@
-use Rattle.std.proofs.Common.{rules, ◌∷◌, [], length, take, refl, length-append, arith}
-use Rattle.std.proofs.lemmas.List.{length-take}
+use Rattle.std.proofs.Common.{rules, ◌∷◌, [], length, take, refl, length-append, arith, length-take}
 use Rattle.std.proofs.lemmas.Slice.Zip.{AllZip-long, zip_turn, zip_end}
 use Rattle.tree.proofs.InTurn.{AllZip-at, AllZip-turn, AllZip-whole}
 use Rattle.tree.proofs.questions.answer_each.Goals as goal

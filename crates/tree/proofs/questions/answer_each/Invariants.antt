@@ -1,8 +1,6 @@
-use Rattle.std.proofs.Common.{Some, IsTrue, length, take}
-use Rattle.std.specs.Prelude.{◌↔◌, ◌<ℤ◌}
+use Rattle.std.proofs.Common.{Some, IsTrue, length, take, ◌↔◌, ◌<ℤ◌}
 use Rattle.std.specs.List.{AllZip, Any}
-use Rattle.tree.specs.Path.{from_last}
-use Rattle.tree.specs.Subtree.{items_in}
+use Rattle.tree.proofs.Words.{from_last, items_in}
 use Rattle.tree.proofs.questions.answer_each.Given as goal
 
 abbrev pub invariant-loop-question : goal.invariant-loop-question

@@ -1,5 +1,4 @@
-use Rattle.std.proofs.Common.{rules, take, refl, arith}
-use Rattle.std.proofs.lemmas.List.{length-take}
+use Rattle.std.proofs.Common.{rules, take, refl, arith, length-take}
 use Rattle.std.proofs.lemmas.Slice.Zip.{AllZip-long}
 use Rattle.tree.proofs.InTurn.{AllZip-turn}
 use Rattle.tree.proofs.questions.descend_each.Goals as goal

@@ -1,5 +1,4 @@
-use Rattle.std.proofs.Common.{rules, ◌≤◌, ◌∷◌, ◌∙◌, [], refl, length, arith, length-append}
-use Rattle.std.proofs.lemmas.List.{take_all}
+use Rattle.std.proofs.Common.{rules, ◌≤◌, ◌∷◌, ◌∙◌, [], refl, length, arith, length-append, take_all}
 use Rattle.std.proofs.lemmas.Slice.Zip.{AllZip-long, zip_turn, zip_end}
 use Rattle.tree.specs.declared.questions.Look.{Look}
 use Rattle.tree.proofs.InTurn.{AllZip-at, AllZip-turn, AllZip-whole, map-turn}

@@ -1,19 +1,13 @@
-use Rattle.std.proofs.Common.{◌≡◌, ◌<◌, ◌∷◌, refl, drop-cons, length, drop, sym, ◌∙◌, rules}
-use mir.Syntax.{w64}
+use Rattle.std.proofs.Common.{◌≡◌, ◌<◌, ◌∷◌, refl, drop-cons, length, drop, sym, ◌∙◌, rules, w64, arith}
 use Rattle.std.proofs.lemmas.Int.{to_z-of_z}
-use Rattle.tree.specs.Subtree.{entries_at}
+use Rattle.tree.proofs.Words.{entries_at}
 use Rattle.tree.proofs.Placing.{entries_from_header}
 use Rattle.tree.proofs.Telling.{tells_items}
-use Rattle.tree.specs.Heads.{IsKnown}
 use Rattle.tree.proofs.Headed.{common_prefix_len_at}
-use Rattle.tree.proofs.KnownKeys.{key_of_one}
 use Rattle.tree.proofs.rebalance.entry_for.Goals as goal
 
 pub returns : goal.returns
 returns g c =
-    let a = c.args.nodes.now in
-    let e = c.index-entries-0.result in
-    let xs = c.entries.result.now in
     let here = entries_from_header a c.args.child _ c.header_ref-node.ensures.header in
     let same : entries_at a c.args.child ≡ xs = here ∙ sym c.entries.ensures.entries in
     let some : 0 < length xs = rw (← same) c.requires.some in
@@ -24,6 +18,8 @@ returns g c =
       child = refl;
       tells = λ height least h. tells_items a least height c.args.child _ e (drop 1 xs) (same ∙ parts) (cc)
           (rw (to_z-of_z w64 c.greatest.result (search rules)) greatest) h;
-      known = λ bytes headed. key_of_one (IsKnown bytes) xs 0 _ some
-          (rw (← same) (common_prefix_len_at bytes a c.args.child headed));
+      known = λ bytes headed. rw (← c.index-entries-0.is)
+          ((rw (same ∙ parts) at (common_prefix_len_at bytes a c.args.child headed)) 0 e.key (omega arith));
     }
+  where
+    open c use {args.{nodes.{now as a}}, index-entries-0.{result as e}, entries.{result.{now as xs}}}

@@ -9,12 +9,11 @@ use Rattle.tree.proofs.rebalance.merge.Goals as goal
 
 pub release-requires : goal.release-requires
 release-requires g c =
-    let a = c.args.nodes.now in
-    let merged = c.append_with_heads.new.self in
     let b = with_header a c.args.first merged in
-    let two = c.requires.two in
     let kept = put_others a b c.args.first merged refl c.args.second (λ same. two.apart (sym same)) in
     record { live = live_same a b c.args.second kept two.live_second }
+  where
+    open c use {args.{nodes.{now as a}}, append_with_heads.{new.{self as merged}}, requires.{two}}
 
 pub append_with_heads-requires : goal.append_with_heads-requires
 append_with_heads-requires g c =
@@ -28,14 +27,7 @@ append_with_heads-requires g c =
 
 pub returns : goal.returns
 returns g c =
-    let a = c.args.nodes.now in
-    let merged = c.append_with_heads.new.self in
     let b = with_header a c.args.first merged in
-    let d = c.release.new.self in
-    let x = c.args.first in
-    let y = c.args.second in
-    let two = c.requires.two in
-    let release = c.release.ensures in
     let first_was = entries_from_header a x _ c.header_mut.ensures.header in
     let second_was = entries_from_header a y _ c.header-right.ensures.header in
     let first_is = put_entries a b x merged refl in
@@ -51,3 +43,6 @@ returns g c =
           (moves_second b d x y [] two.apart (put_live a b x merged refl) expired));
       headed = headed_released _ b d y headed release.released release.others;
     }
+  where
+    open c use {args.{nodes.{now as a}, first as x, second as y}, append_with_heads.{new.{self as merged}}}
+    open c use {release.{new.{self as d}, ensures as release}, requires.{two}}

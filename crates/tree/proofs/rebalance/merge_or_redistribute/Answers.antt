@@ -1,17 +1,13 @@
-use Rattle.std.proofs.Common.{◌≡◌, ◌≤◌, ◌+◌, ℕ, List, [], ◌∷◌, append-nil, length, length-append, length-drop, length-set, length-take, get_or, ap, ◌∙◌, sym, arith, rules}
-use Rattle.tree.specs.declared.entry.Entry.{Entry}
-use Rattle.tree.specs.Node.{entries_of}
-use Rattle.tree.specs.Rebalancing.{AreTwo}
-use Rattle.tree.specs.Subtree.{entries_at}
+use Rattle.std.proofs.Common.{◌≡◌, ◌≤◌, ◌+◌, ℕ, List, [], ◌∷◌, append-nil, length, length-append, length-drop, length-set, length-take, get_or, ap, ◌∙◌, sym, arith, rules, ◌≢◌}
+use Rattle.tree.proofs.Words.{Entry, entries_of, AreTwo, entries_at, least_of}
 use Rattle.std.proofs.lemmas.List.Elements.{All-nil, All-cons}
 use Rattle.tree.proofs.Changing.{moves_if_changes}
-use Rattle.tree.specs.Tree.{least_of}
 use Rattle.tree.proofs.Placing.{entries_from_header, live_if_some}
 use Rattle.tree.proofs.Sharing.{around_two, child_is, made, rebalanced_by, set_removed, set_both, IsMade}
 use Rattle.tree.proofs.Rebalancing.{apart_pair, live_subtree}
-use Rattle.tree.proofs.rebalance.merge_or_redistribute.Goals.{After-index-entries-index-2}
 use Rattle.tree.proofs.rebalance.merge_or_redistribute.Given as given
 use Rattle.tree.proofs.rebalance.merge_or_redistribute.Goals as goal
+use Rattle.tree.proofs.rebalance.merge_or_redistribute.Goals.{After-index-entries-index-2}
 
 -- the children at the index and behind it
 module _ (g : given.Over) (c : After-index-entries-index-2 g) where
@@ -43,20 +39,16 @@ module _ (g : given.Over) (c : After-index-entries-index-2 g) where
       let live = live_subtree c.args.nodes.now (least_of g.row.N) f.0 in
       let apart = apart_pair c.args.nodes.now (least_of g.row.N) f.0 es c.args.index c.index-entries-index.result
       c.index-entries-index-2.result can.within f.1 in
-      record {
-        live_first = live first (rw first_is (f.1.below c.args.index c.index-entries-index.result (omega arith)));
-        live_second = live second (rw second_is (f.1.below (c.args.index + 1) c.index-entries-index-2.result can.within));
-        apart = λ same. apart (sym first_is ∙ same ∙ second_is);
-        keyless = can.keyless;
-        headed = can.headed;
-      }
+      let live_first = live first (rw first_is (f.1.below c.args.index c.index-entries-index.result (omega arith))) in
+      let live_second = live second (rw second_is (f.1.below (c.args.index + 1) c.index-entries-index-2.result can.within)) in
+      let differ : first ≢ second = λ same. apart (sym first_is ∙ same ∙ second_is) in
+      search rules
 
   filled : least_of g.row.N ≤ length (entries_at c.args.nodes.now first) + length (entries_at c.args.nodes.now second)
   filled =
       let can = c.requires.can_merge in
-      let child = child_is es c.args.index c.index-entries-index.result (omega arith) in
       let child_next = child_is es (c.args.index + 1) c.index-entries-index-2.result can.within in
-      rw (first_is, second_is, ← child, ← child_next) can.filled
+      rw (first_is, second_is, ← child_is es c.args.index c.index-entries-index.result (omega arith), ← child_next) can.filled
 
 pub header_ref-requires : goal.header_ref-requires
 header_ref-requires g c = record { live = (two g c).live_first }
@@ -66,25 +58,22 @@ header_ref-requires-2 g c = record { live = (two g (goal.at.header_ref-requires-
 
 pub merge-requires : goal.merge-requires
 merge-requires g c =
-    let s = (goal.at.merge-requires g c).After-index-entries-index-2 in
-    let first_was = entries_from_header c.args.nodes.now (first g s) _ c.header_ref.ensures.header in
-    let second_was = entries_from_header c.args.nodes.now (second g s) _ c.header_ref-2.ensures.header in
-    (search rules, (two g s, rw (first_was, second_was) (omega arith)))
+    let first_was = entries_from_header c.args.nodes.now _ _ c.header_ref.ensures.header in
+    let second_was = entries_from_header c.args.nodes.now _ _ c.header_ref-2.ensures.header in
+    (search rules, (two g (goal.at.merge-requires g c).After-index-entries-index-2, rw (first_was, second_was) (omega arith)))
 
 pub redistribute-requires : goal.redistribute-requires
 redistribute-requires g c =
-    let s = (goal.at.redistribute-requires g c).After-index-entries-index-2 in
-    let first_was = entries_from_header c.args.nodes.now (first g s) _ c.header_ref.ensures.header in
-    let second_was = entries_from_header c.args.nodes.now (second g s) _ c.header_ref-2.ensures.header in
-    (search rules, (two g s, rw (first_was, second_was) (omega arith)))
+    let first_was = entries_from_header c.args.nodes.now _ _ c.header_ref.ensures.header in
+    let second_was = entries_from_header c.args.nodes.now _ _ c.header_ref-2.ensures.header in
+    (search rules, (two g (goal.at.redistribute-requires g c).After-index-entries-index-2, rw (first_was, second_was) (omega arith)))
 
 pub entry_for-requires : goal.entry_for-requires
 entry_for-requires g c =
     let s = (goal.at.entry_for-requires g c).After-index-entries-index-2 in
-    let b = c.merge.new.nodes in
     let all = simp length-append at (ap length c.merge.ensures.entries) in
-    let some : 1 ≤ length (entries_at b (first g s)) = omega (arith, filled g s, all) in
-    (search rules, (live_if_some b (first g s) some, some))
+    let some : 1 ≤ length (entries_at c.merge.new.nodes (first g s)) = omega (arith, filled g s, all) in
+    (search rules, (live_if_some c.merge.new.nodes (first g s) some, some))
 
 pub entry_for-requires-2 : goal.entry_for-requires-2
 entry_for-requires-2 g c = (search rules, (live_if_some c.redistribute.new.nodes _ (omega arith), omega arith))
@@ -94,16 +83,10 @@ entry_for-requires-3 g c = (search rules, (live_if_some c.redistribute.new.nodes
 
 pub returns-then-count-clause-rebalanced : goal.returns-then-count-clause-rebalanced
 returns-then-count-clause-rebalanced g c height family =
-    let a = c.args.nodes.now in
-    let b = c.merge.new.nodes in
-    let i = c.args.index in
     let least = least_of g.row.N in
     let s = (goal.at.returns-then-count-clause-rebalanced g c).After-index-entries-index-2 in
     let x = first g s in
     let y = second g s in
-    let child = c.entry_for.ensures.child in
-    let within = c.requires.can_merge.within in
-    let merge = c.merge.ensures in
     let many : least ≤ length (entries_at b x) = omega (arith, filled g s, simp length-append at (ap length merge.entries)) in
     let is = made b least height x c.entry_for.result child (omega (arith, many)) many (c.entry_for.ensures.tells height least) in
     let P = IsMade b least height in
@@ -113,22 +96,16 @@ returns-then-count-clause-rebalanced g c height family =
     (All-cons P c.entry_for.result [] is (All-nil P))
     (cc (append-nil (entries_at b x), append-nil (entries_at a y), first_is g s, second_is g s, merge.entries))
     (rw (← first_is g s, ← second_is g s, child) (moves_if_changes a b (x ∷ y ∷ []) (x ∷ []) merge.changes))
+  where
+    open c use {args.{nodes.{now as a}, index as i}, merge.{new.{nodes as b}, ensures as merge}, entry_for.{ensures.{child}}}
+    open c use {requires.{can_merge.{within}}}
 
 pub returns-clause-rebalanced : goal.returns-clause-rebalanced
 returns-clause-rebalanced g c height family =
-    let a = c.args.nodes.now in
-    let b = c.redistribute.new.nodes in
-    let i = c.args.index in
     let least = least_of g.row.N in
     let s = (goal.at.returns-clause-rebalanced g c).After-index-entries-index-2 in
     let x = first g s in
     let y = second g s in
-    let t = c.entry_for-2.result in
-    let u = c.entry_for-3.result in
-    let t_is = c.entry_for-2.ensures in
-    let u_is = c.entry_for-3.ensures in
-    let shared = c.redistribute.ensures in
-    let within = c.requires.can_merge.within in
     let P = IsMade b least height in
     let one = made b least height x t t_is.child (omega arith) (omega (arith, shared.filled.left)) (t_is.tells height least) in
     let other = made b least height y u u_is.child (omega arith) (omega (arith, shared.filled.right)) (u_is.tells height least) in
@@ -138,6 +115,10 @@ returns-clause-rebalanced g c height family =
     (All-cons P t (u ∷ []) one (All-cons P u [] other (All-nil P)))
     (cc (append-nil (entries_at b y), append-nil (entries_at a y), first_is g s, second_is g s, shared.entries))
     (rw (← first_is g s, ← second_is g s, t_is.child, u_is.child) (moves_if_changes a b (x ∷ y ∷ []) (x ∷ y ∷ []) shared.changes))
+  where
+    open c use {args.{nodes.{now as a}, index as i}, redistribute.{new.{nodes as b}, ensures as shared}}
+    open c use {entry_for-2.{result as t, ensures as t_is}, entry_for-3.{result as u, ensures as u_is}}
+    open c use {requires.{can_merge.{within}}}
 
 pub returns-then-count-clause-rest : goal.returns-then-count-clause-rest
 returns-then-count-clause-rest g c =

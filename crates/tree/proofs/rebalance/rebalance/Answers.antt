@@ -1,8 +1,5 @@
 use Rattle.std.proofs.Common.{◌≡◌, ◌≤◌, ◌-◌, length, length-set, get_or, ap, ◌∙◌, arith, rules}
-use Rattle.tree.specs.Rebalancing.{CanMerge}
-use Rattle.tree.specs.Node.{entries_of}
-use Rattle.tree.specs.Subtree.{entries_at}
-use Rattle.tree.specs.Tree.{least_of}
+use Rattle.tree.proofs.Words.{CanMerge, entries_of, entries_at, least_of}
 use Rattle.tree.proofs.Placing.{entries_from_header}
 use Rattle.tree.proofs.Sharing.{set_one}
 use Rattle.tree.proofs.Rebalancing.{live_subtree, rebalanced_by_entry, widened, filled_pair}
@@ -16,29 +13,24 @@ header_ref-requires g c =
 
 pub returns-then-len-least-clause-rebalanced : goal.returns-then-len-least-clause-rebalanced
 returns-then-len-least-clause-rebalanced g c height family =
-    let a = c.args.nodes.now in
     let es = entries_of c.args.node.now in
     let least = least_of g.row.N in
-    let can = c.requires.can_rebalance in
-    let d = c.index-entries-index.result in
     let x = (get_or c.entries.result.now c.args.index d).child in
     let x_is : x ≡ (get_or es c.args.index d).child = cc (c.entries.ensures.entries) in
-    let t = c.entry_for.ensures in
     let len = ap length (entries_from_header a x _ c.header_ref.ensures.header) in
     let filled : least ≤ length (entries_at a x) =
     omega (arith, len, c.len.ensures.len, c.least.ensures.least, c.if-len-least.true) in
     rebalanced_by_entry a least height es _ c.args.index x d c.entry_for.result can.within x_is family can.keyless t.child
     (t.tells height least) filled (c.set_with_head.ensures.entries ∙ set_one es c.args.index c.entry_for.result can.within)
+  where
+    open c use {args.{nodes.{now as a}}, requires.{can_rebalance as can}, index-entries-index.{result as d}}
+    open c use {entry_for.{ensures as t}}
 
 pub merge_or_redistribute-requires : goal.merge_or_redistribute-requires
 merge_or_redistribute-requires g c =
-    let a = c.args.nodes.now in
     let least = least_of g.row.N in
     let es = entries_of c.args.node.now in
-    let i = c.args.index in
-    let can = c.requires.can_rebalance in
     let f = can.family in
-    let j = c.saturating_sub.result in
     let j_is : j ≡ i - 1 = c.saturating_sub.ensures in
     let can_merge : CanMerge _ a es j = record {
       fan_out = can.fan_out;
@@ -49,6 +41,8 @@ merge_or_redistribute-requires g c =
       headed = can.headed;
     } in
     (search rules, (can_merge, c.requires.headed))
+  where
+    open c use {args.{nodes.{now as a}, index as i}, requires.{can_rebalance as can}, saturating_sub.{result as j}}
 
 pub set_with_head-requires : goal.set_with_head-requires
 set_with_head-requires g c =

@@ -27,16 +27,7 @@ redistribute_with_heads-requires g c =
 
 pub returns : goal.returns
 returns g c =
-    let left = c.redistribute_with_heads.new.self in
-    let right = c.redistribute_with_heads.new.right in
-    let a = c.args.nodes.now in
     let b = with_header a c.args.first left in
-    let d = c.set_header.new.self in
-    let x = c.args.first in
-    let y = c.args.second in
-    let two = c.requires.two in
-    let given = c.redistribute_with_heads.ensures in
-    let replaced = c.set_header.ensures.replaced in
     let left_was = entries_from_header a x _ c.header_mut-left.ensures.header in
     let right_was = entries_from_header a y _ c.header-right.ensures.header in
     let left_is = entries_same b d x (put_others b d y right replaced x two.apart) ∙ put_entries a b x left refl in
@@ -52,3 +43,7 @@ returns g c =
           (moves_second b d x y (y ∷ []) two.apart (put_live a b x left refl) then));
       headed = headed_header _ b d y right replaced headed given.headed.right;
     }
+  where
+    open c use {redistribute_with_heads.{new.{self as left, right}, ensures as given}}
+    open c use {args.{nodes.{now as a}, first as x, second as y}, set_header.{new.{self as d}, ensures.{replaced}}}
+    open c use {requires.{two}}

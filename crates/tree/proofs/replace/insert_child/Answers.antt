@@ -1,8 +1,5 @@
 use Rattle.std.proofs.Common.{◌≡◌, ◌+◌, ◌∷◌, ◌++◌, List, take, drop, refl, sym, ap, get_or, ◌∙◌}
-use Rattle.arena.specs.Arena.{with_header}
-use Rattle.tree.specs.declared.entry.Entry.{Entry}
-use Rattle.tree.specs.Subtree.{entries_at}
-use Rattle.tree.specs.Replace.{child_at}
+use Rattle.tree.proofs.Words.{with_header, Entry, entries_at, child_at}
 use Rattle.tree.proofs.ChangedLeaf.{put_stored}
 use Rattle.tree.proofs.Placing.{entries_from_header, put_entries}
 use Rattle.tree.proofs.Sharing.{child_is}
@@ -10,15 +7,7 @@ use Rattle.tree.proofs.replace.insert_child.Goals as goal
 
 pub returns : goal.returns
 returns g c =
-    let a = c.args.nodes.now in
-    let slot = c.args.slot in
-    let i = c.args.index in
-    let now = c.splice_with_heads.new.self in
     let b = with_header a slot now in
-    let can = c.requires.can_insert in
-    let t = c.entry_for.result in
-    let u = c.entry_for-2.result in
-    let d = c.index-entries-index.result in
     let listed = c.entries.ensures.entries
     ∙ sym (entries_from_header a slot c.header_ref-node.result.now c.header_ref-node.ensures.header) in
     let x_is : (get_or c.entries.result.now i d).child ≡ child_at (entries_at a slot) i =
@@ -37,3 +26,6 @@ returns g c =
       };
       stored = put_stored a slot now can.live can.keyless can.headed c.splice_with_heads.ensures.headed;
     }
+  where
+    open c use {args.{nodes.{now as a}, slot, index as i}, splice_with_heads.{new.{self as now}}, requires.{can_insert as can}}
+    open c use {entry_for.{result as t}, entry_for-2.{result as u}, index-entries-index.{result as d}}

@@ -8,9 +8,6 @@ use Rattle.tree.proofs.replace.split.Goals as goal
 
 pub splice_apart-right-requires : goal.splice_apart-right-requires
 splice_apart-right-requires g c =
-    let can = c.requires.can_split in
-    let node = c.header_mut.result.now in
-    let header = c.header_mut.ensures.header in
     let len = ap length (entries_from_header c.args.nodes.now c.args.slot node header) in (
       search rules,
       (
@@ -25,25 +22,20 @@ splice_apart-right-requires g c =
         (can.few_new, omega (arith, can.many, len)),
       ),
     )
+  where
+    open c use {requires.{can_split as can}, header_mut.{result.{now as node}, ensures.{header}}}
 
 pub place-requires : goal.place-requires
 place-requires g c =
     let a = c.args.nodes.now in
     let now = c.splice_apart-right.new.self in
-    let b = with_header a c.args.slot now in
-    let put = put_moves a b c.args.slot now refl c.requires.can_split.live
+    let put = put_moves a (with_header a c.args.slot now) c.args.slot now refl c.requires.can_split.live
     c.requires.can_split.keyless in
     (search rules, (put.keyless, omega (arith, c.requires.can_split.room, put.live, put.spare)))
 
 pub returns : goal.returns
 returns g c =
-    let old = c.args.nodes.now in
-    let w = c.place.new.nodes in
-    let slot = c.args.slot in
-    let split = c.splice_apart-right in
     let b = with_header old slot split.new.self in
-    let can = c.requires.can_split in
-    let then = c.place.ensures in
     let changes = both_changes old b w slot c.place.result split.new.self refl then.changes can.live can.keyless in
     let here = left_entries old b w slot c.place.result split.new.self refl then.changes in
     let read = entries_from_header old slot c.header_mut.result.now c.header_mut.ensures.header in
@@ -62,3 +54,6 @@ returns g c =
             (headed_header _ old b slot split.new.self refl can.headed split.ensures.headed.left);
       };
     }
+  where
+    open c use {args.{nodes.{now as old}, slot}, place.{new.{nodes as w}, ensures as then}, splice_apart-right as split}
+    open c use {requires.{can_split as can}}

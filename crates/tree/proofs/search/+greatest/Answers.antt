@@ -1,11 +1,8 @@
 use Rattle.std.proofs.Common.{ℕ, ◌-◌, true, option_map, rules}
-use Rattle.tree.specs.Item.{Item, Tells, IsGreatestWith}
-use Rattle.tree.specs.Path.{below_from, below_to}
-use Rattle.tree.specs.Subtree.{items_in}
-use Rattle.tree.specs.Tree.{least_of}
+use Rattle.tree.proofs.Words.{Item, Tells, IsGreatestWith, below_from, below_to, items_in, least_of}
 use Rattle.tree.proofs.Spans.{span}
 use Rattle.tree.proofs.Looks.{IsLook, look_of, look_bound, from_asked, to_asked, ask_from, ask_to, ask_any, look_ordered, leaf_look}
-use Rattle.tree.proofs.Halves.{AreHalves, left_items, right_items, middle_items, left_span, right_span, left_tells, right_tells, middle_tells, left_subtree, left_from, left_to, right_subtree, right_to, apart, in_one, in_two}
+use Rattle.tree.proofs.Halves.{AreHalves, left_items, right_items, middle_items, left_span, right_span, left_is, right_is, middle_tells, left_from, left_to, right_to, apart, in_one, in_two}
 use Rattle.tree.proofs.GreatestParts.{IsPeak-leaf}
 use Rattle.tree.proofs.Most.{most_with, most_between, most_of_parts, most_passed}
 use Rattle.tree.proofs.search.+greatest.Given.{Over}
@@ -89,25 +86,24 @@ greatest-requires g t c κs within =
     let h = halves g t (goal.at.greatest-requires g t c).After-index-entries-last in
     let from = ask_from (λ p. g.P.Bound.below p.now) (left_items h) c.args.from (left_from h) in
     let to = ask_to (λ q. g.Q.Bound.below q.now) (left_items h) c.args.to (left_to h) in
-    search (rules, left_subtree h, from, to, c.requires.nested)
+    search (rules, (left_is h).subtree, from, to, c.requires.nested)
 
 pub greatest-most-requires : goal.greatest-most-requires
 greatest-most-requires g t c κs within =
     let h = halves g t (goal.at.greatest-most-requires g t c).After-index-entries-last in
     let from = ask_from (λ p. g.P.Bound.below p.now) (left_items h) c.args.from (left_from h) in
-    search (rules, left_subtree h, from, ask_any c.args.from (λ _. Unit {0}) (λ _. tt))
+    search (rules, (left_is h).subtree, from, ask_any c.args.from (λ _. Unit {0}) (λ _. tt))
 
 pub greatest-most-requires-then-is_above-2 : goal.greatest-most-requires-then-is_above-2
 greatest-most-requires-then-is_above-2 g t c κs within =
     let h = halves g t (goal.at.greatest-most-requires-then-is_above-2 g t c).After-index-entries-last in
-    let to = ask_to (λ q. g.Q.Bound.below q.now) (right_items h) c.args.to (right_to h) in
-    search (rules, right_subtree h, to)
+    search (rules, (right_is h).subtree, ask_to (λ q. g.Q.Bound.below q.now) (right_items h) c.args.to (right_to h))
 
 pub returns-then-not-is_above : goal.returns-then-not-is_above
 returns-then-not-is_above g t c =
     let h = halves g t (goal.at.returns-then-not-is_above g t c).After-index-entries-last in
     let told = most_passed c.args.least c.index-entries-first.result (left_items h) _ c.is_above.result
-    (search rules) (left_tells h) c.if-not-is_above.true c.is_above.ensures.above in
+    (search rules) (left_is h).tells c.if-not-is_above.true c.is_above.ensures.above in
     record { greatest = rw (in_one h c.if-first-last.true) told }
 
 pub returns-then-first-last : goal.returns-then-first-last
@@ -137,7 +133,7 @@ returns-then-is_above-2 g t c =
     record {
       greatest = most_of_parts _ _ _ _ _ (left_span h) (middle_items h) (right_span h) (in_two h c.if-first-last.false)
           (most_between _ _ _ _ _ (middle_tells h) c.greatest_of-2.ensures.greatest c.greater-most.ensures.greater)
-          (sooner g t at.After-is_above-3 (left_tells h)) c.greatest-most-then-is_above-2.ensures.greatest;
+          (sooner g t at.After-is_above-3 (left_is h).tells) c.greatest-most-then-is_above-2.ensures.greatest;
     }
 
 pub returns-else-is_above-2 : goal.returns-else-is_above-2
@@ -145,9 +141,9 @@ returns-else-is_above-2 g t c =
     let at = goal.at.returns-else-is_above-2 g t c in
     let h = halves g t at.After-index-entries-last in
     let later = most_passed c.if-is_above.most c.index-entries-last.result (right_items h) _ c.is_above-3.result
-    (search rules) (right_tells h) c.if-is_above-2.false c.is_above-3.ensures.above in
+    (search rules) (right_is h).tells c.if-is_above-2.false c.is_above-3.ensures.above in
     record {
       greatest = most_of_parts _ _ _ _ _ (left_span h) (middle_items h) (right_span h) (in_two h c.if-first-last.false)
           (most_between _ _ _ _ _ (middle_tells h) c.greatest_of-2.ensures.greatest c.greater-most.ensures.greater)
-          (sooner g t at.After-is_above-3 (left_tells h)) later;
+          (sooner g t at.After-is_above-3 (left_is h).tells) later;
     }

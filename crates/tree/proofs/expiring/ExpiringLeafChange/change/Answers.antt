@@ -1,12 +1,6 @@
 use Rattle.std.proofs.Common.{rules, Bool, false, IsTrue, ◌∷◌, ℕ, ◌≡◌, ◌≢◌, ◌≤◌, ◌<◌, ◌+◌, ◌-◌, ◌∙◌, ◌++◌, ap, sym, refl, List, [], length, filter, take, drop, map, arith, w64}
 use Rattle.std.proofs.lemmas.Int.{to_z-of_z}
-use Rattle.arena.specs.Arena.{with_header}
-use Rattle.tree.specs.declared.entry.Entry.{Entry}
-use Rattle.tree.specs.Item.{Item, item_of}
-use Rattle.tree.specs.Node.{entries_of}
-use Rattle.tree.specs.Subtree.{entries_at}
-use Rattle.tree.specs.Expire.{GivesUnexpired}
-use Rattle.tree.specs.Tree.{unexpired, expired}
+use Rattle.tree.proofs.Words.{with_header, Entry, Item, item_of, entries_of, entries_at, GivesUnexpired, unexpired, expired}
 use Rattle.tree.proofs.ChangedLeaf.{leaf_can_step, leaf_changed, unchanged}
 use Rattle.tree.proofs.Headed.{headed_at}
 use Rattle.tree.proofs.LastRun.{leaf_unexpired, untouched}
@@ -15,7 +9,7 @@ use Rattle.tree.proofs.Removing.{run}
 use Rattle.tree.proofs.WrittenLeaf.{items_parted, some_item}
 use Rattle.tree.proofs.expiring.ExpiringLeafChange.change.Given as given
 use Rattle.tree.proofs.expiring.ExpiringLeafChange.change.Goals as goal
-use Rattle.tree.proofs.expiring.ExpiringLeafChange.change.Goals.{After-header_ref-leaf, After-has_expired}
+use Rattle.tree.proofs.expiring.ExpiringLeafChange.change.Goals.{After-has_expired}
 
 pub lower_bound-below-requires : goal.lower_bound-below-requires
 lower_bound-below-requires g c = (
@@ -91,9 +85,8 @@ returns-then-not-has_expired-clause-changed g c =
 pub returns-then-not-has_expired-clause-items : goal.returns-then-not-has_expired-clause-items
 returns-then-not-has_expired-clause-items g c =
     let t = (goal.at.returns-then-not-has_expired-clause-items g c).After-has_expired in
-    let edge_is = to_z-of_z w64 c.args.self.now.edge (search rules) in
     let before_is = to_z-of_z w64 c.args.self.now.before (search rules) in
-    let none = rw (edge_is, before_is, c.entries-2.ensures.entries) at
+    let none = rw (to_z-of_z w64 c.args.self.now.edge (search rules), before_is, c.entries-2.ensures.entries) at
     (none_goes _ c.has_expired.result c.has_expired.ensures.expired.1 c.if-not-has_expired.true) in
     swept g t _ _ (ap (map item_of) (read g t)
     ∙ untouched (es g t) (begin g t) (end g t) (some_looked g t) (within g t) c.args.self.now.edge c.args.self.now.before none)

@@ -1,13 +1,10 @@
-use Rattle.std.proofs.Common.{rules, ◌≡◌, ◌∙◌, ℕ, List, Some, slice_get, ap, sym}
-use Rattle.std.proofs.lemmas.Bool.{eqb-true}
+use Rattle.std.proofs.Common.{rules, ◌≡◌, ◌∙◌, ℕ, List, Some, slice_get, ap, sym, eqb-true}
 use Rattle.std.proofs.lemmas.List.{map-append}
 use Rattle.std.proofs.lemmas.List.Elements.{All-append}
 use Rattle.std.proofs.lemmas.Option.{slice_get_within, get_or_from_slice_get}
-use Rattle.tree.specs.Heads.{HasPrefix, IsKnown}
-use Rattle.tree.specs.Node.{key_heads_of, keys_of}
+use Rattle.tree.proofs.Words.{HasPrefix, IsKnown, key_heads_of, keys_of}
 use Rattle.tree.proofs.HeadChanges.{headed_joined, keys_there}
 use Rattle.tree.proofs.Headed.{all_known}
-use Rattle.tree.proofs.node.Node.append_with_heads.Goals.{then-self-other, else-self-other}
 use Rattle.tree.proofs.node.Node.append_with_heads.Goals as goal
 
 pub compute_heads-requires : goal.compute_heads-requires
@@ -21,22 +18,20 @@ compute_heads-requires g c =
 pub lengthen_prefix-requires : goal.lengthen_prefix-requires
 lengthen_prefix-requires g c =
     let bytes = g.P.Bound.bytes c.args.bound.now in
-    let one = c.args.self.now in
-    let other = c.args.other.now in
-    let es = c.entries.result.now in
-    let first = c.in-Some.first.now in
     let get : slice_get es 0 ≡ Some first = sym {b = slice_get es 0} c.in-Some.ensures.value in
     let there = keys_there es 0 first (slice_get_within es 0 first get) (get_or_from_slice_get es 0 first first get) in
     let alike : (one.prefix_len ≡ other.prefix_len)
     × ((text : List ℕ) → bytes first.key ≡ Some text → HasPrefix bytes (key_heads_of one) text) =
     elim c.if-self-other.branch [
-      | then-self-other w ↦ (w.if-self-other.true, w.begins-alike.ensures.agrees (sym w.alike-is ∙ c.if-not-alike.false))
-      | else-self-other w ↦
+      | goal.then-self-other w ↦ (w.if-self-other.true, w.begins-alike.ensures.agrees (sym w.alike-is ∙ c.if-not-alike.false))
+      | goal.else-self-other w ↦
           absurd (w.if-self-other.false (eqb-true one.prefix_len other.prefix_len (sym w.alike-is ∙ c.if-not-alike.false)))
     ] in
     let keys = rw c.entries-2.ensures.entries at c.append.ensures.entries in
-    let heads = c.append.ensures.heads in
     let joined = headed_joined bytes (key_heads_of one) (key_heads_of other) c.requires.headed c.requires.other_headed first.key
     alike.0 (rw c.entries.ensures.entries at there) alike.1 _ (simp map-append at (ap keys_of keys)) heads.prefix_len
     (rw c.heads.ensures.heads at heads.heads_are) in
     (search rules, joined)
+  where
+    open c use {args.{self.{now as one}, other.{now as other}}, entries.{result.{now as es}}, in-Some.{first.{now as first}}}
+    open c use {append.{ensures.{heads}}}

@@ -1,5 +1,4 @@
-use Rattle.std.proofs.Common.{◌≡◌, ◌-◌, length, Some, slice_get, arith}
-use Rattle.std.proofs.lemmas.Bool.{leb-true}
+use Rattle.std.proofs.Common.{◌≡◌, ◌-◌, length, Some, slice_get, arith, leb-true}
 use Rattle.tree.specs.Node.{entries_of, key_heads_of}
 use Rattle.tree.proofs.HeadChanges.{common_agrees, last_there}
 use Rattle.tree.proofs.node.Node.begins.Goals as goal

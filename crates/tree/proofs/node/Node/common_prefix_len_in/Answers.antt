@@ -33,13 +33,12 @@ returns-then-self-index g c = record {
 pub returns : goal.returns
 returns g c = record {
   known = λ e there.
-      let node = c.args.self.now in
-      let i = c.args.index in
       let own = get_or-take node.len node.heads i 0 (omega (arith, c.requires.within, length-take node.len node.entries)) in
       let passed = c.requires.is_below e there in
-      let same = c.same_head_bytes.ensures in
       let common = common_at _ _ c.requires.headed _ _ (g.met.P.Bound.order c.args.bound.now) i e.key c.in-Some.head
       c.same_head_bytes.result (key_there (entries_of node) i e there) (rw c.in-Some.is at c.requires.head.head) passed
       (λ differ. c.if-self-index.false (sym own ∙ differ)) same.within (rw own same.same) (λ less e. same.differ less (cc)) in
       (passed, rw c.prefix_len.ensures.prefix_len common);
 }
+  where
+    open c use {args.{self.{now as node}, index as i}, same_head_bytes.{ensures as same}}

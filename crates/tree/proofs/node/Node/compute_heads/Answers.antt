@@ -1,7 +1,5 @@
-use Rattle.std.proofs.Common.{◌<◌, ◌≤◌, ◌∙◌, length, refl, ap, sym, arith}
-use Rattle.std.proofs.lemmas.List.{length-set}
-use Rattle.tree.specs.Heads.{head_at}
-use Rattle.tree.specs.Node.{entries_of, keys_of}
+use Rattle.std.proofs.Common.{◌<◌, ◌≤◌, ◌∙◌, length, refl, ap, sym, arith, length-set}
+use Rattle.tree.proofs.Words.{head_at, entries_of, keys_of}
 use Rattle.tree.proofs.HeadChanges.{head_next, head_read, keys_count, map_whole}
 use Rattle.tree.proofs.node.Node.compute_heads.Goals as goal
 
@@ -11,11 +9,6 @@ loop-index-init g c = record { len = refl; entries = refl; prefix_len = refl; ro
 pub loop-index-preserved : goal.loop-index-preserved
 loop-index-preserved g c =
     let bytes = g.P.Bound.bytes c.args.bound.now in
-    let node = c.loop-index.self in
-    let inv = c.loop-index.invariant in
-    let i = c.loop-index.index in
-    let e = c.index-self-index.result in
-    let is = c.index-self-index.is in
     let inside : i < node.len = omega (arith, inv.len) in
     let most : node.len ≤ length node.entries = omega (arith, inv.len, ap length inv.entries) in
     let right = head_read node.entries node.len i e inside most is bytes node.prefix_len c.prefix_len.result c.head_of.result
@@ -28,15 +21,14 @@ loop-index-preserved g c =
       heads = head_next node.entries node.len i e inside most is (head_at bytes node.prefix_len) node.heads
           c.head_of.result (omega (arith, inv.room, inside)) right inv.heads;
     }
+  where
+    open c use {loop-index.{self as node, invariant as inv, index as i}, index-self-index.{result as e, is}}
 
 pub returns-clause-entries : goal.returns-clause-entries
 returns-clause-entries g c = rw (c.loop-index.invariant.len, c.loop-index.invariant.entries) refl
 
 pub returns-clause-headed : goal.returns-clause-headed
 returns-clause-headed g c =
-    let node = c.loop-index.self in
-    let inv = c.loop-index.invariant in
-    let begin = c.beginning-self.ensures.begin in
     let most : node.len ≤ length node.entries = omega (arith, inv.len, ap length inv.entries) in
     record {
       beginning = begin.0;
@@ -45,3 +37,5 @@ returns-clause-headed g c =
       heads = map_whole (head_at (g.P.Bound.bytes c.args.bound.now) node.prefix_len) (keys_of (entries_of node)) node.heads
           node.len c.loop-index.index (keys_count node.entries node.len most) (omega (arith, inv.len)) inv.heads;
     }
+  where
+    open c use {loop-index.{self as node, invariant as inv}, beginning-self.{ensures.{begin}}}

@@ -1,6 +1,5 @@
 use Rattle.std.proofs.Common.{◌≡◌, length, take, map}
-use Rattle.tree.specs.Heads.{head_at}
-use Rattle.tree.specs.Node.{entries_of, keys_of}
+use Rattle.tree.proofs.Words.{head_at, entries_of, keys_of}
 use Rattle.tree.proofs.node.Node.compute_heads.Given as goal
 
 abbrev pub invariant-loop-index : goal.invariant-loop-index

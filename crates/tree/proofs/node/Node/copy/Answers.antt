@@ -1,9 +1,7 @@
-use Rattle.std.proofs.Common.{arith, refl, ◌<◌, ◌≤◌, ap, length, get_or}
-use Rattle.std.proofs.lemmas.List.{length-take-le, map-set}
+use Rattle.std.proofs.Common.{arith, refl, ◌<◌, ◌≤◌, ap, length, get_or, length-take-le}
 use Rattle.std.proofs.lemmas.List.Elements.{All-contains}
-use Rattle.std.proofs.Math.Seq.{take-set-lt}
-use Rattle.tree.specs.Heads.{IsKnown, head_at}
-use Rattle.tree.specs.Node.{entries_of, key_heads_of, keys_of}
+use Rattle.std.proofs.Math.Seq.{take-set-lt, map-set}
+use Rattle.tree.proofs.Words.{IsKnown, head_at, entries_of, key_heads_of, keys_of}
 use Rattle.tree.proofs.HeadAt.{entry_there}
 use Rattle.tree.proofs.HeadChanges.{head_there, headed_set, key_agrees, key_there}
 use Rattle.tree.proofs.Headed.{all_known}
@@ -11,11 +9,6 @@ use Rattle.tree.proofs.node.Node.copy.Goals as goal
 
 pub returns : goal.returns
 returns g c =
-    let node = c.args.self.now in
-    let from = c.args.from in
-    let to = c.args.to in
-    let e = c.index-self-from.result in
-    let is = c.index-self-from.is in
     let most : node.len ≤ length node.entries = omega arith in
     let len = length-take-le node.len node.entries most in
     let from_inside : from < node.len = omega (arith, c.requires.from, len) in
@@ -30,3 +23,5 @@ returns g c =
           (head_there node.entries node.len from e from_inside most is (head_at bytes node.prefix_len) node.heads h.heads)
           (cc (simp map-set at (ap keys_of set))) refl (take-set-lt node.len node.heads to (get_or node.heads from 0) to_inside);
     }
+  where
+    open c use {args.{self.{now as node}, from, to}, index-self-from.{result as e, is}}

@@ -1,8 +1,7 @@
 use Rattle.std.proofs.Common.{rules, SFits, w64}
 use Rattle.std.proofs.lemmas.Int.{to_z-of_z}
 use Rattle.tree.proofs.Greatest.{greatest-next}
-use Rattle.tree.specs.Item.{version_of}
-use Rattle.tree.specs.Node.{entries_of}
+use Rattle.tree.proofs.Words.{version_of, entries_of}
 use Rattle.tree.proofs.node.Node.greatest.Goals as goal
 
 pub loop-entry-preserved : goal.loop-entry-preserved

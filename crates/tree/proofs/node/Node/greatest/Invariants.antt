@@ -1,6 +1,5 @@
 use Rattle.std.proofs.Common.{take, ◌+◌}
-use Rattle.tree.specs.Item.{IsGreatest, version_of}
-use Rattle.tree.specs.Node.{entries_of}
+use Rattle.tree.proofs.Words.{IsGreatest, version_of, entries_of}
 use Rattle.tree.proofs.node.Node.greatest.Given as goal
 
 abbrev pub invariant-loop-entry : goal.invariant-loop-entry

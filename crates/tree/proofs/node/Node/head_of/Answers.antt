@@ -1,19 +1,11 @@
-use Rattle.std.proofs.Common.{◌≡◌, ◌<◌, ◌∙◌, sym, arith}
-use Rattle.std.specs.Prelude.{slice_index_or}
-use Rattle.std.proofs.lemmas.Bool.{eqb-true}
-use Rattle.std.proofs.lemmas.List.{length-take-le}
-use Rattle.tree.specs.Heads.{head_at}
-use Rattle.tree.specs.Node.{key_heads_of}
+use Rattle.std.proofs.Common.{◌≡◌, ◌<◌, ◌∙◌, sym, arith, slice_index_or, eqb-true, length-take-le}
+use Rattle.tree.proofs.Words.{head_at, key_heads_of}
 use Rattle.tree.proofs.HeadChanges.{key_agrees, key_there, head_there}
 use Rattle.tree.proofs.node.Node.head_of.Goals as goal
 
 pub returns-then-eq : goal.returns-then-eq
 returns-then-eq g c =
-    let node = c.args.self.now in
     let bytes = g.P.Bound.bytes c.args.bound.now in
-    let i = c.args.index in
-    let e = c.index-self-index.result in
-    let is = c.index-self-index.is in
     let inside : i < node.len = omega (arith, c.requires.within, length-take-le node.len node.entries (omega arith)) in
     let equal = eqb-true (slice_index_or node.entries i e).key c.args.key (sym c.eq.ensures ∙ c.if-eq.true) in
     let same : e.key ≡ c.args.key = cc in
@@ -25,3 +17,5 @@ returns-then-eq g c =
             c.requires.headed.heads;
       };
     }
+  where
+    open c use {args.{self.{now as node}, index as i}, index-self-index.{result as e, is}}

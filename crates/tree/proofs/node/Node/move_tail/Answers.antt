@@ -1,6 +1,5 @@
-use Rattle.std.proofs.Common.{◌≡◌, ◌≤◌, ◌+◌, ◌-◌, List, ap, ◌∙◌, take, length, arith}
+use Rattle.std.proofs.Common.{◌≡◌, ◌≤◌, ◌+◌, ◌-◌, List, ap, ◌∙◌, take, length, arith, length-take-le}
 use Rattle.std.specs.List.{copy_within}
-use Rattle.std.proofs.lemmas.List.{length-take-le}
 use Rattle.std.proofs.lemmas.Slice.{take-put_mid_below}
 use Rattle.tree.proofs.Splicing.{more_moved}
 use Rattle.tree.proofs.node.Node.move_tail.Given.{Over}

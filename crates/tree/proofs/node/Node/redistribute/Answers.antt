@@ -1,7 +1,6 @@
-use Rattle.std.proofs.Common.{arith, refl, ◌≡◌, ◌≤◌, ℕ, ◌/◌, ◌+◌, ◌-◌, List, ◌++◌, append_assoc, length, length-drop, take, drop}
+use Rattle.std.proofs.Common.{arith, refl, ◌≡◌, ◌≤◌, ℕ, ◌/◌, ◌+◌, ◌-◌, List, ◌++◌, append_assoc, length, length-drop, take, drop, take-append-drop, take_all}
 use Rattle.std.specs.List.{copy_within}
 use Rattle.std.proofs.lemmas.Grind.{common_steps}
-use Rattle.std.proofs.lemmas.List.{take-append-drop, take_all}
 use Rattle.tree.proofs.Entries.{take-cut, take-removed}
 use Rattle.tree.proofs.node.Node.redistribute.Goals as goal
 

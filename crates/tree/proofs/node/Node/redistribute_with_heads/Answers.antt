@@ -1,16 +1,13 @@
-use Rattle.std.proofs.Common.{rules, ◌≡◌, ◌<◌, ◌∙◌, ℕ, List, Some, true, All, ap, sym, arith}
-use Rattle.std.proofs.lemmas.Bool.{eqb-true}
+use Rattle.std.proofs.Common.{rules, ◌≡◌, ◌<◌, ◌∙◌, ℕ, List, Some, true, All, ap, sym, arith, eqb-true}
 use Rattle.std.proofs.lemmas.List.{length-map, length-take-le, map-append}
 use Rattle.std.proofs.lemmas.List.Elements.{All-append}
-use Rattle.tree.specs.declared.entry.Entry.{Entry}
-use Rattle.tree.specs.Heads.{AreHeads, HasPrefix, IsKnown, KeyBytes, KeyHeads}
-use Rattle.tree.specs.Node.{entries_of, key_heads_of, keys_of}
+use Rattle.tree.proofs.Words.{Entry, AreHeads, HasPrefix, IsKnown, KeyBytes, KeyHeads, entries_of, key_heads_of, keys_of}
 use Rattle.tree.proofs.callers.Partitions.{All-front, All-back}
 use Rattle.tree.proofs.HeadChanges.{headed_shared, key_there}
 use Rattle.tree.proofs.Headed.{all_known}
 use Rattle.tree.proofs.node.Node.redistribute_with_heads.Given as given
-use Rattle.tree.proofs.node.Node.redistribute_with_heads.Goals.{After-redistribute, then-self-right, else-self-right}
 use Rattle.tree.proofs.node.Node.redistribute_with_heads.Goals as goal
+use Rattle.tree.proofs.node.Node.redistribute_with_heads.Goals.{After-redistribute, then-self-right, else-self-right}
 
 module _ (g : given.Over) (c : After-redistribute g) where
   abbrev bytes : KeyBytes

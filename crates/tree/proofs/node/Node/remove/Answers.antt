@@ -1,18 +1,12 @@
-use Rattle.std.proofs.Common.{arith, refl, ◌≡◌, ◌∙◌, ◌≤◌, ◌-◌, []}
+use Rattle.std.proofs.Common.{arith, refl, ◌≡◌, ◌∙◌, ◌≤◌, ◌-◌, [], length-take-le}
 use Rattle.std.specs.List.{copy_within}
-use Rattle.std.proofs.lemmas.List.{length-take-le}
-use Rattle.tree.specs.Node.{entries_of, key_heads_of}
-use Rattle.tree.specs.declared.entry.Entry.{Entry}
+use Rattle.tree.proofs.Words.{entries_of, key_heads_of, Entry}
 use Rattle.tree.proofs.Entries.{take-removed}
 use Rattle.tree.proofs.HeadChanges.{headed_removed, map_spliced}
 use Rattle.tree.proofs.node.Node.remove.Goals as goal
 
 pub returns : goal.returns
 returns g c =
-    let node = c.args.self.now in
-    let from = c.args.from in
-    let to = c.args.to in
-    let move = c.move_tail.ensures in
     let most : to ≤ node.len = omega (arith, c.requires.within, length-take-le node.len node.entries (omega arith)) in
     let left : c.move_tail.new.self.len ≡ node.len - (to - from) = omega (arith, move.len) in
     let entries = take-removed node.entries (copy_within node.entries to node.len from) node.len from to (omega arith)
@@ -25,3 +19,5 @@ returns g c =
       headed = λ bytes h. headed_removed bytes (key_heads_of node) h _ from to
           (map_spliced (λ (e : Entry). e.key) (entries_of node) [] _ from to entries_are) move.prefix_len (cc (move.heads));
     }
+  where
+    open c use {args.{self.{now as node}, from, to}, move_tail.{ensures as move}}

@@ -1,5 +1,4 @@
-use Rattle.std.proofs.Common.{arith, refl, ◌≡◌, length}
-use Rattle.std.proofs.lemmas.List.{length-take-le}
+use Rattle.std.proofs.Common.{arith, refl, ◌≡◌, length, length-take-le}
 use Rattle.std.proofs.Math.Seq.{take-set-lt}
 use Rattle.tree.specs.Node.{entries_of}
 use Rattle.tree.proofs.node.Node.set.Goals as goal

@@ -1,17 +1,11 @@
-use Rattle.std.proofs.Common.{rules, ◌≡◌, ◌<◌, ◌≤◌, ◌∙◌, inr, length, slice_index_or, slice_set, ap, sym, arith}
-use Rattle.std.proofs.lemmas.Bool.{eqb-true}
-use Rattle.std.proofs.lemmas.List.{length-set, length-take-le, map-set}
-use Rattle.std.proofs.Math.Seq.{take-set-lt}
-use Rattle.tree.specs.Heads.{KeyHeads}
-use Rattle.tree.specs.Node.{entries_of, key_heads_of, keys_of}
+use Rattle.std.proofs.Common.{rules, ◌≡◌, ◌<◌, ◌≤◌, ◌∙◌, inr, length, slice_index_or, slice_set, ap, sym, arith, eqb-true, length-set, length-take-le}
+use Rattle.std.proofs.Math.Seq.{take-set-lt, map-set}
+use Rattle.tree.proofs.Words.{KeyHeads, entries_of, key_heads_of, keys_of}
 use Rattle.tree.proofs.HeadChanges.{head_known, headed_set, key_stays, known_set}
 use Rattle.tree.proofs.node.Node.set_with_head.Goals as goal
 
 pub returns-then-eq-clause-headed : goal.returns-then-eq-clause-headed
 returns-then-eq-clause-headed g c =
-    let old = c.args.self.now in
-    let e = c.index-self-index.result in
-    let is = c.index-self-index.is in
     let most : old.len ≤ length old.entries = omega arith in
     let inside : c.args.index < old.len = omega (arith, c.requires.within, length-take-le old.len old.entries most) in
     let equal = eqb-true (slice_index_or old.entries c.args.index e).key c.args.entry.key (sym c.eq.ensures ∙ c.if-eq.true) in
@@ -19,6 +13,8 @@ returns-then-eq-clause-headed g c =
     let keys : keys_of (entries_of c.set.new.self) ≡ keys_of (entries_of old) = ap keys_of c.set.ensures.entries ∙ stays in
     let heads : key_heads_of c.set.new.self ≡ key_heads_of old = cc (c.set.ensures.key_heads, keys) in
     rw heads c.requires.headed
+  where
+    open c use {args.{self.{now as old}}, index-self-index.{result as e, is}}
 
 pub compute_heads-requires : goal.compute_heads-requires
 compute_heads-requires g c =
@@ -29,18 +25,14 @@ compute_heads-requires g c =
 pub returns-clause-headed : goal.returns-clause-headed
 returns-clause-headed g c =
     let bytes = g.P.Bound.bytes c.args.bound.now in
-    let old = c.args.self.now in
-    let new = c.set-2.new.self in
-    let i = c.args.index in
-    let key = c.args.entry.key in
-    let head = c.head_of.result in
-    let kept = c.set-2.ensures.key_heads in
-    let size = length-take-le new.len new.entries (omega arith) in
     let count = ap length c.set-2.ensures.entries ∙ length-set (entries_of old) i c.args.entry in
-    let inside : i < new.len = omega (arith, c.requires.within, size, count) in
+    let inside : i < new.len = omega (arith, c.requires.within, length-take-le new.len new.entries (omega arith), count) in
     let prefix_len : new.prefix_len ≡ old.prefix_len = ap (λ (h : KeyHeads). h.prefix_len) kept in
     let known = head_known bytes c.prefix_len.result key head c.requires.known c.head_of.ensures.head in
     headed_set bytes (key_heads_of old) c.requires.headed _ i key head c.requires.known
     (λ text known. inr (c.begins-begins.ensures.agrees c.if-not-begins.false text known))
     (rw (c.prefix_len.ensures.prefix_len, prefix_len) at known) (simp map-set at (ap keys_of c.set-2.ensures.entries)) prefix_len
     (take-set-lt new.len new.heads i head inside ∙ ap (λ (h : KeyHeads). slice_set h.heads i head) kept)
+  where
+    open c use {args.{self.{now as old}, index as i, entry.{key}}, set-2.{new.{self as new}, ensures.{key_heads as kept}}}
+    open c use {head_of.{result as head}}

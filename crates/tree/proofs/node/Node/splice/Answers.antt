@@ -1,17 +1,9 @@
-use Rattle.std.proofs.Common.{arith, ◌≡◌, ◌≤◌, ◌+◌, ◌-◌, length}
-use Rattle.std.proofs.lemmas.List.{length-take-le}
+use Rattle.std.proofs.Common.{arith, ◌≡◌, ◌≤◌, ◌+◌, ◌-◌, length, length-take-le}
 use Rattle.tree.proofs.Splicing.{take-spliced_before}
 use Rattle.tree.proofs.node.Node.splice.Goals as goal
 
 pub returns : goal.returns
 returns g c =
-    let node = c.args.self.now in
-    let now = c.move_tail.new.self in
-    let from = c.args.from in
-    let to = c.args.to in
-    let new = c.args.new.now in
-    let heads = c.args.heads.now in
-    let can = c.requires in
     let len = length-take-le node.len node.entries (omega arith) in
     let within : to ≤ node.len = omega (arith, can.within, len) in
     let count : now.len ≡ from + length new + (node.len - to) = c.move_tail.ensures.len in
@@ -28,3 +20,6 @@ returns g c =
         heads_are = cc (c.copy_few-2.ensures.copied, before, can.same_len);
       };
     }
+  where
+    open c use {args.{self.{now as node}, from, to, new.{now as new}, heads.{now as heads}}, move_tail.{new.{self as now}}}
+    open c use {requires as can}

@@ -1,15 +1,12 @@
-use Rattle.std.proofs.Common.{rules, ◌≡◌, ◌≤◌, ◌++◌, ◌∙◌, true, length, take, drop, refl, sym, arith}
-use Rattle.std.specs.List.{All}
+use Rattle.std.proofs.Common.{rules, ◌≡◌, ◌≤◌, ◌++◌, ◌∙◌, true, length, take, drop, refl, sym, arith, All}
 use Rattle.std.proofs.lemmas.List.{length-map, map-append}
-use Rattle.tree.specs.declared.entry.Entry.{Entry}
-use Rattle.tree.specs.Heads.{AreHeads, IsKnown, KeyBytes, KeyHeads}
-use Rattle.tree.specs.Node.{entries_of, key_heads_of, keys_of}
+use Rattle.tree.proofs.Words.{Entry, AreHeads, IsKnown, KeyBytes, KeyHeads, entries_of, key_heads_of, keys_of}
 use Rattle.tree.proofs.HeadChanges.{headed_apart, headed_spliced, heads_count, known_spliced, map_spliced}
 use Rattle.tree.proofs.callers.Partitions.{All-front, All-back}
 use Rattle.tree.proofs.Splicing.{apart_spliced, apart_prepended}
 use Rattle.tree.proofs.node.Node.splice_apart.Given as given
-use Rattle.tree.proofs.node.Node.splice_apart.Goals.{After-redistribute, then-from-new, else-from-new}
 use Rattle.tree.proofs.node.Node.splice_apart.Goals as goal
+use Rattle.tree.proofs.node.Node.splice_apart.Goals.{After-redistribute, then-from-new, else-from-new}
 
 module _ (g : given.Over) (c : After-redistribute g) where
   abbrev bytes : KeyBytes

@@ -1,6 +1,5 @@
 use Rattle.std.proofs.Common.{rules}
-use Rattle.tree.specs.declared.entry.Entry.{Entry}
-use Rattle.tree.specs.Node.{entries_of, key_heads_of, keys_of}
+use Rattle.tree.proofs.Words.{Entry, entries_of, key_heads_of, keys_of}
 use Rattle.tree.proofs.HeadChanges.{headed_spliced, known_spliced, map_spliced}
 use Rattle.tree.proofs.node.Node.splice_with_heads.Goals as goal
 

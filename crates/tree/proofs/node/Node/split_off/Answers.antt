@@ -1,15 +1,11 @@
-use Rattle.std.proofs.Common.{arith, refl, ◌≡◌, ◌∙◌, ◌≤◌, ◌-◌}
+use Rattle.std.proofs.Common.{arith, refl, ◌≡◌, ◌∙◌, ◌≤◌, ◌-◌, length-take-le}
 use Rattle.std.specs.List.{copy_within}
 use Rattle.std.proofs.lemmas.Grind.{common_steps}
-use Rattle.std.proofs.lemmas.List.{length-take-le}
 use Rattle.tree.proofs.Entries.{take-removed}
 use Rattle.tree.proofs.node.Node.split_off.Goals as goal
 
 pub returns : goal.returns
 returns g c =
-    let node = c.args.self.now in
-    let at = c.args.at in
-    let move = c.move_tail.ensures in
     let most : at ≤ node.len = omega (arith, c.requires.within, length-take-le node.len node.entries (omega arith)) in
     let left : c.move_tail.new.self.len ≡ node.len - (at - 0) = omega (arith, move.len) in
     let heads = copy_within node.heads at node.len 0 in
@@ -20,3 +16,5 @@ returns g c =
       left_heads = grind (arith, common_steps);
       right_heads = record { prefix_len = move.prefix_len; heads_are = cc (move.heads) };
     }
+  where
+    open c use {args.{self.{now as node}, at}, move_tail.{ensures as move}}

@@ -1,6 +1,5 @@
 use Rattle.std.proofs.Common.{rules, ◌<◌, filter, length, arith}
-use Rattle.tree.specs.declared.entry.Entry.{Entry}
-use Rattle.tree.specs.Node.{entries_of}
+use Rattle.tree.proofs.Words.{Entry, entries_of}
 use Rattle.tree.proofs.HeadAt.{entry_at, all_known}
 use Rattle.tree.proofs.HeadCounts.{passing_at, passing_inside}
 use Rattle.tree.proofs.node.Node.step_by.Goals as goal

@@ -23,30 +23,26 @@ step_by-requires-then-not-falls_behind g c =
 
 pub common_prefix_len_in-known-requires : goal.common_prefix_len_in-known-requires
 common_prefix_len_in-known-requires g c =
-    let find = c.requires.can_step.can_find in
     let known = (rw c.in-Some.is at c.requires.can_step).known in
     let head = c.in-Some-head.ensures.head in
-    let tells = c.if-not-falls_behind.ensures in
     let below = less_passes _ _ find.headed _ _ (g.met.P.Bound.order c.args.bound.now) c.args.guess in
     let less = lt-ltb (get_or (key_heads_of c.args.self.now).heads c.args.guess 0) c.in-Some-head.own (tells.behind refl) in
     let key = key_there (entries_of c.args.self.now) c.args.guess in
-    let own = c.in-Some-head.own in
     (search rules, (find.headed, (tells.within refl, (known, ((λ e at. below e.key own (key e at) head.head less), head)))))
+  where
+    open c use {requires.{can_step.{can_find as find}}, if-not-falls_behind.{ensures as tells}, in-Some-head.{own}}
 
 pub returns : goal.returns
 returns g c =
-    let node = c.args.self.now in
     let es = entries_of node in
     let order = g.met.P.Bound.order c.args.bound.now in
-    let find = c.requires.can_step.can_find in
-    let guess = c.args.guess in
-    let own = c.in-Some-head.own in
     let is = c.in-Some-head.ensures.head.head in
-    let tells = c.if-not-falls_behind.ensures in
     let e = entry_at es guess (tells.within refl) in
     let less = lt-ltb (get_or (key_heads_of node).heads guess 0) own (tells.behind refl) in
     let passed = less_passes _ _ find.headed _ _ order guess e.0.key own (key_there es guess e.0 e.1) is less in
     let many = passing_inside _ es guess e.0 find.partitioned e.1 passed in
     let few = few_pass _ node find.headed _ _ order own is find.partitioned (guess + 1) (tells.before refl) in
-    let knows = c.common_prefix_len_in-known.ensures.known in
     record { step = record { index_is = omega (arith, many, few); within = tells.within refl; knows = knows } }
+  where
+    open c use {args.{self.{now as node}, guess}, requires.{can_step.{can_find as find}}, in-Some-head.{own}}
+    open c use {if-not-falls_behind.{ensures as tells}, common_prefix_len_in-known.{ensures.{known as knows}}}

@@ -1,11 +1,9 @@
 use Rattle.std.proofs.Common.{◌≡◌, ◌<◌, ℕ, length, get_or, arith}
 use Rattle.std.proofs.Math.Nat.{min-le_left}
 use Rattle.std.proofs.lemmas.List.{get_or-map, length-map, take_all}
-use Rattle.tree.specs.declared.entry.Entry.{Entry}
-use Rattle.tree.specs.Node.{keys_of}
+use Rattle.tree.proofs.Words.{Entry, keys_of}
 use Rattle.tree.proofs.HeadChanges.{begin_of_first, first_empty, first_more}
 use Rattle.tree.proofs.node.heads.keys_prefix_len.Goals as goal
-use Rattle.tree.proofs.node.heads.keys_prefix_len.Goals.{then-not-is_empty, else-not-is_empty}
 
 pub loop-entry-init : goal.loop-entry-init
 loop-entry-init g c = record { most = omega (arith, c.from-count.ensures); common = λ k d inside. absurd (omega (arith, inside)) }
@@ -13,26 +11,23 @@ loop-entry-init g c = record { most = omega (arith, c.from-count.ensures); commo
 pub loop-entry-preserved : goal.loop-entry-preserved
 loop-entry-preserved g c =
     let bytes = g.P.Bound.bytes c.args.bound.now in
-    let xs = c.args.entries.now in
     let keys = keys_of xs in
     let key : Entry → ℕ = λ x. x.key in
-    let i = c.loop-entry.entry-index in
-    let count = c.loop-entry.count in
-    let inv = c.loop-entry.invariant in
-    let e = c.entry-item.result in
     let inside : i < length keys = omega (arith, c.loop-entry-test.true, length-map xs key) in
     let here : e.key ≡ get_or keys i e.key = cc (get_or-map key xs i e e.key c.loop-entry-test.true, c.entry-item.is) in
     elim c.if-not-is_empty.branch [
-      | then-not-is_empty w ↦
+      | goal.then-not-is_empty w ↦
           let same = w.common_prefix_len.ensures in
           let n = w.common_prefix_len.result in
           let more = first_more bytes c.args.key count n i keys e.key inside here same.same same.within inv.common in
           rw (w.count-is, w.min-count.ensures) record { most = omega (arith, inv.most, min-le_left count n); common = more }
-      | else-not-is_empty w ↦
+      | goal.else-not-is_empty w ↦
           let more = first_empty bytes c.args.key count i keys e.key inside here
           (λ b other. (c.is_empty.ensures.empty b other).0 w.if-not-is_empty.false) inv.common in
           rw w.count-is record { most = inv.most; common = more }
     ]
+  where
+    open c use {args.{entries.{now as xs}}, loop-entry.{entry-index as i, count, invariant as inv}, entry-item.{result as e}}
 
 pub overflow_cast-result : goal.overflow_cast-result
 overflow_cast-result g c = omega (arith, c.loop-entry.invariant.most)

@@ -1,5 +1,4 @@
-use Rattle.std.proofs.Common.{◌≤◌, take}
-use Rattle.std.specs.List.{All}
+use Rattle.std.proofs.Common.{◌≤◌, take, All}
 use Rattle.tree.specs.Node.{keys_of}
 use Rattle.tree.proofs.HeadChanges.{BeginsAsFirst}
 use Rattle.tree.proofs.node.heads.keys_prefix_len.Given as goal
