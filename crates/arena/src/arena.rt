@@ -7,6 +7,7 @@ ghost use Rattle.std.specs.FinMap as map;
 ghost use Rattle.arena.specs.Arena.{size_of, slots_of, wanted_of, record_at, header_at, key_at, spare_of, with_header, IsLive, HasRoomFor};
 ghost use Rattle.arena.specs.declared.size.TheConstants.{MAX_LENGTH, SIZES};
 
+use crate::ahead::read_ahead;
 use crate::chunk::Chunk;
 use crate::error::ArenaError;
 use crate::size::{MAX_LENGTH, SIZES, count_sizes, size_of, slots_of};
@@ -15,9 +16,6 @@ use crate::spares::Spares;
 use std::alloc::{Allocator, Global};
 use std::fmt;
 use std::marker::Model;
-
-// So many spare slots are read ahead at once.
-const AHEAD: usize = 16;
 
 /// Records of a header and key bytes, each in a slot of one of ten sizes. A released slot is given again.
 ///
@@ -293,20 +291,6 @@ impl<H: Copy, A: Allocator + Copy> Arena<H, A> {
         self.live += 1;
         slot
     }
-}
-
-// Reads the memory of the slots that are given next, now and then of so many at once: so it is waited for once, and not where each of
-// them is written. The last of the slots is given next. The number that is returned says nothing.
-fn read_ahead<H, A: Allocator>(chunks: &[Chunk<H, A>], slots: &[Slot]) -> u16 {
-    let mut read = 0;
-    if slots.len() % AHEAD == 0 {
-        for slot in &slots[slots.len().saturating_sub(AHEAD)..] {
-            if let Some(chunk) = chunks.get(slot.chunk()) {
-                read ^= chunk.read_ahead(slot.index());
-            }
-        }
-    }
-    read
 }
 
 impl<H: Copy, A: Allocator + Copy> fmt::Debug for Arena<H, A> {

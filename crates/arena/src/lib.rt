@@ -8,6 +8,7 @@
 //! for each of ten sizes a number of spare slots. Chunks, indices and lists of free slots show nowhere.
 #![tactic(auto)]
 
+mod ahead;
 mod arena;
 mod chunk;
 mod error;

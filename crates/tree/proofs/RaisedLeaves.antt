@@ -1,5 +1,5 @@
 -- The leaf of the last write, in which the next one goes on: what becomes of the tree, whose other nodes stay as they are.
-use Rattle.std.proofs.Common.{◌≡◌, ◌≢◌, inl, inr, ℕ, zero, suc, ◌+◌, Bool, true, false, List, [], ◌∷◌, ◌++◌, Option, None, Some, IsTrue, All, Any, ◌↔◌, length, take, drop, refl, sym, ap, ◌∙◌, subst, filter, arith, append-nil, append_assoc}
+use Rattle.std.proofs.Common.{◌≡◌, ◌≢◌, inl, inr, ℕ, zero, suc, ◌+◌, Bool, true, false, List, [], ◌∷◌, ◌++◌, Option, None, Some, IsTrue, Any, ◌↔◌, length, take, drop, refl, sym, ap, ◌∙◌, subst, filter, arith, append-nil, append_assoc}
 use Rattle.std.proofs.lemmas.Bool.{cases_Bool}
 use Rattle.std.proofs.lemmas.Int.{ints}
 use Rattle.std.proofs.lemmas.List.{get_or_default}
@@ -43,7 +43,7 @@ root_can can = record {
 
 -- A tree of which a leaf was raised keeps its root.
 pub raised_tree : {N : ℕ} {bytes : KeyBytes} {a b : Arena (Node N)} {root height : ℕ} (leaf : RaisedLeaf) → IsRooted a root height
-    → IsChanged bytes a b height root (Raised leaf) → IsNewTree bytes a b root height
+    → IsChanged bytes a b height root (Raised leaf) → IsNewTree bytes a b root height (Some leaf)
 raised_tree leaf was put = record {
   rooted = record {
     subtree = put.subtree;
@@ -54,6 +54,7 @@ raised_tree leaf was put = record {
   };
   spare = put.changes.spare;
   headed = put.headed;
+  raised_is = (put.raised leaf refl).there;
 }
 
 abbrev is_empty : List Item → Bool

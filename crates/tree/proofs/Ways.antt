@@ -1,5 +1,5 @@
 -- What a bound through the items of a subtree says of its entries and of the children's subtrees.
-use Rattle.std.proofs.Common.{◌≡◌, ℕ, zero, suc, ◌+◌, ◌-◌, ◌<◌, ◌≤◌, ◌⊎◌, Bool, true, false, List, [], ◌∷◌, ◌++◌, Some, length, get_or, slice_get, pos, take, drop, filter, flat_map, All, refl, sym, ◌∙◌, ap, inl, inr, arith, length-append, length-take, take-append-drop, drop-drop}
+use Rattle.std.proofs.Common.{◌≡◌, ℕ, suc, ◌+◌, ◌-◌, ◌<◌, ◌≤◌, ◌⊎◌, Bool, true, false, List, [], ◌∷◌, ◌++◌, Some, length, get_or, slice_get, pos, take, drop, filter, flat_map, All, refl, sym, ◌∙◌, ap, inl, inr, arith, length-append, length-take, take-append-drop, drop-drop}
 use Rattle.std.proofs.lemmas.Bool.{cases_Bool}
 use Rattle.std.proofs.lemmas.Option.{slice_get-get_or}
 use Rattle.std.proofs.lemmas.List.{drop_more}

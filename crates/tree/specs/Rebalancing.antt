@@ -5,8 +5,8 @@ use Rattle.std.specs.FinMap as map_of
 use Rattle.arena.specs.Arena.{Arena, IsLive, spare_of}
 use Rattle.tree.specs.declared.entry.Entry.{Entry}
 use Rattle.tree.specs.declared.node.Node.{Node}
-use Rattle.tree.specs.Heads.{AllAreHeads, AreHeadsBeside, IsKnown, KeyBytes}
-use Rattle.tree.specs.Node.{all_heads_of, keys_of}
+use Rattle.tree.specs.Heads.{AllAreHeads, AreHeads, AreHeadsBeside, IsKnown, KeyBytes}
+use Rattle.tree.specs.Node.{all_heads_of, entries_of, key_heads_of, keys_of}
 use Rattle.tree.specs.Replace.{child_at, slot_taken, slots_with, Changes, IsFamily, IsFamilyAt, IsKeyless}
 use Rattle.tree.specs.Splice.{AreHalfFull}
 use Rattle.tree.specs.Subtree.{entries_at, slots_in, IsSubtree}
@@ -39,6 +39,14 @@ module _ {N : ℕ} where
     pub filled : IfSome added (λ s. AreHalfFull N (entries_at new slot) (entries_at new s))
     pub headed : AllAreHeads bytes (all_heads_of new)
 
+  -- A node is placed at a slot that was spare, with what it knows of keys.
+  pub record IsPlaced (old new : Arena (Node N)) (node : Node N) (slot : ℕ) : Type 0 where
+    pub entries : entries_at new slot ≡ entries_of node
+    pub live : IsLive new slot
+    pub changes : Changes old new [] (slot ∷ [])
+    pub headed : (bytes : KeyBytes) → AreHeads bytes (key_heads_of node) → AllAreHeads bytes (all_heads_of old)
+        → AllAreHeads bytes (all_heads_of new)
+
   -- The node at a slot, of which the child at an index was split from the one that is added.
   pub record CanInsertChild (bytes : KeyBytes) (nodes : Arena (Node N)) (slot index added : ℕ) : Type 0 where
     pub fan_out : 4 ≤ N
@@ -59,6 +67,11 @@ module _ {N : ℕ} where
     pub keyless : IsKeyless nodes
     pub family : (height : ℕ) × IsFamilyAt nodes (least_of N) height slot index
     pub headed : AllAreHeads bytes (all_heads_of nodes)
+
+  -- likewise where that child has enough entries
+  pub record CanRaise (bytes : KeyBytes) (nodes : Arena (Node N)) (slot index : ℕ) : Type 0 where
+    pub rebalance : CanRebalance bytes nodes slot index
+    pub filled : least_of N ≤ length (entries_at nodes (child_at (entries_at nodes slot) index))
 
   -- likewise the entries of a node
   pub record CanRebalanceIn (bytes : KeyBytes) (nodes : Arena (Node N)) (entries : List Entry) (index : ℕ) : Type 0 where

@@ -118,11 +118,13 @@ module _ {N : ℕ} where
     pub some : 1 ≤ length (entries_at nodes root)
     pub room : height + 1 < spare_of nodes 0
 
-  -- A tree once it was changed: so many nodes are live and spare as before, and it knows the bytes of keys.
-  pub record IsNewTree (bytes : KeyBytes) (old new : Arena (Node N)) (root height : ℕ) : Type 0 where
+  -- A tree once it was changed, and the leaf of it that the next write may go on in, if there is one. So many nodes are live and spare
+  -- as before.
+  pub record IsNewTree (bytes : KeyBytes) (old new : Arena (Node N)) (root height : ℕ) (raised : Option RaisedLeaf) : Type 0 where
     pub rooted : IsRooted new root height
     pub spare : spare_of new 0 + map.len new.records ≡ spare_of old 0 + map.len old.records
     pub headed : AllAreHeads bytes (all_heads_of new)
+    pub raised_is : IsRaisedInTree new root height raised
 
   -- A tree of which a leaf may be changed: the bound goes through the items, which are as is wanted, and none is taken out yet.
   pub record CanChangeBy (bytes : KeyBytes) (is_below : ℕ → Bool) (Wants : List Item → Type 0) (nodes : Arena (Node N))

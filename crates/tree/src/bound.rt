@@ -24,12 +24,12 @@ pub trait Bound {
     fn is_below(&self, key: Slot) -> bool
         ensures is_below { result ≡ below self.now key };
 
-    /// Returns the head of the target, behind so many bytes.
+    /// Returns the head of the target: the next four bytes behind so many, as a number.
     fn head(&self, prefix_len: usize) -> u32
         ensures head { result ≡ head_behind prefix_len (target self.now) }
         ensures are_bytes { IsBytes (target self.now) };
 
-    /// Returns the head of a key, behind so many bytes.
+    /// Returns the head of a key: the next four bytes behind so many, as a number.
     fn head_of(&self, key: Slot, prefix_len: usize) -> u32
         ensures head { (text : List ℕ) → bytes self.now key ≡ Some text → result ≡ head_behind prefix_len text };
 

@@ -3,7 +3,7 @@
 ghost use Rattle.std.specs.Prelude.{◌≡◌, ◌≤◌, ◌<◌, ◌+◌, ◌⊎◌, ◌∷◌, ◌++◌, ℕ, [], length, take, drop, Some};
 ghost use Rattle.arena.specs.Arena.{IsLive, spare_of};
 ghost use Rattle.tree.specs.Heads.{AllAreHeads, AreHeads, KeyBytes};
-ghost use Rattle.tree.specs.Rebalancing.{CanInsertChild, CanRebalance, CanSplit, IsStored, LosesOneAtMost};
+ghost use Rattle.tree.specs.Rebalancing.{CanInsertChild, CanRaise, CanRebalance, CanSplit, IsPlaced, IsStored, LosesOneAtMost};
 ghost use Rattle.tree.specs.Node.{entries_of, key_heads_of, all_heads_of};
 ghost use Rattle.tree.specs.Subtree.{entries_at};
 ghost use Rattle.tree.specs.Tree.{least_of};
@@ -106,8 +106,7 @@ pub fn raise_entry<P: Bound, const N: usize>(
     leaf: RaisedLeaf,
     bound: &P,
 ) -> Outcome
-    requires can_rebalance { CanRebalance (P.bytes bound.now) nodes.old slot index }
-    requires filled { least_of N ≤ length (entries_at nodes.old (child_at (entries_at nodes.old slot) index)) }
+    requires can_raise { CanRaise (P.bytes bound.now) nodes.old slot index }
     ensures rebalanced { (height : ℕ) → IsFamilyAt nodes.old (least_of N) height slot index
         → TellsWritten nodes.old height slot index leaf.version → IsRebalancedAt nodes.old nodes.new (least_of N) height slot }
     ensures rest { LosesOneAtMost (P.bytes bound.now) nodes.old nodes.new (entries_at nodes.old slot) (entries_at nodes.new slot) }
@@ -131,11 +130,7 @@ pub fn raise_entry<P: Bound, const N: usize>(
 pub fn place<const N: usize>(nodes: &mut Arena<Node<N>>, node: Node<N>) -> Slot
     requires keyless { IsKeyless nodes.old }
     requires room { 0 < spare_of nodes.old 0 }
-    ensures entries { entries_at nodes.new result ≡ entries_of node.entry }
-    ensures live { IsLive nodes.new result }
-    ensures changes { Changes nodes.old nodes.new [] (result ∷ []) }
-    ensures headed { (bytes : KeyBytes) → AreHeads bytes (key_heads_of node.entry) → AllAreHeads bytes (all_heads_of nodes.old)
-        → AllAreHeads bytes (all_heads_of nodes.new) }
+    ensures placed { IsPlaced nodes.old nodes.new node.entry result }
 {
     nodes.place(node, &[]).unwrap()
 }

@@ -80,8 +80,7 @@ pub fn change<C: LeafChange<N>, const N: usize>(
     ensures items { IsChangedWithin (C.LeafBound.below (C.bound_of change.old)) (C.gives change.old change.new (map item_of taken.new.items))
         true None
         (items_in nodes.old root.old.height root.old.slot) (items_in nodes.new root.new.height root.new.slot) }
-    ensures tree { IsNewTree (C.LeafBound.bytes (C.bound_of change.old)) nodes.old nodes.new root.new.slot root.new.height }
-    ensures raised { IsRaisedInTree nodes.new root.new.slot root.new.height result }
+    ensures tree { IsNewTree (C.LeafBound.bytes (C.bound_of change.old)) nodes.old nodes.new root.new.slot root.new.height result }
 {
     let place = Place {
         common_prefix_len: common_prefix_len_at(nodes, root.slot, change.leaf_bound()),
@@ -118,8 +117,7 @@ pub fn overwrite<P: Bound, Q: Bound, R: Bound, const N: usize>(
     ensures items { IsChangedWithin (Q.below new.now.to.now) (GivesWritten (P.below new.now.from.now) (Q.below new.now.to.now)
         (R.below new.now.past.now) (item_of new.now.first) new.now.second new.now.last result (map item_of taken.new.items)) true None
         (items_in nodes.old root.old.height root.old.slot) (items_in nodes.new root.new.height root.new.slot) }
-    ensures tree { IsNewTree (Q.bytes new.now.to.now) nodes.old nodes.new root.new.slot root.new.height }
-    ensures raised { IsRaisedInTree nodes.new root.new.slot root.new.height raised.new }
+    ensures tree { IsNewTree (Q.bytes new.now.to.now) nodes.old nodes.new root.new.slot root.new.height raised.new }
 {
     if let Some(leaf) = *raised {
         if let Some(ended) = write_in_leaf(nodes, leaf, new, taken) {
@@ -143,7 +141,7 @@ fn grow<P: Bound, const N: usize>(
 ) -> Root
     requires can_grow { CanGrow (P.bytes bound.now) nodes.old root.height root.slot added }
     ensures items { items_in nodes.new result.height result.slot ≡ items_with nodes.old root.height root.slot (Some added) }
-    ensures tree { IsNewTree (P.bytes bound.now) nodes.old nodes.new result.slot result.height }
+    ensures tree { IsNewTree (P.bytes bound.now) nodes.old nodes.new result.slot result.height None }
 {
     let mut node = Node::of(entry_for(nodes, root.slot));
     node.splice(1, 1, &[entry_for(nodes, added)], &[0]);
@@ -159,7 +157,7 @@ fn shrink<const N: usize>(nodes: &mut Arena<Node<N>>, root: Root) -> Root
     requires can_shrink { CanShrink nodes.old root.height root.slot }
     ensures items { items_in nodes.new result.height result.slot ≡ items_in nodes.old root.height root.slot }
     ensures tree { (bytes : KeyBytes) → AllAreHeads bytes (all_heads_of nodes.old)
-        → IsNewTree bytes nodes.old nodes.new result.slot result.height }
+        → IsNewTree bytes nodes.old nodes.new result.slot result.height None }
 {
     let entries = nodes.header_ref(root.slot).entries();
     if root.height == 0 || entries.len() > 1 {

@@ -1,11 +1,10 @@
-use Rattle.std.proofs.Common.{rules, ℕ, ◌+◌, ◌-◌, ◌≡◌, ◌≤◌, ◌<◌, ◌∙◌, ap, sym, refl, true, not, None, Some, length, filter, slice_get, arith}
+use Rattle.std.proofs.Common.{rules, ◌∙◌, sym, refl, Some, arith}
 use Rattle.std.proofs.lemmas.Bool.{leb-true}
-use Rattle.tree.specs.declared.entry.Entry.{Entry}
 use Rattle.tree.specs.Finding.{CanFind}
-use Rattle.tree.specs.Heads.{HasPrefix, IsTargetHead, AreHeads}
+use Rattle.tree.specs.Heads.{HasPrefix, IsTargetHead}
 use Rattle.tree.specs.Node.{entries_of, key_heads_of}
 use Rattle.tree.proofs.Headed.{key_heads_kept}
-use Rattle.tree.proofs.NearBounds.{agrees_too, no_more, same_head}
+use Rattle.tree.proofs.NearBounds.{agrees_too, no_more}
 use Rattle.tree.proofs.WrittenLeaf.{none_if}
 use Rattle.tree.proofs.remembered.find_run.Goals.{then-ends_above, else-ends_above, After-head}
 use Rattle.tree.proofs.remembered.find_run.Given as given

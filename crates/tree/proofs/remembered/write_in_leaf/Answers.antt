@@ -1,11 +1,8 @@
-use Rattle.std.proofs.Common.{rules, ℕ, ◌+◌, ◌-◌, ◌≡◌, ◌≤◌, ◌<◌, ◌∙◌, inl, ap, sym, refl, None, Some, List, [], ◌++◌, ◌∷◌, get_or, length, length-append, w64, take, drop, map, arith, unwrap_or}
-use Rattle.std.specs.Prelude.{slice_range}
+use Rattle.std.proofs.Common.{rules, ◌-◌, ◌≡◌, ◌∙◌, inl, ap, sym, None, ◌++◌, ◌∷◌, get_or, length, length-append, w64, take, drop, map, arith, unwrap_or}
 use Rattle.std.proofs.lemmas.Int.{ints, to_z-of_z}
-use Rattle.std.proofs.lemmas.List.{drop-take, length-drop, length-map, length-take-le}
-use Rattle.tree.specs.declared.entry.Entry.{Entry}
-use Rattle.tree.specs.Item.{Item, item_of}
+use Rattle.std.proofs.lemmas.List.{length-drop, length-map, length-take-le}
+use Rattle.tree.specs.Item.{item_of}
 use Rattle.tree.specs.Node.{entries_of}
-use Rattle.tree.specs.Path.{behind, first_key}
 use Rattle.tree.specs.Run.{CanFindRun}
 use Rattle.tree.specs.Subtree.{entries_at}
 use Rattle.tree.specs.Tree.{ended_by}

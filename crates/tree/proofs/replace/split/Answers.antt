@@ -55,5 +55,5 @@ returns g c =
       };
     }
   where
-    open c use {args.{nodes.{now as old}, slot}, place.{new.{nodes as w}, ensures as then}, splice_apart-right as split}
+    open c use {args.{nodes.{now as old}, slot}, place.{new.{nodes as w}, ensures.{placed as then}}, splice_apart-right as split}
     open c use {requires.{can_split as can}}

@@ -1,7 +1,7 @@
 use Rattle.std.proofs.Common.{rules, refl, ◌∙◌, arith}
 use Rattle.tree.specs.Tree.{least_of}
-use Rattle.tree.specs.Walk.{CanChange}
 use Rattle.tree.proofs.Rebalancing.{live_subtree}
+use Rattle.tree.proofs.RaisedLeaves.{raised_tree, root_can}
 use Rattle.tree.proofs.root.change.Goals as goal
 
 pub common_prefix_len_at-requires : goal.common_prefix_len_at-requires
@@ -14,22 +14,12 @@ pub change_leaf-requires : goal.change_leaf-requires
 change_leaf-requires g c =
     let can = c.requires.can_change in
     let tree = can.changeable in
-    let known = rw c.leaf_bound.ensures.leaf_bound at c.common_prefix_len_at.ensures.known in
-    let changeable : CanChange c.args.nodes.now c.args.root.now.height c.args.root.now.slot = record {
-      fan_out = tree.fan_out;
-      few = tree.few;
-      subtree = tree.rooted.subtree;
-      some = tree.some;
-      branches = tree.rooted.branches;
-      distinct = tree.rooted.distinct;
-      keyless = tree.rooted.keyless;
-      room = omega (arith, tree.room);
-    } in (
+    let known = rw c.leaf_bound.ensures.leaf_bound at c.common_prefix_len_at.ensures.known in (
       search rules,
       (
         search rules,
         record {
-          changeable = changeable;
+          changeable = root_can tree;
           searched = record { partitioned = can.partitioned; headed = can.headed; known = known };
           wanted = can.wanted;
           none_taken = can.none_taken;
@@ -78,8 +68,8 @@ returns-in-Split g c =
         rooted = tree.rooted;
         spare = tree.spare ∙ c.in-Split.ensures.changed.changes.spare;
         headed = rw (c.leaf_bound-in-Split.ensures.leaf_bound ∙ c.in-Split.ensures.leaf_bound) at tree.headed;
+        raised_is = tt;
       };
-      raised = tt;
     }
 
 pub returns-in-Changed : goal.returns-in-Changed
@@ -91,8 +81,8 @@ returns-in-Changed g c =
         rooted = tree.rooted;
         spare = tree.spare ∙ c.in-Changed.ensures.changed.changes.spare;
         headed = tree.headed;
+        raised_is = tt;
       };
-      raised = tt;
     }
 
 pub returns-in-Same : goal.returns-in-Same
@@ -101,28 +91,16 @@ returns-in-Same g c =
     let can = c.requires.can_change.changeable in
     record {
       items = c.in-Same.ensures.items;
-      tree = record { rooted = rw (put.same refl) can.rooted; spare = put.changes.spare; headed = put.headed };
-      raised = tt;
-    }
-
--- A root to whose subtree a version came keeps its entries.
-pub returns-in-Raised : goal.returns-in-Raised
-returns-in-Raised g c =
-    let put = c.in-Raised.ensures.changed in
-    let was = c.requires.can_change.changeable.rooted in
-    let told = put.raised _ refl in
-    record {
-      items = c.in-Raised.ensures.items;
       tree = record {
-        rooted = record {
-          subtree = put.subtree;
-          branches = λ above. omega (arith, was.branches above, told.no_fewer above);
-          distinct = put.changes.distinct;
-          linked = omega (arith, put.changes.live, was.linked);
-          keyless = put.changes.keyless;
-        };
+        rooted = rw (put.same refl) can.rooted;
         spare = put.changes.spare;
         headed = put.headed;
+        raised_is = tt;
       };
-      raised = told.there;
     }
+
+pub returns-in-Raised : goal.returns-in-Raised
+returns-in-Raised g c = record {
+  items = c.in-Raised.ensures.items;
+  tree = raised_tree _ c.requires.can_change.changeable.rooted c.in-Raised.ensures.changed;
+}

@@ -40,14 +40,15 @@ returns g c =
     second.ensures.child can.first can.second can.filled first.ensures.tells second.ensures.tells in
     let slots : slots_of a h es ≡ slots_in a h c.args.root.slot ++ slots_in a h c.args.added =
     simp (first.ensures.child, second.ensures.child, append-nil) in
-    let moves = moves_if_changes _ _ [] (c.place.result ∷ []) c.place.ensures.changes in
-    let root = grown a c.place.new.nodes h c.place.result es moves c.place.ensures.live (c.place.ensures.entries ∙ node)
+    let moves = moves_if_changes _ _ [] (c.place.result ∷ []) c.place.ensures.placed.changes in
+    let root = grown a c.place.new.nodes h c.place.result es moves c.place.ensures.placed.live (c.place.ensures.placed.entries ∙ node)
     (omega arith) right (rw slots can.distinct) (can.linked ∙ ap length (sym slots)) in
     record {
       items = rw add-one (simp (first.ensures.child, second.ensures.child, append-nil) at root.0);
       tree = record {
         rooted = rw add-one root.1;
-        spare = c.place.ensures.changes.spare;
-        headed = c.place.ensures.headed (g.P.Bound.bytes c.args.bound.now) c.compute_heads.ensures.headed can.headed;
+        spare = c.place.ensures.placed.changes.spare;
+        headed = c.place.ensures.placed.headed (g.P.Bound.bytes c.args.bound.now) c.compute_heads.ensures.headed can.headed;
+        raised_is = tt;
       };
     }

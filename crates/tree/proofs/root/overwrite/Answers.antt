@@ -1,8 +1,7 @@
-use Rattle.std.proofs.Common.{rules, ℕ, Bool, true, ◌≡◌, ◌≤◌, ◌<◌, ◌∙◌, List, [], ◌++◌, None, Some, refl, sym, ap, subst, append-nil, arith}
+use Rattle.std.proofs.Common.{rules, ℕ, Bool, true, ◌≡◌, ◌∙◌, [], None, refl, ap, subst, append-nil, arith}
 use Rattle.tree.specs.declared.walk.Outcome.TheVariants.{Raised}
-use Rattle.tree.specs.declared.walk.RaisedLeaf.{RaisedLeaf}
-use Rattle.tree.specs.Item.{Item, item_of}
-use Rattle.tree.specs.Overwrite.{GivesWritten, IsPartOfPartitioned}
+use Rattle.tree.specs.Item.{item_of}
+use Rattle.tree.specs.Overwrite.{IsPartOfPartitioned}
 use Rattle.tree.specs.Subtree.{items_in}
 use Rattle.tree.specs.Walk.{CanChange, IsChanged, IsRaisedAt, IsRaisedIn}
 use Rattle.tree.proofs.ChangedLeaf.{leaf_stored}
@@ -85,15 +84,8 @@ pub returns-in-Some-write_in_leaf-clause-tree : goal.returns-in-Some-write_in_le
 returns-in-Some-write_in_leaf-clause-tree g c =
     let at = goal.at.returns-in-Some-write_in_leaf-clause-tree g c in
     let can = c.requires.can_change.changeable in
-    raised_tree c.in-Some.leaf can.rooted (written c.in-Some.leaf (changed g at.In-Some-write_in_leaf) _ _ (root_can can)
-    (there g at.In-Some)).changed
-
-pub returns-in-Some-write_in_leaf-clause-raised : goal.returns-in-Some-write_in_leaf-clause-raised
-returns-in-Some-write_in_leaf-clause-raised g c =
-    let at = goal.at.returns-in-Some-write_in_leaf-clause-raised g c in
-    let put = written c.in-Some.leaf (changed g at.In-Some-write_in_leaf) _ _ (root_can c.requires.can_change.changeable)
-    (there g at.In-Some) in
-    rw c.in-Some.is ((put.changed.raised c.in-Some.leaf refl).there)
+    rw c.in-Some.is (raised_tree c.in-Some.leaf can.rooted (written c.in-Some.leaf (changed g at.In-Some-write_in_leaf) _ _
+    (root_can can) (there g at.In-Some)).changed)
 
 -- Where no run was written over, all is as it was.
 pub change-requires : goal.change-requires

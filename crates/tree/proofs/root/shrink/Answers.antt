@@ -32,5 +32,6 @@ returns g c =
         rooted = root.1;
         spare = omega (arith, moves.live, moves.spare);
         headed = headed_released bytes a b slot all free.released free.others;
+        raised_is = tt;
       };
     }

@@ -1,9 +1,9 @@
-use Rattle.std.proofs.Common.{◌≡◌, ◌≤◌, ◌+◌, ◌-◌, ℕ, suc, inl, inr, None, Bool, List, Option, length, get_or, take, drop, refl, sym, ap, ◌∙◌, arith, rules}
+use Rattle.std.proofs.Common.{◌≡◌, ◌+◌, ◌-◌, ℕ, suc, inl, inr, None, Bool, List, Option, length, get_or, take, drop, refl, sym, ap, ◌∙◌, arith, rules}
 use Rattle.tree.specs.declared.entry.Entry.{Entry}
 use Rattle.tree.specs.Item.{Item}
 use Rattle.tree.specs.Node.{entries_of}
 use Rattle.tree.specs.Path.{index_in}
-use Rattle.tree.specs.Subtree.{entries_at, items_in, slots_in}
+use Rattle.tree.specs.Subtree.{entries_at, items_in}
 use Rattle.tree.specs.declared.walk.Outcome.TheVariants.{Same, Raised, Changed, Split}
 use Rattle.tree.specs.declared.walk.RaisedLeaf.{RaisedLeaf}
 use Rattle.tree.specs.Tree.{least_of}
@@ -139,8 +139,13 @@ change_leaf-requires g t c κs low =
 pub raise_entry-requires : goal.raise_entry-requires
 raise_entry-requires g t c =
     let at = at_child g t (goal.at.raise_entry-requires g t c).After-index-entries-step in
-    rw (c.leaf_bound-in-Raised.ensures.leaf_bound ∙ c.in-Raised.ensures.leaf_bound)
-    (search rules, (can_rebalance at c.in-Raised.ensures.changed refl, child_filled at c.in-Raised.ensures.changed refl _ refl))
+    rw (c.leaf_bound-in-Raised.ensures.leaf_bound ∙ c.in-Raised.ensures.leaf_bound) (
+      search rules,
+      record {
+        rebalance = can_rebalance at c.in-Raised.ensures.changed refl;
+        filled = child_filled at c.in-Raised.ensures.changed refl _ refl;
+      },
+    )
 
 pub rebalance_child-requires : goal.rebalance_child-requires
 rebalance_child-requires g t c =

@@ -1,9 +1,7 @@
-use Rattle.std.proofs.Common.{rules, ℕ, ◌+◌, ◌-◌, ◌≡◌, ◌≤◌, ◌∙◌, ap, sym, refl, subst, Bool, true, false, List, [], ◌∷◌, ◌++◌, length, take, drop}
-use Rattle.std.proofs.Common.{map, is_some, None, Option, Some, unwrap_or, ℤ, w64, to_z, of_z, inl, inr, ◌⊎◌, IsTrue, arith}
-use Rattle.std.specs.Prelude.{slice_range}
+use Rattle.std.proofs.Common.{rules, ℕ, ◌≡◌, ◌≤◌, ◌∙◌, ap, sym, refl, subst, Bool, true, List, ◌∷◌, ◌++◌, length, take, drop}
+use Rattle.std.proofs.Common.{map, unwrap_or, ℤ, w64, to_z, of_z, inl, inr, ◌⊎◌, IsTrue, arith}
 use Rattle.std.proofs.lemmas.Bool.{leb-true, not-false}
 use Rattle.std.proofs.lemmas.Int.{to_z-of_z}
-use Rattle.std.proofs.lemmas.List.{drop-take}
 use Rattle.std.proofs.lemmas.Option.{IfSome_then}
 use Rattle.tree.specs.declared.entry.Entry.{Entry}
 use Rattle.tree.specs.declared.walk.RaisedLeaf.{RaisedLeaf}

@@ -64,7 +64,7 @@ invariant_of-self g c =
     let tree = c.overwrite-written.ensures.tree in (
       tree_put c.self.inside.nodes _ _ _ _ _ _ _ _ was tree.rooted tree.spare (omega (arith, was.counted))
           (omega (arith, was.counted)) (omega (arith, can.room, was.counted)),
-      c.overwrite-written.ensures.raised,
+      c.overwrite-written.ensures.tree.raised_is,
     )
 
 pub returns-clause-items : goal.returns-clause-items

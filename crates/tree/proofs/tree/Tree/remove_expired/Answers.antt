@@ -54,7 +54,7 @@ invariant_of-self g c =
     let tree = c.change-self-inside.ensures.tree in (
       tree_put c.self.inside.nodes _ _ _ _ _ _ _ _ was tree.rooted tree.spare (omega (arith, was.counted))
           (omega (arith, was.counted)) (omega (arith, was.counted, was.within)),
-      c.change-self-inside.ensures.raised,
+      c.change-self-inside.ensures.tree.raised_is,
     )
 
 pub returns-clause-removal : goal.returns-clause-removal
