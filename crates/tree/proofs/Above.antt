@@ -1,9 +1,8 @@
 -- Whether a version is above another, of items and of the entries for them.
-use Rattle.std.proofs.Common.{◌≡◌, Bool, true, false, List, map, IsTrue, ◌↔◌, All, Any, int_le, arith, ℤ, ◌<ℤ◌, ◌≤ℤ◌, w64, SFits, to_z, of_z}
+use Rattle.std.proofs.Common.{◌≡◌, Bool, true, List, map, IsTrue, ◌↔◌, All, Any, int_le, arith, ℤ, ◌<ℤ◌, ◌≤ℤ◌, w64, SFits, to_z, of_z}
 use Rattle.std.proofs.lemmas.Int.{ints, to_z-of_z}
 use Rattle.tree.proofs.Words.{Entry, Item, item_of}
 use Rattle.tree.proofs.GreatestParts.{Bounds}
-use Rattle.tree.proofs.callers.Partitions.{not_both}
 use Rattle.keys.proofs.callers.SomeElement.{Any-map, Any-unmap}
 
 -- the other way about
@@ -19,8 +18,7 @@ module _ (v : ℤ) where
 
   -- where none is greater than a version that isn't above it, none is above it
   pub not_above : (w : ℤ) (items : List Item) → All (Bounds w) items → w ≤ℤ v → IsAbove items → ⊥
-  not_above w items bound le a =
-      let lt : v <ℤ a.1.version = a.4 in omega (arith, ints, le, rw a.3 at (bound a.0 a.1 a.2), lt)
+  not_above w items bound le a = let lt : v <ℤ a.1.version = a.4 in omega (arith, ints, le, rw a.3 at (bound a.0 a.1 a.2), lt)
 
   -- what the code answers of entries, where these are the items
   pub leaf_above : (b : Bool) (whole : List Item) (es : List Entry) → whole ≡ map item_of es
@@ -28,6 +26,3 @@ module _ (v : ℤ) where
   leaf_above b whole es e h =
       let P = λ (x : Item). v <ℤ x.version in
       rw e ((λ t. Any-map item_of P es (h.0 t)), (λ a. h.1 (Any-unmap item_of P es a)))
-
-  pub none_above : (b : Bool) (whole : List Item) → b ≡ false → (IsAbove whole → ⊥) → (IsTrue b ↔ IsAbove whole)
-  none_above b whole f n = ((λ t. absurd (not_both b t f)), (λ a. absurd (n a)))

@@ -10,8 +10,7 @@ use Rattle.tree.proofs.FromLast.{last_and_between}
 -- the test as the code makes it
 pub above_tested : (a b : ℤ) → SFits w64 a → SFits w64 b
     → IsTrue (int_lt (to_z w64 (of_z w64 a)) (to_z w64 (of_z w64 b))) ↔ (a <ℤ b)
-above_tested a b f g =
-    rw (to_z-of_z w64 a f, to_z-of_z w64 b g) ((λ h. grind (arith, ints)), (λ h. grind (arith, ints)))
+above_tested a b f g = rw (to_z-of_z w64 a f, to_z-of_z w64 b g) ((λ h. grind (arith, ints)), (λ h. grind (arith, ints)))
 
 module _ (p q : ℕ → Bool) (v : ℤ) (n : (key : ℕ) → p key ≡ true → q key ≡ true) (items : List Item)
     (partitioned : IsPartitioned (λ x. p x.key) items) (x : Item) (last : IsLast x (items_below p items)) where

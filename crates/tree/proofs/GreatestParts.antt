@@ -29,13 +29,6 @@ module _ (below : Entry → List Item) where
   abbrev Told : Entry → Type 0
   Told e = Tells e (below e)
 
-  abbrev Low : ℤ → Entry → Type 0
-  Low v e = version_of e ≤ℤ v
-
-  children_bound : (v : ℤ) (es : List Entry) → All Told es → All (Low v) es → All (Bounds v) (flat_map below es)
-  children_bound v es t a =
-      All-joined (Bounds v) below es (λ i d inside. higher _ v _ (a i d inside) (t i d inside).greatest.bound)
-
   children_reached : (v : ℤ) (es : List Entry) → All Told es → Any (λ e. version_of e ≡ v) es
       → Any (Reaches v) (flat_map below es)
   children_reached v [] t a = absurd (Any-none (λ (e : Entry). version_of e ≡ v) a)
@@ -48,4 +41,6 @@ module _ (below : Entry → List Item) where
   pub IsPeak-children : (a : Option ℤ) (es : List Entry) → All Told es → IsPeak version_of a es
       → IsPeak (λ x. x.version) a (flat_map below es)
   IsPeak-children None es t h = ap (flat_map below) h
-  IsPeak-children (Some v) es t h = search (rules, children_bound v es t h.bound, children_reached v es t h.reached)
+  IsPeak-children (Some v) es t h =
+      let bound = All-joined (Bounds v) below es (λ i d inside. higher _ v _ (h.bound i d inside) (t i d inside).greatest.bound) in
+      search (rules, bound, children_reached v es t h.reached)

@@ -23,8 +23,7 @@ key_there entries index e there = rw (slice_get-map (λ (x : Entry). x.key) entr
 -- the entry itself, among all those that the node has room for
 pub entry_there : (room : List Entry) (len index : ℕ) (e d : Entry) → slice_get (take len room) index ≡ Some e
     → get_or room index d ≡ e
-entry_there room len index e d there =
-    grind (arith, slice_get_within, length-take, get_or-take, get_or_from_slice_get)
+entry_there room len index e d there = grind (arith, slice_get_within, length-take, get_or-take, get_or_from_slice_get)
 
 -- what is known of the key at an index
 pub record IsKeyAt (bytes : KeyBytes) (key_heads : KeyHeads) (beginning : List ℕ) (index key : ℕ) : Type 0 where

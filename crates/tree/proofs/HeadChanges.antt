@@ -1,18 +1,13 @@
 -- What nodes know of the bytes of their keys, through changes of these.
 use Rattle.std.proofs.Common.{◌≡◌, ◌≢◌, ◌⊎◌, inl, inr, ℕ, ◌+◌, ◌-◌, ◌<◌, ◌≤◌, min, List, [], ◌∷◌, ◌++◌, Some, length, get_or, take, drop, map, All, refl, sym, ◌∙◌, arith, slice_get, slice_set}
 use Rattle.std.specs.List.{AllZip, Contains}
-use Rattle.std.proofs.lemmas.List.{get_or-map, get_or-take, length-map, length-take, length-take-le, drop_at, map-append, map-set, map_more, set-get_or, take_all, take_at, take-map, drop-map, take_more_set}
+use Rattle.std.proofs.lemmas.List.{get_or-map, get_or-take, length-map, length-take, length-take-le, drop_at, map-append, map-set, map_more, set-get_or, take_at, take-map, drop-map, take_more_set}
 use Rattle.std.proofs.lemmas.Option.{slice_get_within, get_or_from_slice_get}
 use Rattle.std.proofs.lemmas.List.Elements.{All-nil, All-cons, All-append, All-contains, All-drop, All-more, All-set, All-take}
 use Rattle.tree.proofs.Words.{Entry, KeyBytes, IsKnown, Begins, KeyHeads, AreHeads, HasPrefix, IsHeadBeside, IsTargetHead, head_behind, head_at, keys_of}
 use Rattle.tree.proofs.Headed.{all_known, begins_if_long}
 use Rattle.tree.proofs.HeadOrder.{take_fewer}
 use Rattle.tree.proofs.callers.Partitions.{All-front, All-back}
-
--- The second list is that of the first one, whole.
-pub map_whole : {X Y : Type 0} (f : X → Y) (xs : List X) (ys : List Y) (len i : ℕ) → length xs ≡ len → i ≡ len
-    → take i ys ≡ map f (take i xs) → take len ys ≡ map f xs
-map_whole f xs ys len i count end is = cc (take_all i xs (omega (arith, count, end)))
 
 -- Elements are put in place of those from one index up to another.
 All-spliced : {X : Type 0} (P : X → Type 0) (xs new : List X) (from to : ℕ) → All P xs → All P new
@@ -60,8 +55,7 @@ module _ (es : List Entry) (len i : ℕ) (e : Entry) (inside : i < len) (most : 
   pub head_next : (f : ℕ → ℕ) (heads : List ℕ) (head : ℕ) → i < length heads → head ≡ f e.key
       → take i heads ≡ map f (take i (keys_of (take len es)))
       → take (i + 1) (slice_set heads i head) ≡ map f (take (i + 1) (keys_of (take len es)))
-  head_next f heads head room right before =
-      grind (arith, map_more, take_more_set, keys_count, key_read)
+  head_next f heads head room right before = grind (arith, map_more, take_more_set, keys_count, key_read)
 
   -- another entry of the same key in its place changes no key
   pub key_stays : (new : Entry) → e.key ≡ new.key → keys_of (slice_set (take len es) i new) ≡ keys_of (take len es)

@@ -79,15 +79,9 @@ head_number a bytes =
     let same = λ (i : ℕ) (inside : i < 4). get_or-take 4 (first_eight a) i 0 inside in
     omega (arith, b 0, b 1, b 2, b 3, b 4, b 5, b 6, b 7, same 0 (omega arith), same 1 (omega arith), same 2 (omega arith), same 3 (omega arith))
 
--- It is written with these bytes,
+-- It is written with these bytes.
 head_four : (a : List ℕ) → IsBytes a → to_be_bytes w32 (head_of a / 4294967296) ≡ take 4 (first_eight a)
 head_four a bytes = upper_half (head_of a) ∙ ap (take 4) (head_of-bytes a bytes)
-
--- and is the same where these are.
-same_four : (a b : List ℕ) → IsBytes a → IsBytes b → take 4 (first_eight a) ≡ take 4 (first_eight b)
-    → head_of a / 4294967296 ≡ head_of b / 4294967296
-same_four a b a_bytes b_bytes same =
-    head_number a a_bytes ∙ ap (from_be_bytes w32) same ∙ sym (head_number b b_bytes)
 
 take-first_eight : (n : ℕ) (a : List ℕ) → n ≤ 8 → n ≤ length a → take n (first_eight a) ≡ take n a
 take-first_eight n a few within = cc (take-take n 8 (a ++ replicate 8 0) few, take-append-le n a (replicate 8 0) within)
@@ -155,7 +149,8 @@ module _ (n : ℕ) (text target : List ℕ) (text_bytes : IsBytes text) (target_
         | inr many ↦
             let whole : m ≡ 4 = omega (arith, many, few) in
             let all = λ (a : List ℕ). take_all m (take 4 (first_eight a)) (omega (arith, length-take 4 (first_eight a))) in
-            absurd (apart (same_four (rest text) (rest target) t s (sym (all (rest text)) ∙ four ∙ all (rest target))))
+            let same = sym (all (rest text)) ∙ four ∙ all (rest target) in
+            absurd (apart (head_number (rest text) t ∙ ap (from_be_bytes w32) same ∙ sym (head_number (rest target) s)))
         | inl less ↦
             let eight : take m (first_eight (rest text)) ≡ take m (first_eight (rest target)) =
             sym (take-take m 4 (first_eight (rest text)) few) ∙ four ∙ take-take m 4 (first_eight (rest target)) few in

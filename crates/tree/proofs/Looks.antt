@@ -1,14 +1,13 @@
 -- A look at the items from one bound to another, below a node.
-use Rattle.std.proofs.Common.{rules, ◌≡◌, ℕ, zero, suc, ◌+◌, ◌-◌, ◌<◌, ◌≤◌, Bool, true, false, List, ◌++◌, Option, Some, None, option_map, length, get_or, take, drop, filter, flat_map, map, All, IfSome, sym, refl, not, ◌&&◌, ◌∙◌, ap, subst, arith, slice_range, append-nil}
-use Rattle.std.proofs.lemmas.List.{get_or_read}
+use Rattle.std.proofs.Common.{rules, ◌≡◌, ℕ, zero, suc, ◌-◌, ◌<◌, ◌≤◌, Bool, true, false, List, Option, Some, None, option_map, length, get_or, filter, flat_map, map, All, IfSome, sym, refl, not, ◌&&◌, ◌∙◌, ap, subst, arith, slice_range, append-nil}
 use Rattle.tree.proofs.Words.{Arena, header_at, Entry, Node, Item, Tells, item_of, entries_of, IsPartitioned, below_from, below_to, entries_at, items_in, IsChild, IsSubtree, CanStep, KeyBytes, IsPrefixLenAt, CanReach}
 use Rattle.tree.proofs.callers.Partitions.{none_pass, none_fail}
-use Rattle.tree.proofs.Ways.{children_partitioned, pass_before, fail_behind_index, index_inside}
+use Rattle.tree.proofs.Ways.{children_partitioned, index_inside}
 use Rattle.tree.proofs.Found.{partitioned-entries, entries_read, read_partitioned}
 use Rattle.tree.proofs.Headed.{headed_at}
 use Rattle.tree.proofs.Placing.{entries_from_header}
 use Rattle.tree.proofs.Keys.{filter-items}
-use Rattle.tree.proofs.Spans.{span, span_range, span_of_child, span_of_two, fewer_before}
+use Rattle.tree.proofs.Spans.{span, span_range, fewer_before}
 
 -- What `requires` says of a bound that may be missing, as a bound, and back.
 module _ {A : Type 0} (lets : A → ℕ → Bool) (items : List Item) where
@@ -75,8 +74,7 @@ can_step_at {N} {nodes} {least} {height} {slot} {bytes} {is_below} {target} {kno
     let headed = headed_at bytes nodes slot node can.headed header in
     let partitioned = look_bound nodes least height slot is_below node _ can.subtree can.partitioned header refl in
     let some = rw read at can.some in
-    let known = rw read at knows in
-    search rules
+    search (rules, rw read at knows)
 
 pub look_of : {N : ℕ} {A B : Type 0} (nodes : Arena (Node N)) (least height slot : ℕ) (f : A → ℕ → Bool)
     (t : B → ℕ → Bool) (from : Option A) (to : Option B) (header : Node N) (es : List Entry) (begin end : ℕ)
@@ -92,8 +90,7 @@ look_of nodes least height slot f t from to header es begin end s c d n h e b l 
     let asked_from = from_asked f (items_in nodes height slot) from c in
     let asked_to = to_asked t (items_in nodes height slot) to d in
     let nested = nested_asked f t from to n in
-    let read = entries_read nodes slot header es h e in
-    search rules
+    search (rules, entries_read nodes slot header es h e)
 
 module _ {N : ℕ} (nodes : Arena (Node N)) (least height slot : ℕ) (f t : ℕ → Bool) (es : List Entry)
     (begin end : ℕ) (k : IsLook nodes least height slot f t es begin end) where
@@ -134,7 +131,7 @@ module _ {N : ℕ} (nodes : Arena (Node N)) (least height slot : ℕ) (f t : ℕ
     pub from_items : IsPartitioned p (flat_map below es)
     from_items = rw (← look_items) k.from
 
-    to_items : IsPartitioned q (flat_map below es)
+    pub to_items : IsPartitioned q (flat_map below es)
     to_items = rw (← look_items) k.to
 
     pub last_inside : end - 1 < length es
@@ -153,34 +150,3 @@ module _ {N : ℕ} (nodes : Arena (Node N)) (least height slot : ℕ) (f t : ℕ
 
       pub child_to : IsPartitioned q (below e)
       child_to = rw is (children_partitioned t below es to_items i e inside)
-
-    module _ (first last : ℕ) (fi : first ≡ begin - 1) (la : last ≡ end - 1) where
-      front : All (λ x. p x ≡ true) (flat_map below (take first es))
-      front = rw (fi, k.begin_is) (pass_before f below es look_tell from_items)
-
-      later : All (λ x. p x ≡ false) (flat_map below (drop (first + 1) es))
-      later = rw (fi, k.begin_is) (fail_behind_index f below es look_tell from_items)
-
-      sooner : All (λ x. q x ≡ true) (flat_map below (take last es))
-      sooner = rw (la, k.end_is) (pass_before t below es look_tell to_items)
-
-      back : All (λ x. q x ≡ false) (flat_map below (drop (last + 1) es))
-      back = rw (la, k.end_is) (fail_behind_index t below es look_tell to_items)
-
-      pub look_apart : (first ≡ last → ⊥) → first + 1 ≤ last
-      look_apart ne = omega (arith, look_ordered)
-
-      pub look_one : (left : Entry) → left ≡ get_or es first left → first ≡ last
-          → span p q (items_in nodes height slot) ≡ span p q (below left)
-      look_one left li same =
-          rw (look_items, li)
-          (span_of_child below p q es first last left front later sooner back same (omega (arith, first_inside)))
-
-      pub look_two : (left right : Entry) → left ≡ get_or es first left → right ≡ get_or es last right
-          → (first ≡ last → ⊥) → span p q (items_in nodes height slot) ≡ span p (λ x. true) (below left)
-          ++ (flat_map below (slice_range es (first + 1) last) ++ span (λ x. false) q (below right))
-      look_two left right li ri ne =
-          let inside : last < length es = omega (arith, last_inside) in
-          let same : right ≡ get_or es last left = get_or_read es last right inside ri left in
-          let lt : first < last = omega (arith, look_apart ne) in
-          rw (look_items, li, same) (span_of_two below p q es first last left front later sooner back lt inside)

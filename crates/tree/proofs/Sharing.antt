@@ -64,17 +64,6 @@ module _ {N : ℕ} where
       let all = add (e.child ∷ own) (slots_of a (suc height) es) in
       omega (arith, count_below a height count none add es, parts, first, all, add (e.child ∷ []) (slots_of a 0 es))
 
-  right_below : (a : Arena (Node N)) (least height : ℕ) (es : List Entry)
-      → All (λ e. IsSubtree a least (suc height) e.child) es → AreChildren a least height (entries_below a es)
-  right_below a least height es h =
-      All-joined (IsRight a least height) (λ (e : Entry). entries_at a e.child) es (λ i d inside. (h i d inside).2)
-
-  subtrees_above : (a : Arena (Node N)) (least height : ℕ) (es : List Entry) → All (λ e. 1 ≤ length (entries_at a e.child)) es
-      → AreChildren a least height (entries_below a es) → All (λ e. IsSubtree a least (suc height) e.child) es
-  subtrees_above a least height es some right =
-      let each = All-apart (IsRight a least height) (λ (e : Entry). entries_at a e.child) es right in
-      λ i d inside. (live_if_some a _ (some i d inside), some i d inside, each i d inside)
-
   -- children that have the entries of others
   pub record Regrouped (a b : Arena (Node N)) (least height : ℕ) (old new : List Entry) : Type 0 where
     pub subtrees : All (λ e. IsSubtree b least height e.child) new
@@ -95,7 +84,7 @@ module _ {N : ℕ} where
       }
   regrouped a b least (suc height) old new moves here some below few =
       let es = entries_below a old in
-      let right = right_below a least height old below in
+      let right = All-joined (IsRight a least height) (λ (e : Entry). entries_at a e.child) old (λ i d lt. (below i d lt).2) in
       let live = live_children a least height es right in
       let count = λ (s : ℕ). count_below a height (times s) refl (times-append s) old in
       let agree = moves_agree a b (slots_of a 0 old) (slots_of b 0 new) (slots_of a height es) moves live
@@ -104,9 +93,10 @@ module _ {N : ℕ} where
       ap (slots_of b height) here ∙ slots_of_same a b height es agree in
       let items = λ (c : Arena (Node N)).
       flat_map-parts (λ (e : Entry). entries_at c e.child) (items_of c height) refl (items_of-append c height) in
+      let each = All-apart (IsRight b least height) (λ (e : Entry). entries_at b e.child) new
+      (subst (AreChildren b least height) (sym here) (children_same a b height es agree least right)) in
       record {
-        subtrees = subtrees_above b least height new some
-            (subst (AreChildren b least height) (sym here) (children_same a b height es agree least right));
+        subtrees = λ i d inside. (live_if_some b _ (some i d inside), some i d inside, each i d inside);
         items = cc (items a old, items b new, items_of_same a b height es agree);
         moves = moves_beside a b (slots_of a 0 old) (slots_of b 0 new) (slots_of a height es) _ _ moves count
             (λ s. rw same at (count_below b height (times s) refl (times-append s) new))

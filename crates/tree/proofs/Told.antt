@@ -6,7 +6,7 @@ use Rattle.std.proofs.lemmas.Grind.{flat_map-append}
 use Rattle.std.proofs.lemmas.List.{length-map}
 use Rattle.std.proofs.lemmas.List.Elements.{All-nil, filter-append}
 use Rattle.tree.proofs.Words.{Arena, Entry, Node, Item, Tells, item_of, IsPartitioned, from_last, IsTold, items_in}
-use Rattle.tree.proofs.Above.{IsAbove, none_above, leaf_above}
+use Rattle.tree.proofs.Above.{IsAbove, leaf_above}
 use Rattle.tree.proofs.callers.Partitions.{All-front, none_pass, none_fail, IsPartitioned-parts, rest_fails}
 use Rattle.tree.proofs.FromLast.{from_last_of, leaf_from_last, none_told}
 use Rattle.tree.proofs.Keys.{filter-items}
@@ -97,7 +97,7 @@ module _ (p q : ℕ → Bool) (v : ℤ) (n : (key : ℕ) → p key ≡ true → 
       → e.version ≤ℤ v → IsTold p q v clear part (Some false)
   told_by_entry e part clear t is_below c le =
       told_part part clear false (rw (t.items_are, ← t.key, is_below) (omega arith)) (λ after k d. k c)
-      (none_above v false _ refl (none_told v e part t le (λ x. p x.key) (λ x. q x.key)))
+      ((λ yes. absurd (cc)), (λ above. absurd (none_told v e part t le (λ x. p x.key) (λ x. q x.key) above)))
 
 -- below a node
 module _ {N : ℕ} (nodes : Arena (Node N)) (least height slot : ℕ) (p q : ℕ → Bool) (es : List Entry)

@@ -64,8 +64,7 @@ module _ {X : Type 0} (p : X → Bool) where
       (rw t (ap (λ ys. x ∷ ys) i.0), rw t i.1)
 
   pub failed : (xs : List X) → All (λ x. p x ≡ false) (filter (λ x. not (p x)) xs)
-  failed xs =
-      All-weaker (λ x. not (p x) ≡ true) (λ x. p x ≡ false) (λ x. not_true (p x)) _ (filter_passes (λ x. not (p x)) xs)
+  failed xs = All-weaker (λ x. not (p x) ≡ true) (λ x. p x ≡ false) (λ x. not_true (p x)) _ (filter_passes (λ x. not (p x)) xs)
 
   -- what stands before and behind a bound
   pub before_partitioned : (xs : List X) → IsPartitioned p xs → All (λ x. p x ≡ true) (take (length (filter p xs)) xs)

@@ -20,19 +20,13 @@ asked : (g : Over) (t : ℕ) (c : After-entries-entries g t)
 asked g t c = can_step_at c.requires.asked.can_reach c.requires.known c.header_ref-node.ensures.header
 
 pub head_for-own-requires : goal.head_for-own-requires
-head_for-own-requires g t c =
-    let a = asked g t (goal.at.head_for-own-requires g t c).After-entries-entries in
-    search rules
+head_for-own-requires g t c = search (rules, asked g t (goal.at.head_for-own-requires g t c).After-entries-entries)
 
 pub step_by-step-requires : goal.step_by-step-requires
-step_by-step-requires g t c =
-    let a = asked g t (goal.at.step_by-step-requires g t c).After-entries-entries in
-    search rules
+step_by-step-requires g t c = search (rules, asked g t (goal.at.step_by-step-requires g t c).After-entries-entries)
 
 pub is_clear-clear-requires : goal.is_clear-clear-requires
-is_clear-clear-requires g t c =
-    let a = asked g t (goal.at.is_clear-clear-requires g t c).After-entries-entries in
-    search rules
+is_clear-clear-requires g t c = search (rules, asked g t (goal.at.is_clear-clear-requires g t c).After-entries-entries)
 
 -- the child of the entry at which the search goes on
 module _ (g : Over) (t : ℕ) (c : After-is_clear-clear g t) where
@@ -48,9 +42,7 @@ module _ (g : Over) (t : ℕ) (c : After-is_clear-clear g t) where
   -- the two bounds of the node
   look : IsLook c.args.nodes.now (least_of g.row.N) c.args.height c.args.slot p q es (length (filter (λ x. p x.key) es))
       (length (filter (λ x. q x.key) es))
-  look =
-      let read = entries_from_header c.args.nodes.now _ _ c.header_ref-node.ensures.header in
-      search rules
+  look = search (rules, entries_from_header c.args.nodes.now _ _ c.header_ref-node.ensures.header)
 
   is : c.index-entries-step.result ≡ get_or es c.step_by-step.result.index c.index-entries-step.result
   is = rw (← c.entries-entries.ensures.entries) c.index-entries-step.is

@@ -39,9 +39,7 @@ leaf : (g : Over) (c : After-end_in-end g)
     → IsLook c.args.nodes.now (least_of g.row.N) 0 c.args.near.leaf (g.P.Bound.below c.args.question.now.from)
     (g.Q.Bound.below c.args.question.now.to) (entries_of c.header_ref-node.result.now) c.lower_bound_by_head-begin.result
     c.end_in-end.result
-leaf g c =
-    let read = entries_from_header c.args.nodes.now _ _ c.header_ref-node.ensures.header in
-    search rules
+leaf g c = search (rules, entries_from_header c.args.nodes.now _ _ c.header_ref-node.ensures.header)
 
 pub slice_bounds-any_above-count : goal.slice_bounds-any_above-count
 slice_bounds-any_above-count g c =
@@ -49,8 +47,7 @@ slice_bounds-any_above-count g c =
 
 pub slice_bounds-any_above-start : goal.slice_bounds-any_above-start
 slice_bounds-any_above-start g c =
-    let le = look_ordered _ _ _ _ _ _ _ _ _ (leaf g (goal.at.slice_bounds-any_above-start g c).After-end_in-end) in
-    search rules
+    search (rules, look_ordered _ _ _ _ _ _ _ _ _ (leaf g (goal.at.slice_bounds-any_above-start g c).After-end_in-end))
 
 pub returns : goal.returns
 returns g c =

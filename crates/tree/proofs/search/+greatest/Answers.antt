@@ -39,8 +39,7 @@ slice_bounds-greatest_of-count g t c =
 
 pub slice_bounds-greatest_of-start : goal.slice_bounds-greatest_of-start
 slice_bounds-greatest_of-start g t c =
-    let le = look_ordered _ _ _ _ _ _ _ _ _ (look g t (goal.at.slice_bounds-greatest_of-start g t c).After-end_of-end) in
-    search rules
+    search (rules, look_ordered _ _ _ _ _ _ _ _ _ (look g t (goal.at.slice_bounds-greatest_of-start g t c).After-end_of-end))
 
 pub returns-then-height-eq0 : goal.returns-then-height-eq0
 returns-then-height-eq0 g t c =

@@ -1,6 +1,6 @@
-use Rattle.std.proofs.Common.{◌<◌, ◌≤◌, ◌∙◌, length, refl, ap, sym, arith, length-set}
+use Rattle.std.proofs.Common.{◌<◌, ◌≤◌, ◌∙◌, length, refl, ap, sym, arith, length-set, take_all, ◌≡◌}
 use Rattle.tree.proofs.Words.{head_at, entries_of, keys_of}
-use Rattle.tree.proofs.HeadChanges.{head_next, head_read, keys_count, map_whole}
+use Rattle.tree.proofs.HeadChanges.{head_next, head_read, keys_count}
 use Rattle.tree.proofs.node.Node.compute_heads.Goals as goal
 
 pub loop-index-init : goal.loop-index-init
@@ -29,13 +29,13 @@ returns-clause-entries g c = rw (c.loop-index.invariant.len, c.loop-index.invari
 
 pub returns-clause-headed : goal.returns-clause-headed
 returns-clause-headed g c =
-    let most : node.len ≤ length node.entries = omega (arith, inv.len, ap length inv.entries) in
+    let size = keys_count node.entries node.len (omega (arith, inv.len, ap length inv.entries)) in
+    let end : c.loop-index.index ≡ node.len = omega (arith, inv.len) in
     record {
       beginning = begin.0;
       prefix_len = begin.1 ∙ sym inv.prefix_len;
       begins = rw (← inv.len, ← inv.entries) at begin.2;
-      heads = map_whole (head_at (g.P.Bound.bytes c.args.bound.now) node.prefix_len) (keys_of (entries_of node)) node.heads
-          node.len c.loop-index.index (keys_count node.entries node.len most) (omega (arith, inv.len)) inv.heads;
+      heads = cc (take_all c.loop-index.index (keys_of (entries_of node)) (omega (arith, size, end)), inv.heads);
     }
   where
     open c use {loop-index.{self as node, invariant as inv}, beginning-self.{ensures.{begin}}}
