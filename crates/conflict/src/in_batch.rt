@@ -1,7 +1,7 @@
 //! The check of a batch against its own writes, by runs of gaps: `ConflictBatch::checkIntraBatchConflicts` of FoundationDB 7.1.
 
-ghost use Rattle.std.specs.Prelude.{◌≡◌, ◌<◌, ◌≤◌, ◌∷◌, ◌++◌, ℕ, List, [], length, position, if◌then◌else◌};
-ghost use Rattle.std.specs.Prelude.{All, IfOk, IfSome, OnOk, take, drop};
+ghost use Rattle.std.specs.Prelude.{◌≡◌, ◌<◌, ◌∷◌, ◌++◌, ℕ, List, [], length, position, if◌then◌else◌};
+ghost use Rattle.std.specs.Prelude.{All, IfOk, IfSome, OnOk};
 ghost use Rattle.keys.specs.declared.range.Range.{Range};
 ghost use Rattle.keys.specs.Ranks.{HaveBegin};
 ghost use Rattle.keyspace.specs.declared.reply.Verdict.TheVariants.{Committed};

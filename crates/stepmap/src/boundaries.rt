@@ -1,6 +1,6 @@
 //! The boundaries of a step function: their versions in a tree, and their keys in an arena.
-ghost use Rattle.std.specs.Prelude.{◌≡◌, ℕ, ◌+◌, ◌*◌, ◌<◌, ◌≤◌, ◌<ℤ◌, ◌≤ℤ◌, negsuc, ◌↔◌};
-ghost use Rattle.std.specs.Prelude.{List, [], ◌∷◌, ◌++◌, length, slice_get, IsTrue, IfOk, IfSome, IsSomeAnd, None, OnOk, IsOkUnless, unwrap_or};
+ghost use Rattle.std.specs.Prelude.{◌≡◌, ℕ, ◌+◌, ◌*◌, ◌<◌, ◌≤◌, ◌≤ℤ◌, negsuc, ◌↔◌};
+ghost use Rattle.std.specs.Prelude.{List, [], ◌∷◌, length, slice_get, IsTrue, IfOk, IfSome, IsSomeAnd, None, OnOk, IsOkUnless, unwrap_or};
 ghost use Rattle.std.specs.List.{All, AllZip};
 ghost use Rattle.arena.specs.Arena.{wanted_of, HasRoomFor};
 ghost use Rattle.keys.specs.Key.{IsBytes};

@@ -81,7 +81,7 @@ impl<'a> Bound for KeyBound<'a> {
     ghost order = { λ c slot text is. is_below_in_order c.keys.now c.up_to c.key.now slot text is };
 }
 
-// Returns the bytes of a key, or none if the slot isn't live.
+// Returns the bytes of a key, or no bytes if the slot isn't live.
 fn bytes_of(keys: &Arena<()>, slot: Slot) -> &[u8]
     ensures bytes { result.now ≡ bytes_at keys.now slot }
 {

@@ -1,6 +1,6 @@
 //! The keys of boundaries that were taken out are released.
 
-ghost use Rattle.std.specs.Prelude.{◌≡◌, ℕ, ◌+◌, ◌≤◌, List, length, map, nat_eq, []};
+ghost use Rattle.std.specs.Prelude.{◌≡◌, ℕ, ◌+◌, ◌≤◌, length, map, nat_eq, []};
 ghost use Rattle.std.specs.List.{All, Contains, IsDistinct};
 ghost use Rattle.std.specs.FinMap as finite;
 ghost use Rattle.arena.specs.Arena.{IsLive, record_at, spare_of};

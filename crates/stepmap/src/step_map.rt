@@ -1,7 +1,7 @@
 //! The step map: boundaries, a filter before them, an edge, and a limit.
 
-ghost use Rattle.std.specs.Prelude.{◌≡◌, ℕ, ◌+◌, ◌*◌, ◌≤◌, ◌<◌, nat_le, ℤ, negsuc, ◌≤ℤ◌, ◌↔◌};
-ghost use Rattle.std.specs.Prelude.{Bool, List, [], ◌++◌, length, take, drop, slice_get, Some, None, Err};
+ghost use Rattle.std.specs.Prelude.{◌≡◌, ℕ, ◌+◌, ◌*◌, ◌≤◌, ◌<◌, ℤ, negsuc, ◌≤ℤ◌, ◌↔◌};
+ghost use Rattle.std.specs.Prelude.{List, [], length, slice_get, Some, None, Err};
 ghost use Rattle.std.specs.Prelude.{IfOk, OnOk, OnErr, IfErr, IsTrue};
 ghost use Rattle.std.specs.List.{AllZip};
 ghost use Rattle.keys.specs.Key.{IsBytes};
@@ -166,7 +166,7 @@ impl StepMap {
     /// sweeps a whole round from the front first.
     ///
     /// Returns `Full` where they still exceed it, before any memory is taken, and `Memory` where a growth is refused
-    /// or an arena would have more than 8,388,608 chunks. After either no range is ready; the function says the same as
+    /// or an arena would have more chunks than slots can name. After either no range is ready; the function says the same as
     /// before at and above the edge.
     pub fn prepare(&mut self, lengths: &[KeyLengths]) -> Result<(), StepError>
         ensures ok { OnOk result (self.new ≡ prepared lengths.now self.old) }

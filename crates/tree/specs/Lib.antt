@@ -7,11 +7,11 @@ pub mod Subtree
 pub mod Path
 pub mod Finding
 pub mod Reached
-pub mod Run
 pub mod Question
 pub mod Tree
 pub mod Replace
 pub mod Rebalancing
 pub mod Walk
 pub mod Overwrite
+pub mod Run
 pub mod Expire

@@ -45,7 +45,8 @@ module _ {N : ℕ} where
     pub second_bound : CanFind bytes to leaf
 
   -- A run that stands between two entries of a leaf, which keeps enough entries and has room for two more. The first entry behind it
-  -- tells whether an item has the key of the second new one, which has the version of the last entry before that bound.
+  -- tells whether an item has the key of the second new one. No version is given for that one, so it has that of the last entry before
+  -- the second bound.
   pub record IsFoundRun (from_bytes to_bytes : KeyBytes) (from to past : ℕ → Bool) (from_target to_target : List ℕ) (given : Option ℤ)
       (leaf : Node N) (run : Run) : Type 0 where
     pub run_is : IsRun from_bytes to_bytes from to from_target to_target leaf run
@@ -69,7 +70,8 @@ module _ {N : ℕ} where
     pub second_bound : IsPartitioned (λ x. to x.key) (items_in nodes 0 slot)
     pub none_taken : taken ≡ []
 
-  -- A leaf in which a run was written over, between two of its items. It still has enough entries.
+  -- A leaf in which a run was written over, between two of its items, where no version is given for the second new one. It still has
+  -- enough entries.
   pub record IsWrittenInLeaf (from to past : ℕ → Bool) (first : Item) (second : ℕ) (given : Option ℤ) (ended : Bool) (bytes : KeyBytes)
       (run : List Item) (old new : Arena (Node N)) (slot : ℕ) : Type 0 where
     pub given_none : given ≡ None

@@ -34,7 +34,7 @@ pub enum Approach {
     Leaf(Near),
     /// To a subtree that tells that no version is above the question's.
     Clear,
-    /// Nowhere: the keys alone tell.
+    /// Nowhere: the question goes down by both bounds.
     #[default]
     Open,
 }
@@ -69,7 +69,7 @@ pub fn descend<P: Bound, Q: Bound, const N: usize>(
     let own = node.head_for(&question.from, common_prefix_len);
     let step = node.step_by(&question.from, common_prefix_len, own);
     let entry = entries[step.index];
-    // Above the lowest inner node it is looked at only where the subtree tells the answer.
+    // Above the lowest inner node the entry behind is looked at only where the subtree tells the answer.
     let look = height == 1 || entry.version <= question.version;
     let clear = is_clear(
         node,
@@ -154,7 +154,7 @@ pub fn end_head<P: Bound, Q: Bound, const N: usize>(
     )
 }
 
-/// Goes down a tree so.
+/// Goes down a tree from its root, as `descend` does.
 pub fn descend_from<P: Bound, Q: Bound, const N: usize>(
     nodes: &Arena<Node<N>>,
     root: Root,

@@ -2,7 +2,7 @@
 
 ghost use Rattle.std.specs.Prelude.{◌≡◌, ◌≤◌, ◌↔◌, ℕ, Bool, List, [], length, take, Option, Some, IsTrue};
 ghost use Rattle.keys.specs.Key.{IsBytes};
-ghost use Rattle.tree.specs.Heads.{KeyBytes, head_behind, IsBelowInOrder, IsCommonPrefixLen, IsPrefixLen};
+ghost use Rattle.tree.specs.Heads.{head_behind, IsBelowInOrder, IsCommonPrefixLen, IsPrefixLen};
 
 use arena::Slot;
 

@@ -19,7 +19,7 @@ const PADDING: u32 = u32::MAX;
 #[derive(Clone, Copy, Debug)]
 pub struct Node<const N: usize> {
     len: usize,
-    // How many bytes the keys begin with in common, or fewer.
+    // How many bytes all keys but an empty one begin with in common, or fewer.
     prefix_len: u16,
     // The head of each key, behind these. Behind the heads of the keys stands the greatest number, so that a search need not look
     // at the length.
@@ -30,11 +30,11 @@ pub struct Node<const N: usize> {
 }
 
 impl<const N: usize> Node<N> {
-    ghost use Rattle.std.specs.Prelude.{◌≡◌, ◌<◌, ◌+◌, ◌-◌, ◌*◌, ◌∷◌, ◌++◌, [], length, take, drop, slice_get, slice_set, Some, None, IfSome, MatchOption};
+    ghost use Rattle.std.specs.Prelude.{◌≡◌, ◌<◌, ◌+◌, ◌-◌, ◌*◌, ◌∷◌, ◌++◌, [], length, take, drop, slice_get, slice_set, Some};
     ghost use Rattle.std.specs.List.{copy_within};
     ghost use Rattle.tree.specs.Item.{IsGreatest, version_of};
     ghost use Rattle.tree.specs.Heads.{AreHeads, KeyBytes};
-    ghost use Rattle.tree.specs.Node.{HasHeads, ShareHeads, node_heads, entries_of, key_heads_of, keys_of};
+    ghost use Rattle.tree.specs.Node.{HasHeads, ShareHeads, entries_of, key_heads_of, keys_of};
     ghost use Rattle.tree.specs.Splice.{AreHalfFull};
 
     /// Returns a node of one entry. What it knows is right if the key is empty.
@@ -193,8 +193,8 @@ impl<const N: usize> Node<N> {
         right
     }
 
-    /// Moves entries, with their heads, between two neighbours so that they have as many, but for one. The first of these is the left
-    /// one.
+    /// Moves entries, with their heads, between two neighbours, of which this is the left one, so that their numbers differ by one at
+    /// most.
     pub fn redistribute(&mut self, right: &mut Node<N>)
         requires many { N < length (entries_of self.old) + length (entries_of right.old) }
         ensures entries { (entries_of self.new) ++ (entries_of right.new) ≡ (entries_of self.old) ++ (entries_of right.old) }
@@ -225,7 +225,7 @@ impl<const N: usize> Node<N> {
     }
 }
 
-// Returns the next multiple of four, but no more than `most`.
+// Returns the least multiple of four that isn't below the count, but no more than `most`.
 fn whole_turns(count: usize, most: usize) -> usize
     requires within { count ≤ most }
     ensures least { count ≤ result }

@@ -1,6 +1,6 @@
 //! A run of items written over: one or two come in its place.
 
-ghost use Rattle.std.specs.Prelude.{◌≡◌, ◌≤◌, ◌<◌, ◌+◌, ◌-◌, ◌++◌, ℕ, true, length, take, Some};
+ghost use Rattle.std.specs.Prelude.{◌≡◌, ◌<◌, ◌-◌, ℕ, true, take, Some};
 ghost use Rattle.keys.specs.Key.{IsBytes};
 ghost use Rattle.tree.specs.Item.{item_of};
 ghost use Rattle.tree.specs.Overwrite.{GivesWritten, IsPartOfPartitioned, part_of_part, put_of};

@@ -19,7 +19,7 @@ use crate::question::{Question, SIDE};
 use crate::root::{Root, last};
 use crate::search::greatest;
 use crate::span::any_above;
-use arena::{Arena, Slot};
+use arena::Arena;
 use arrayvec::ArrayVec;
 
 /// Where the way of a question leads, and what the first look at the leaf gives.

@@ -1,5 +1,5 @@
-//! A write into the leaf of the write before it: the writes of a batch come in the order of their keys, and those of one leaf side by
-//! side, so that one walk leads to it, and one pass over it puts them all.
+//! A write into the leaf of the write before it: the writes of a batch come in the order of their keys, those of one leaf one after the
+//! other, so that one walk leads to it and most of them need no other.
 
 ghost use Rattle.std.specs.Prelude.{◌≡◌, MatchOption, IfSome, map};
 ghost use Rattle.tree.specs.Item.{item_of};

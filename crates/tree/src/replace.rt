@@ -1,13 +1,11 @@
 //! A node above a changed child, rebalanced.
 
-ghost use Rattle.std.specs.Prelude.{◌≡◌, ◌≤◌, ◌<◌, ◌+◌, ◌⊎◌, ◌∷◌, ◌++◌, ℕ, [], length, take, drop, Some};
-ghost use Rattle.arena.specs.Arena.{IsLive, spare_of};
-ghost use Rattle.tree.specs.Heads.{AllAreHeads, AreHeads, KeyBytes};
+ghost use Rattle.std.specs.Prelude.{◌≡◌, ◌<◌, ◌+◌, ◌⊎◌, ◌++◌, ℕ, [], take, drop, Some};
+ghost use Rattle.arena.specs.Arena.{spare_of};
 ghost use Rattle.tree.specs.Rebalancing.{CanInsertChild, CanRaise, CanRebalance, CanSplit, IsPlaced, IsStored, LosesOneAtMost};
-ghost use Rattle.tree.specs.Node.{entries_of, key_heads_of, all_heads_of};
 ghost use Rattle.tree.specs.Subtree.{entries_at};
 ghost use Rattle.tree.specs.Tree.{least_of};
-ghost use Rattle.tree.specs.Replace.{child_at, entries_at_both, Changes, HasRaisedEntry, IsFamilyAt, IsKeyless, IsLinked, IsRebalancedAt, TellsWritten};
+ghost use Rattle.tree.specs.Replace.{child_at, entries_at_both, HasRaisedEntry, IsFamilyAt, IsKeyless, IsLinked, IsRebalancedAt, TellsWritten};
 
 use crate::bound::Bound;
 use crate::entry::Entry;
@@ -96,7 +94,7 @@ pub fn rebalance_child<P: Bound, const N: usize>(
     nodes.set_header(slot, node);
 }
 
-/// Makes the entry at an index right in the node at a slot, in whose child's subtree an item came into this leaf. The child has enough
+/// Makes the entry at an index right in the node at a slot, where an item came into this leaf of the entry's child, which has enough
 /// entries. Returns what became of the node.
 #[inline(always)]
 pub fn raise_entry<P: Bound, const N: usize>(

@@ -1,9 +1,8 @@
 //! The way down a tree.
 
-ghost use Rattle.std.specs.Prelude.{◌≡◌, ◌≢◌, ◌<◌, ◌≤◌, ℕ, true, not, length, take, drop, filter, map, option_map, IfSome};
-ghost use Rattle.std.specs.List.{All, Any};
+ghost use Rattle.std.specs.Prelude.{◌≡◌, ◌<◌, ◌≤◌, ℕ, true, not, length, take, drop, filter, map, option_map, IfSome};
 ghost use Rattle.tree.specs.Item.{item_of, IsGreatestWith};
-ghost use Rattle.tree.specs.Subtree.{entries_at, items_in, IsSubtree};
+ghost use Rattle.tree.specs.Subtree.{items_in, IsSubtree};
 ghost use Rattle.tree.specs.Tree.{least_of};
 ghost use Rattle.tree.specs.Path.{IsPartitioned, behind as behind_partitioned, index_in, first_key, between};
 

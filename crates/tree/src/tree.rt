@@ -1,10 +1,9 @@
 //! The tree.
 
-ghost use Rattle.std.specs.Prelude.{◌≡◌, ◌≢◌, ◌<◌, ◌≤◌, ◌<ℤ◌, ◌≤ℤ◌, ◌↔◌, ◌+◌, ◌-◌, ◌++◌, ◌∷◌, ℕ, List, [], true, not, drop, filter, length, take, map, OnErr, OnOk, IfOk, IfSome, IsOkUnless, IsTrue, MatchOption};
+ghost use Rattle.std.specs.Prelude.{◌≡◌, ◌≢◌, ◌<◌, ◌≤◌, ◌<ℤ◌, ◌↔◌, ◌+◌, ◌-◌, ◌∷◌, ℕ, [], true, length, map, OnErr, OnOk, IfOk, IsOkUnless, IsTrue, MatchOption};
 ghost use Rattle.std.specs.List.{All, AllZip, Any};
-ghost use Rattle.tree.specs.Item.{Item, item_of, IsGreatest};
-ghost use Rattle.tree.specs.Heads.{AllAreHeads, AreHeads, IsKnown, KeyBytes};
-ghost use Rattle.tree.specs.Node.{key_heads_of};
+ghost use Rattle.tree.specs.Item.{item_of, IsGreatest};
+ghost use Rattle.tree.specs.Heads.{AllAreHeads, KeyBytes};
 ghost use Rattle.tree.specs.Overwrite.{CanOverwrite, Overwrites};
 ghost use Rattle.tree.specs.Expire.{CanRemoveExpired, RemovesExpired};
 ghost use Rattle.tree.specs.Path.{IsPartitioned, items_below, behind, first_key, between, from_last};
@@ -29,7 +28,7 @@ use std::alloc::Global;
 use std::fmt;
 use std::marker::Model;
 
-// How many nodes a change may use beyond those that the items need. No tree is higher than 63 nodes above a leaf.
+// How many nodes a change may use beyond those that the items need. No leaf has more than 62 nodes above it.
 const WAY: usize = 66;
 
 /// Items in the order of their keys, at least one. Contracts see the items, for how many nodes are reserved, and what

@@ -1,6 +1,6 @@
-//! The one way into a tree: a walk to a leaf, a change of the leaf where it lies, and the rebalancing of the nodes above it.
+//! How a tree is changed: a walk to a leaf, a change of the leaf where it lies, and the rebalancing of the nodes above it.
 
-ghost use Rattle.std.specs.Prelude.{◌≡◌, ◌++◌, ℕ, Bool, List, Option, [], map};
+ghost use Rattle.std.specs.Prelude.{◌≡◌, ◌++◌, ℕ, Bool, List, Option, map};
 ghost use Rattle.tree.specs.Item.{Item, item_of};
 ghost use Rattle.tree.specs.Replace.{items_with};
 ghost use Rattle.tree.specs.Subtree.{items_in};
@@ -40,8 +40,8 @@ pub struct RaisedLeaf {
 pub enum Outcome {
     /// It is as it was.
     Same,
-    /// Its first key is as it was, and an item came into this leaf of it, and no other version. A leaf has enough entries, and a node
-    /// above lost none.
+    /// Its first key is as it was, and an item came into this leaf of it; no other item has a version that there wasn't. A leaf has
+    /// enough entries, and a node above lost none.
     Raised(RaisedLeaf),
     /// Its items are others.
     Changed,

@@ -5,7 +5,7 @@ ghost use Rattle.tree.specs.Finding.{CanStep, IsStep};
 use crate::bound::Bound;
 use crate::node::{Node, Step};
 
-// How many heights are remembered. No tree is higher than 63 nodes above a leaf.
+// How many heights are remembered. No leaf has more than 62 nodes above it.
 const HEIGHTS: usize = 64;
 
 /// Through which entry the last walk went at each height.

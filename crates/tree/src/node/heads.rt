@@ -7,7 +7,7 @@ ghost use Rattle.tree.specs.Heads.{HasPrefix, AreHeads, IsHeadBeside, IsKnown, B
 ghost use Rattle.tree.specs.Node.{entries_of, key_heads_of, keys_of};
 ghost use Rattle.tree.specs.Splice.{AreBothHeaded, AreHalfFull, CanSplice};
 
-use super::{Node, copy_few};
+use super::Node;
 use crate::bound::Bound;
 use crate::entry::Entry;
 use arena::Slot;
@@ -16,10 +16,10 @@ use keys::same_bytes;
 // Where the first and the last head begin with so many bytes in common, heads behind more bytes tell more.
 const NARROW: usize = 2;
 
-// Where one key is empty, so few bytes with which the others begin in common don't count.
+// Where one key is empty, fewer bytes than this with which the others begin in common don't count.
 const FEW: u16 = 2;
 
-// Of more bytes so many don't count then: a key that is sought may differ from the others there.
+// Of as many or more, so many don't count then: a target may differ from the other keys there.
 const UNSURE: u16 = 1;
 
 impl<const N: usize> Node<N> {
@@ -44,7 +44,7 @@ impl<const N: usize> Node<N> {
     }
 
     // Returns how many bytes all keys but an empty one begin with in common, but no more than fit. Where the first key is
-    // empty it is a few bytes less, or 0.
+    // empty it is one byte less, or 0.
     fn beginning<P: Bound>(&self, bound: &P) -> u16
         requires known { All (IsKnown (P.bytes bound.now)) (keys_of (entries_of self.now)) }
         ensures begin { (beginning : List ℕ) × (length beginning ≡ result)
@@ -162,8 +162,8 @@ impl<const N: usize> Node<N> {
         self.lengthen_prefix(bound);
     }
 
-    /// Moves entries, with their heads, between two neighbours so that they have as many, but for one. The first of these is the left
-    /// one. Where not all keys begin alike, all heads are computed anew.
+    /// Moves entries, with their heads, between two neighbours, of which this is the left one, so that their numbers differ by one at
+    /// most. Where not all keys begin alike, all heads are computed anew.
     pub fn redistribute_with_heads<P: Bound>(&mut self, right: &mut Node<N>, bound: &P)
         requires many { N < length (entries_of self.old) + length (entries_of right.old) }
         requires headed { AreBothHeaded (P.bytes bound.now) self.old right.old }

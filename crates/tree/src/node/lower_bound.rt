@@ -117,8 +117,8 @@ impl<const N: usize> Node<N> {
         self.head_for(bound, common_prefix_len)
     }
 
-    /// Returns whether the target begins as the key at an index does, as far as all keys begin alike. It may be said that it doesn't
-    /// where that key may be empty, and where there is none.
+    /// Returns whether the target begins as the key at an index does, as far as all keys begin alike. It may be false where that key
+    /// may be empty, and is where there is none.
     pub fn has_prefix_of<P: Bound>(&self, index: usize, bound: &P) -> bool
         requires headed { AreHeads (P.bytes bound.now) (key_heads_of self.now) }
         ensures agrees { IsTrue result → HasPrefix (P.bytes bound.now) (key_heads_of self.now) (P.target bound.now) }
