@@ -13,9 +13,6 @@ use Rattle.arena.proofs.Slots.{same_or_other}
 test_same : (a b : ℕ) → a ≡ b → nat_eq a b ≡ true
 test_same a b same = grind (arith, nat_tests)
 
-test_other : (a b : ℕ) → a ≢ b → nat_eq a b ≡ false
-test_other a b other = grind (arith, nat_tests)
-
 same_from_test : (a b : ℕ) → nat_eq a b ≡ true → a ≡ b
 same_from_test a b is = grind (arith, nat_tests)
 

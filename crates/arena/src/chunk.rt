@@ -1,7 +1,7 @@
 //! A chunk: slots of one size, whose lengths and headers are filled in as the slots are used, and whose key bytes are
 //! filled with zeros when the first key that isn't empty is written.
 
-ghost use Rattle.std.specs.Prelude.{◌≡◌, ℕ, ◌+◌, ◌-◌, ◌*◌, ◌<◌, ◌≤◌, List, length, take, drop, slice_index, slice_set, slice_get, vec_capacity, Some, IsSome, IsTrue, IfOk, option_map};
+ghost use Rattle.std.specs.Prelude.{◌≡◌, ℕ, ◌+◌, ◌-◌, ◌*◌, ◌<◌, ◌≤◌, length, take, drop, slice_index, slice_set, vec_capacity, Some, IsSome, IfOk, option_map};
 ghost use Rattle.std.specs.Option.{is_some};
 ghost use Rattle.std.specs.Borrow.{sem};
 ghost use Rattle.arena.specs.Arena.{sizes, slots_of};
@@ -32,7 +32,6 @@ pub(crate) struct Chunk<H, A: Allocator> {
 }
 
 impl<H, A: Allocator> Model for Chunk<H, A> {
-    ghost use Rattle.std.specs.Coded.{coded_ℕ};
     ghost use Rattle.std.specs.Prelude.{vec_capacity};
     ghost use Rattle.arena.specs.Arena.{slots_of};
     ghost use Rattle.arena.specs.Chunk.{Chunk as Cells, cells_of, entries_of, with_free, IsChunk};
@@ -119,7 +118,7 @@ fn part(bytes: &[u8], from: usize, count: usize) -> &[u8]
 
 impl<H, A: Allocator> Chunk<H, A> {
     ghost use Rattle.arena.specs.Entry.{Free, Live, held_at};
-    ghost use Rattle.arena.specs.ChunkLends.{with_header, lends_header};
+    ghost use Rattle.arena.specs.ChunkLends.{lends_header};
 
     /// The index of the slots' size.
     pub(crate) fn size(&self) -> usize

@@ -193,10 +193,6 @@ module _ (oldest : ℤ) (ws : List Write) (t : Txn) where
       (cond (list_any (is_hit ws t) t.reads) (in_conflict_at (report ws [] t)) (without_places Committed)))
       young
 
-  pub too_old_entry : (e : Entry) → e.verdict ≡ TooOld → e.places ≡ [] → is_too_old oldest t ≡ true
-      → e ≡ by_history oldest ws t
-  too_old_entry e verdict places old = old_entry e verdict places old
-
   pub committed_entry : (e : Entry) → e.verdict ≡ Committed → e.places ≡ [] → is_too_old oldest t ≡ false
       → list_any (is_hit ws t) t.reads ≡ false → e ≡ by_history oldest ws t
   committed_entry e verdict places young none =

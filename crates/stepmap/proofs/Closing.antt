@@ -7,7 +7,7 @@ use Rattle.keys.proofs.callers.Booleans.{true_or_false, and_left, and_right, not
 use Rattle.keys.proofs.callers.KeyOrder.{before_at_most_same, before_or_same, not_before_if, not_before_itself}
 use Rattle.keys.proofs.callers.SomeElement.{Any-cases, Any-none, Any-first, Any-later}
 use Rattle.stepmap.specs.Boundary.{Boundary, AreInOrder, below, from_on}
-use Rattle.stepmap.specs.Indexes.{up_to}
+use Rattle.stepmap.proofs.Indexes.{up_to}
 use Rattle.stepmap.specs.Writing.{closed_at}
 use Rattle.stepmap.proofs.InTurn.{get_or_twice}
 use Rattle.stepmap.proofs.Order.{Rising, rising_from, rising_in_order, rise_above, empty_unless_after, not_empty_if_after}

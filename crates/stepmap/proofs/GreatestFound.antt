@@ -67,7 +67,7 @@ use Rattle.stepmap.specs.Boundary.{
   below,
   from_on,
 }
-use Rattle.stepmap.specs.Indexes.{up_to, after}
+use Rattle.stepmap.proofs.Indexes.{up_to, after}
 use Rattle.keys.proofs.callers.KeyOrder.{not_before_if}
 use Rattle.stepmap.proofs.Order.{Rising, rising_from, rising_in_order, rising_filter, rise_above}
 use Rattle.stepmap.proofs.Values.{

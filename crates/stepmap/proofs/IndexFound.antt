@@ -5,7 +5,7 @@ use Rattle.std.proofs.lemmas.List.Elements.{filter_passes, All-weaker, All-head}
 use Rattle.keys.specs.Key.{is_before}
 use Rattle.keys.proofs.callers.KeyOrder.{before_at_most, before_at_most_same}
 use Rattle.stepmap.specs.Boundary.{Boundary, last_version, value_at}
-use Rattle.stepmap.specs.Indexes.{up_to, after}
+use Rattle.stepmap.proofs.Indexes.{up_to, after}
 use Rattle.keys.proofs.callers.KeyOrder.{not_before_if}
 use Rattle.stepmap.proofs.Order.{not_before_empty}
 use Rattle.stepmap.proofs.Parting.{FallsAlongKeys}

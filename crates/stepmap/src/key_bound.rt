@@ -65,7 +65,7 @@ impl<'a> Bound for KeyBound<'a> {
 
     // The empty key is most often asked for: that of the first boundary.
     #[inline(always)]
-    fn prefix_len_below(&self, slot: Slot) -> Option<usize> {
+    fn common_prefix_len_below(&self, slot: Slot) -> Option<usize> {
         if !self.keys.is_live(slot) {
             return None;
         }

@@ -52,7 +52,6 @@ pub enum SweepEnd {
 /// limit.
 #[derive(Debug, Drop)]
 pub struct StepMap {
-    alloc: Global,
     boundaries: Boundaries<FAN_OUT>,
     // What is written is noted there too.
     filter: Filter,
@@ -94,7 +93,6 @@ impl StepMap {
         let filter = Filter::new(alloc)?;
         let boundaries = Boundaries::new(alloc).map_err(|_| AllocError)?;
         Ok(StepMap {
-            alloc,
             boundaries,
             filter,
             edge: 0,
@@ -189,8 +187,7 @@ impl StepMap {
         ensures bound { result ≡ Err StepError.Full → (ws : List Write) → Rooted self.old ws
             → self.old.limit < 1 + 2 * (live_count self.old.edge ws + length lengths.now) }
     {
-        self.make_room(lengths.len());
-        if !self.has_room_for(lengths.len()) {
+        if !self.make_room(lengths.len()) {
             self.ready.clear();
             return Err(StepError::Full);
         }

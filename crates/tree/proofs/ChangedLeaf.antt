@@ -76,8 +76,8 @@ leaf_stored {N} {bytes} {old} {new} {slot} outcome can stored same raised = reco
 
 -- A leaf that is changed where it lies, where nothing is told of its first key.
 pub leaf_changed : {N : ℕ} {bytes : KeyBytes} {is_below : ℕ → Bool} {target : List ℕ} {Wants : List Item → Type 0}
-    {nodes : Arena (Node N)} {slot : ℕ} {shared : Option ℕ} {taken : List Entry} (node : Node N)
-    → CanChangeLeaf bytes is_below target Wants nodes 0 slot shared taken → AreHeads bytes (key_heads_of node)
+    {nodes : Arena (Node N)} {slot : ℕ} {common_prefix_len : Option ℕ} {taken : List Entry} (node : Node N)
+    → CanChangeLeaf bytes is_below target Wants nodes 0 slot common_prefix_len taken → AreHeads bytes (key_heads_of node)
     → IsChanged bytes nodes (with_header nodes slot node) 0 slot Changed
 leaf_changed node can headed =
     leaf_stored Changed can.changeable
@@ -86,10 +86,10 @@ leaf_changed node can headed =
 
 -- In a leaf that may be changed, and that was read, the bound can be sought.
 pub leaf_can_step : {N : ℕ} {bytes : KeyBytes} {is_below : ℕ → Bool} {target : List ℕ} {Wants : List Item → Type 0}
-    {nodes : Arena (Node N)} {slot : ℕ} {shared : Option ℕ} {taken : List Entry} {leaf : Node N}
-    → CanChangeLeaf bytes is_below target Wants nodes 0 slot shared taken → header_at nodes slot ≡ Some leaf
-    → CanStep bytes is_below target leaf shared
-leaf_can_step {N} {bytes} {is_below} {target} {Wants} {nodes} {slot} {shared} {taken} {leaf} can header =
+    {nodes : Arena (Node N)} {slot : ℕ} {common_prefix_len : Option ℕ} {taken : List Entry} {leaf : Node N}
+    → CanChangeLeaf bytes is_below target Wants nodes 0 slot common_prefix_len taken → header_at nodes slot ≡ Some leaf
+    → CanStep bytes is_below target leaf common_prefix_len
+leaf_can_step {N} {bytes} {is_below} {target} {Wants} {nodes} {slot} {common_prefix_len} {taken} {leaf} can header =
     let read = entries_from_header nodes slot leaf header in
     record {
       can_find = record {

@@ -3,7 +3,7 @@ use Rattle.std.proofs.Common.{◌≡◌, ℕ, zero, suc, ◌-◌, ◌≤◌, Boo
 use Rattle.std.proofs.lemmas.Int.{ints}
 use Rattle.std.proofs.lemmas.List.Concat.{flat_map_single}
 use Rattle.std.proofs.lemmas.List.Elements.{All-cons, All-nil, All-head}
-use Rattle.tree.proofs.Words.{Arena, header_at, Entry, Node, KeyBytes, IsPrefixLen, IsPrefixLenAt, Item, Tells, item_of, entries_of, index_in, entries_at, items_in, IsChild, IsSubtree}
+use Rattle.tree.proofs.Words.{Arena, header_at, Entry, Node, KeyBytes, IsCommonPrefix, IsCommonPrefixAt, Item, Tells, item_of, entries_of, index_in, entries_at, items_in, IsChild, IsSubtree}
 use Rattle.tree.proofs.Found.{IsFound, entries_read}
 use Rattle.keys.proofs.callers.SomeElement.{Any-first}
 
@@ -39,7 +39,7 @@ module _ {N : ℕ} (nodes : Arena (Node N)) (least : ℕ) where
   -- What is known of the key of an entry is known of that of its child's first entry, which is the same.
   pub knows_child : (height : ℕ) (e : Entry) (child : ℕ) (bytes : KeyBytes) (is_below : ℕ → Bool) (target : List ℕ)
       (known : Option ℕ) → IsChild nodes least height (IsSubtree nodes least height) e → child ≡ e.child
-      → IsPrefixLen bytes is_below target known e.key → IsPrefixLenAt bytes is_below target known (entries_at nodes child) 0
+      → IsCommonPrefix bytes is_below target known e.key → IsCommonPrefixAt bytes is_below target known (entries_at nodes child) 0
   knows_child height e child bytes is_below target known right same knows first at =
       let t = right.tells in
       let own = first_tells (items_under nodes height) (entries_at nodes e.child) first (rw same at at)
@@ -51,8 +51,8 @@ module _ {N : ℕ} (nodes : Arena (Node N)) (least height slot : ℕ) (is_below 
     (f : IsFound nodes least height slot is_below child) where
   pub known_below : (bytes : KeyBytes) (target : List ℕ) (known : Option ℕ) (header : Node N) (index : ℕ)
       → header_at nodes slot ≡ Some header → index ≡ index_in is_below (entries_of header)
-      → IsPrefixLenAt bytes is_below target known (entries_of header) index
-      → IsPrefixLenAt bytes is_below target known (entries_at nodes child) 0
+      → IsCommonPrefixAt bytes is_below target known (entries_of header) index
+      → IsCommonPrefixAt bytes is_below target known (entries_at nodes child) 0
   known_below bytes target known header index h i k =
       let e = f.way.entry in
       let at : slice_get (entries_of header) index ≡ Some e = cc (i, f.way.is, entries_read nodes slot header _ h refl) in

@@ -9,7 +9,7 @@ use Rattle.std.proofs.lemmas.List.{get_or_default, get_or-map}
 use Rattle.std.proofs.lemmas.Option.{get_or_from_slice_get, slice_get_within, slice_get-get_or, slice_get-map}
 use Rattle.keys.specs.Key.{IsBytes, IsBefore}
 pub use Rattle.keys.proofs.callers.Lists.{some_at as entry_at}
-use Rattle.tree.proofs.Words.{Entry, Node, PADDING, entries_of, key_heads_of, keys_of, KeyBytes, Begins, head_behind, head_at, KeyHeads, AreHeads, IsBelowInOrder, IsCommonPrefixLen, IsPrefixLenAt, HasPrefix, IsTargetHead, IsPartitioned, CanStep, IsStep}
+use Rattle.tree.proofs.Words.{Entry, Node, PADDING, entries_of, key_heads_of, keys_of, KeyBytes, Begins, head_behind, head_at, KeyHeads, AreHeads, IsBelowInOrder, IsCommonPrefixLen, IsCommonPrefixAt, HasPrefix, IsTargetHead, IsPartitioned, CanStep, IsStep}
 use Rattle.tree.proofs.callers.Partitions.{length-items_below, none_fail, not_both}
 use Rattle.tree.proofs.HeadChanges.{heads_count, prefix_begins}
 use Rattle.tree.proofs.HeadCounts.{passing_before, passing_inside}
@@ -60,19 +60,19 @@ module _ (bytes : KeyBytes) (key_heads : KeyHeads) (h : AreHeads bytes key_heads
 
   -- The target begins as all keys do.
   sought_begins : (target : List ℕ) → HasPrefix bytes key_heads target → h.beginning ≡ take n target
-  sought_begins target agrees = rw (← h.prefix_len) (sym (prefix_begins bytes key_heads h target agrees))
+  sought_begins target has_prefix = rw (← h.prefix_len) (sym (prefix_begins bytes key_heads h target has_prefix))
 
   -- It does if it begins as one of them that isn't empty.
   pub agrees_at : (index key : ℕ) (target : List ℕ) → slice_get key_heads.keys index ≡ Some key → (n ≡ 0) ⊎ (head_of index ≢ 0)
       → ((text : List ℕ) → bytes key ≡ Some text → n ≤ length text → take n text ≡ take n target)
       → HasPrefix bytes key_heads target
-  agrees_at index key target there filled alike =
+  agrees_at index key target there filled have_prefix =
       let k = key_at index key there in
       let long : n ≤ length k.text =
       elim filled [ inl none ↦ omega (arith, none) | inr differ ↦ (filled_at index key there differ).1 ] in
       let at : Contains key_heads.keys key =
       (index, slice_get_within key_heads.keys index key there, get_or_from_slice_get key_heads.keys index key key there) in
-      record { key = key; text = k.text; there = at; known = k.known; long = long; same = alike k.text k.known long }
+      record { key = key; text = k.text; there = at; known = k.known; long = long; same = have_prefix k.text k.known long }
 
   module _ (target : List ℕ) (is_below : ℕ → Bool)
       (order : (key : ℕ) (text : List ℕ) → bytes key ≡ Some text → IsBelowInOrder text target (is_below key)) where
@@ -84,7 +84,7 @@ module _ (bytes : KeyBytes) (key_heads : KeyHeads) (h : AreHeads bytes key_heads
         let tells = order key k.text k.known in
         elim k.begins [
           | inr long ↦
-              let told = told_by_heads n k.text target k.are_bytes is.are_bytes long.1 (long.0 ∙ sought_begins target is.agrees)
+              let told = told_by_heads n k.text target k.are_bytes is.are_bytes long.1 (long.0 ∙ sought_begins target is.has_prefix)
               (λ e. differ (cc (is.head_is, k.head))) (is_below key) tells in
               cc (k.head, is.head_is, told)
           | inl empty ↦ grind (arith, nat_tests, is.head_is, empty_before n target, empty.0, empty.1, tells.before)
@@ -98,12 +98,12 @@ module _ (bytes : KeyBytes) (key_heads : KeyHeads) (h : AreHeads bytes key_heads
 
     -- Where the first key isn't empty and is below the bound, and differs from the target before all keys' common beginning ends,
     -- all keys are below the bound.
-    module _ (shared first : ℕ) (at_first : slice_get key_heads.keys 0 ≡ Some first) (filled : head_of 0 ≢ 0) (less : shared < n)
+    module _ (common_prefix_len first : ℕ) (at_first : slice_get key_heads.keys 0 ≡ Some first) (filled : head_of 0 ≢ 0) (less : common_prefix_len < n)
         (passed : is_below first ≡ true)
-        (tells : (text : List ℕ) → bytes first ≡ Some text → IsCommonPrefixLen shared text target) where
+        (tells : (text : List ℕ) → bytes first ≡ Some text → IsCommonPrefixLen common_prefix_len text target) where
       -- Their bytes come before the target, and differ from it as those of the first one do.
       bytes_too : (index key : ℕ) (there : slice_get key_heads.keys index ≡ Some key)
-          → IsBefore (key_at index key there).text target × IsCommonPrefixLen shared (key_at index key there).text target
+          → IsBefore (key_at index key there).text target × IsCommonPrefixLen common_prefix_len (key_at index key there).text target
       bytes_too index key there =
           let f = key_at 0 first at_first in
           let k = key_at index key there in
@@ -111,9 +111,9 @@ module _ (bytes : KeyBytes) (key_heads : KeyHeads) (h : AreHeads bytes key_heads
           let ahead : IsBefore target f.text → ⊥ = λ behind. not_both _ passed ((order first f.text f.known).behind behind) in
           elim k.begins [
             | inr begins ↦
-                too shared n f.text k.text target less own.1 begins.1 (begins.0 ∙ sym own.0) (tells f.text f.known) ahead
+                too common_prefix_len n f.text k.text target less own.1 begins.1 (begins.0 ∙ sym own.0) (tells f.text f.known) ahead
             | inl empty ↦
-                rw empty.0 (empty_before_too f.text target (omega (arith, own.1, less)) ahead, tells_empty shared target)
+                rw empty.0 (empty_before_too f.text target (omega (arith, own.1, less)) ahead, tells_empty common_prefix_len target)
           ]
 
       passes_too : (index key : ℕ) → slice_get key_heads.keys index ≡ Some key → is_below key ≡ true
@@ -121,7 +121,7 @@ module _ (bytes : KeyBytes) (key_heads : KeyHeads) (h : AreHeads bytes key_heads
           let k = key_at index key there in (order key k.text k.known).before (bytes_too index key there).0
 
       pub differs_too : (index key : ℕ) → slice_get key_heads.keys index ≡ Some key → (text : List ℕ) → bytes key ≡ Some text
-          → IsCommonPrefixLen shared text target
+          → IsCommonPrefixLen common_prefix_len text target
       differs_too index key there text known =
           let same : (key_at index key there).text ≡ text = cc ((key_at index key there).known) in
           rw same at (bytes_too index key there).1
@@ -132,7 +132,7 @@ module _ (bytes : KeyBytes) (key_heads : KeyHeads) (h : AreHeads bytes key_heads
         → take count (to_be_bytes w32 (head_of index)) ≡ take count (to_be_bytes w32 head)
         → (count < 4 → slice_index (to_be_bytes w32 (head_of index)) count ≢ slice_index (to_be_bytes w32 head) count)
         → (text : List ℕ) → bytes key ≡ Some text → IsCommonPrefixLen (n + count) text target
-    common_at index key head count there is passed apart few alike differ text known =
+    common_at index key head count there is passed apart few have_prefix differ text known =
         let k = key_at index key there in
         let own = k.head in
         let other = is.head_is in
@@ -141,7 +141,7 @@ module _ (bytes : KeyBytes) (key_heads : KeyHeads) (h : AreHeads bytes key_heads
         rw (← same) (elim k.begins [
           | inl empty ↦ rw empty.0 (tells_empty (n + count) target)
           | inr begins ↦
-              common_by_heads n k.text target k.are_bytes is.are_bytes begins.1 (begins.0 ∙ sought_begins target is.agrees)
+              common_by_heads n k.text target k.are_bytes is.are_bytes begins.1 (begins.0 ∙ sought_begins target is.has_prefix)
               (λ e. apart (cc)) count few (cc) (λ less e. differ less (cc)) ahead
         ])
 
@@ -177,12 +177,12 @@ module _ {N : ℕ} (bytes : KeyBytes) (node : Node N) (h : AreHeads bytes (key_h
 
   -- Where the first key isn't empty and is below the bound, and differs from the target before all keys' common beginning ends,
   -- all entries are below the bound. That is known of the first one.
-  pub all_known : (shared : ℕ) → 0 < length es → IsPrefixLenAt bytes is_below target (Some shared) es 0
-      → (own_head 0 ≢ 0 → shared < node.prefix_len) → own_head 0 ≢ 0 → length (filter passes es) ≡ length es
-  all_known shared some knows less filled =
+  pub all_known : (common_prefix_len : ℕ) → 0 < length es → IsCommonPrefixAt bytes is_below target (Some common_prefix_len) es 0
+      → (own_head 0 ≢ 0 → common_prefix_len < node.prefix_len) → own_head 0 ≢ 0 → length (filter passes es) ≡ length es
+  all_known common_prefix_len some knows less filled =
       let first = entry_at es 0 some in
       let known = knows first.0 first.1 in
-      let all = passes_too bytes (key_heads_of node) h target is_below order shared first.0.key
+      let all = passes_too bytes (key_heads_of node) h target is_below order common_prefix_len first.0.key
       (key_there es 0 first.0 first.1) filled (less filled) known.0 known.1 in
       ap length (none_fail passes es (λ i d inside. all i _ (key_there es i _ (slice_get-get_or es i d inside)))).0
 

@@ -134,7 +134,7 @@ module _ (bytes : KeyBytes) where
       → ((text : List ℕ) → bytes key ≡ Some text → IsTargetHead bytes key_heads text head) → IsHeadBeside bytes key_heads key head
   target_beside key_heads key head known given =
       let head_is = head_known bytes key_heads.prefix_len key head known (λ text is. (given text is).head_is) in
-      record { begins = λ text is. inr ((given text is).agrees); head_is = head_is }
+      record { begins = λ text is. inr ((given text is).has_prefix); head_is = head_is }
 
   -- The heads of keys beside those of a node are theirs, and the keys begin as all others do.
   beside_right : (key_heads : KeyHeads) (keys heads : List ℕ) → AllZip (IsHeadBeside bytes key_heads) keys heads
@@ -168,9 +168,9 @@ module _ (bytes : KeyBytes) where
 
     -- A key that begins as all others do for so many bytes begins with these.
     agrees_begins : (key : ℕ) → IsKnown bytes key → BeginsAsThese bytes key_heads key → Begins bytes h.beginning key
-    agrees_begins key k agrees =
+    agrees_begins key k has_prefix =
         begins_with h.beginning key k
-        (elim (agrees k.text k.known) [ inl empty ↦ inl empty | inr a ↦ inr (prefix_begins k.text a) ])
+        (elim (has_prefix k.text k.known) [ inl empty ↦ inl empty | inr a ↦ inr (prefix_begins k.text a) ])
 
     -- a key of the node itself does
     pub key_agrees : (key : ℕ) → Contains key_heads.keys key → BeginsAsThese bytes key_heads key
@@ -192,16 +192,16 @@ module _ (bytes : KeyBytes) where
     common_agrees first key count there enough same within text known =
         let b = All-contains (Begins bytes h.beginning) key_heads.keys first h.begins there in
         let long : key_heads.prefix_len ≤ length b.text = omega (arith, (within b.text text b.known known).0) in
-        let alike = take_fewer key_heads.prefix_len count b.text text enough (same b.text text b.known known) in
-        record { key = first; text = b.text; there = there; known = b.known; long = long; same = alike }
+        let have_prefix = take_fewer key_heads.prefix_len count b.text text enough (same b.text text b.known known) in
+        record { key = first; text = b.text; there = there; known = b.known; long = long; same = have_prefix }
 
     -- Another key that begins alike is set.
     pub headed_set : (new : KeyHeads) (i key head : ℕ) → IsKnown bytes key → BeginsAsThese bytes key_heads key
         → head ≡ head_at bytes key_heads.prefix_len key → new.keys ≡ slice_set key_heads.keys i key
         → new.prefix_len ≡ key_heads.prefix_len → new.heads ≡ slice_set key_heads.heads i head → AreHeads bytes new
-    headed_set new i key head k agrees right keys prefix_len heads =
+    headed_set new i key head k has_prefix right keys prefix_len heads =
         headed_alike new prefix_len
-        (rw keys (All-set (Begins bytes h.beginning) key_heads.keys i key (agrees_begins key k agrees) h.begins))
+        (rw keys (All-set (Begins bytes h.beginning) key_heads.keys i key (agrees_begins key k has_prefix) h.begins))
         (cc (h.heads, map-set (head_at bytes key_heads.prefix_len) key_heads.keys i key))
 
     -- then the keys are known
@@ -252,12 +252,12 @@ module _ (bytes : KeyBytes) where
   -- two nodes, where one key of the second begins as the keys of the first do, and as many bytes are known
   module _ (one other : KeyHeads) (h : AreHeads bytes one) (others : AreHeads bytes other) (key : ℕ)
       (as_many : one.prefix_len ≡ other.prefix_len) (there : Contains other.keys key)
-      (agrees : (text : List ℕ) → bytes key ≡ Some text → HasPrefix bytes one text) where
+      (has_prefix : (text : List ℕ) → bytes key ≡ Some text → HasPrefix bytes one text) where
     -- All keys of both begin with the same bytes.
     same_beginning : others.beginning ≡ h.beginning
     same_beginning =
         let k = All-contains (Begins bytes others.beginning) other.keys key others.begins there in
-        let begins = prefix_begins one h k.text (agrees k.text k.known) in
+        let begins = prefix_begins one h k.text (has_prefix k.text k.known) in
         grind (arith, length-take (length h.beginning) k.text, begins_if_long others.beginning k.text k.begins)
 
     -- Those of the second are put behind those of the first one, with their heads.

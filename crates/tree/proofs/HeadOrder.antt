@@ -38,28 +38,28 @@ empty_before_too (y ∷ ys) [] some not_behind = absurd (not_behind refl)
 empty_before_too (y ∷ ys) (x ∷ xs) some not_behind = refl
 
 -- Nothing is told of how far the empty key begins as the target.
-pub tells_empty : (shared : ℕ) (target : List ℕ) → IsCommonPrefixLen shared [] target
-tells_empty shared target zero within = ((λ le. refl), (λ alike. omega arith))
-tells_empty shared target (suc count) within = absurd (omega arith)
+pub tells_empty : (common_prefix_len : ℕ) (target : List ℕ) → IsCommonPrefixLen common_prefix_len [] target
+tells_empty common_prefix_len target zero within = ((λ le. refl), (λ have_prefix. omega arith))
+tells_empty common_prefix_len target (suc count) within = absurd (omega arith)
 
-module _ (shared n : ℕ) (first text target : List ℕ) (less : shared < n) (first_long : n ≤ length first)
+module _ (common_prefix_len n : ℕ) (first text target : List ℕ) (less : common_prefix_len < n) (first_long : n ≤ length first)
     (text_long : n ≤ length text) (same : take n text ≡ take n first)
-    (tells : IsCommonPrefixLen shared first target) (not_behind : IsBefore target first → ⊥) where
+    (tells : IsCommonPrefixLen common_prefix_len first target) (not_behind : IsBefore target first → ⊥) where
   -- Where the first key isn't behind the target, and differs from it before all keys' common beginning ends, the other keys come
   -- before it, and the target begins as they do just as far.
-  pub too : IsBefore text target × IsCommonPrefixLen shared text target
+  pub too : IsBefore text target × IsCommonPrefixLen common_prefix_len text target
   too =
-      let first_same = (tells shared (omega arith)).0 (omega arith) in
-      let text_same = take_fewer shared n text first (omega arith) same in
-      let long = as_long shared first target (omega arith) first_same in
-      let at = same_at shared n text first less same in
-      let before = behind_differing shared text target in
-      let behind = behind_differing shared target first in
-      let more = tells (shared + 1) in (
-        grind (arith, before, behind, more, behind_shorter shared target first, take_more_same first target shared 0),
+      let first_same = (tells common_prefix_len (omega arith)).0 (omega arith) in
+      let text_same = take_fewer common_prefix_len n text first (omega arith) same in
+      let long = as_long common_prefix_len first target (omega arith) first_same in
+      let at = same_at common_prefix_len n text first less same in
+      let before = behind_differing common_prefix_len text target in
+      let behind = behind_differing common_prefix_len target first in
+      let more = tells (common_prefix_len + 1) in (
+        grind (arith, before, behind, more, behind_shorter common_prefix_len target first, take_more_same first target common_prefix_len 0),
         λ count within. (
           (λ le. grind (arith, take_fewer count n text first, tells count)),
-          (λ alike. grind (arith, take_fewer (shared + 1) n first text, take_fewer (shared + 1) count text target, more)),
+          (λ have_prefix. grind (arith, take_fewer (common_prefix_len + 1) n first text, take_fewer (common_prefix_len + 1) count text target, more)),
         ),
       )
 
@@ -94,10 +94,10 @@ alike_in_eight m a b few same differ not_behind count within =
     let both : (n : ℕ) → n ≤ m → n ≤ length a → n ≤ length b → take n a ≡ take n b = λ n le in_a in_b.
     cc (take_fewer n m _ _ le same, take-first_eight n a (omega arith) in_a, take-first_eight n b (omega arith) in_b) in (
       (λ le. grind (arith, both (length b), both count, behind_shorter (length b) b a refl)),
-      (λ alike.
+      (λ have_prefix.
           let own : (c : List ℕ) → m < length c → get_or (first_eight c) m 0 ≡ get_or c m 0 = λ c in_c.
           cc (get_or-take 8 (c ++ replicate 8 0) m 0 few, get_or_append_left c (replicate 8 0) 0 m in_c) in
-          grind (arith, as_long count a b within alike, same_at m count a b, own a, own b)),
+          grind (arith, as_long count a b within have_prefix, same_at m count a b, own a, own b)),
     )
 
 -- How far two byte strings begin alike is told by what stands behind a common beginning.
@@ -107,7 +107,7 @@ common_with_behind prefix_len m a b long same tells count within =
     let n = count - prefix_len in
     let told = tells n (omega (arith, length-drop prefix_len a)) in (
       (λ le. grind (arith, told, take_fewer count prefix_len a b, take-add prefix_len n a, take-add prefix_len n b)),
-      (λ alike. grind (arith, told, drop-take prefix_len n a, drop-take prefix_len n b)),
+      (λ have_prefix. grind (arith, told, drop-take prefix_len n a, drop-take prefix_len n b)),
     )
 
 -- a key and the target that begin alike, but have other heads behind that
@@ -140,11 +140,11 @@ module _ (n : ℕ) (text target : List ℕ) (text_bytes : IsBytes text) (target_
       → (m < 4
       → slice_index (to_be_bytes w32 (head_behind n text)) m ≢ slice_index (to_be_bytes w32 (head_behind n target)) m)
       → (IsBefore target text → ⊥) → IsCommonPrefixLen (n + m) text target
-  common_by_heads m few alike differ not_behind =
+  common_by_heads m few have_prefix differ not_behind =
       let t = All-drop (λ byte. byte < 256) n text text_bytes in
       let s = All-drop (λ byte. byte < 256) n target target_bytes in
       let four : take m (take 4 (first_eight (rest text))) ≡ take m (take 4 (first_eight (rest target))) =
-      ap (take m) (sym (head_four (rest text) t)) ∙ alike ∙ ap (take m) (head_four (rest target) s) in
+      ap (take m) (sym (head_four (rest text) t)) ∙ have_prefix ∙ ap (take m) (head_four (rest target) s) in
       elim (cases_lt m 4) [
         | inr many ↦
             let whole : m ≡ 4 = omega (arith, many, few) in

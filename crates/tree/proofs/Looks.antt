@@ -1,6 +1,6 @@
 -- A look at the items from one bound to another, below a node.
 use Rattle.std.proofs.Common.{rules, ◌≡◌, ℕ, zero, suc, ◌-◌, ◌<◌, ◌≤◌, Bool, true, false, List, Option, Some, None, option_map, length, get_or, filter, flat_map, map, All, IfSome, sym, refl, not, ◌&&◌, ◌∙◌, ap, subst, arith, slice_range, append-nil}
-use Rattle.tree.proofs.Words.{Arena, header_at, Entry, Node, Item, Tells, item_of, entries_of, IsPartitioned, below_from, below_to, entries_at, items_in, IsChild, IsSubtree, CanStep, KeyBytes, IsPrefixLenAt, CanReach}
+use Rattle.tree.proofs.Words.{Arena, header_at, Entry, Node, Item, Tells, item_of, entries_of, IsPartitioned, below_from, below_to, entries_at, items_in, IsChild, IsSubtree, CanStep, KeyBytes, IsCommonPrefixAt, CanReach}
 use Rattle.tree.proofs.callers.Partitions.{none_pass, none_fail}
 use Rattle.tree.proofs.Ways.{children_partitioned, index_inside}
 use Rattle.tree.proofs.Found.{partitioned-entries, entries_read, read_partitioned}
@@ -67,7 +67,7 @@ look_bound nodes least (suc height) slot is_below header es s c h e =
 -- A node that the code has read can be searched.
 pub can_step_at : {N : ℕ} {nodes : Arena (Node N)} {least height slot : ℕ} {bytes : KeyBytes} {is_below : ℕ → Bool}
     {target : List ℕ} {known : Option ℕ} {node : Node N} → CanReach bytes is_below nodes least height slot
-    → IsPrefixLenAt bytes is_below target known (entries_at nodes slot) 0 → header_at nodes slot ≡ Some node
+    → IsCommonPrefixAt bytes is_below target known (entries_at nodes slot) 0 → header_at nodes slot ≡ Some node
     → CanStep bytes is_below target node known
 can_step_at {N} {nodes} {least} {height} {slot} {bytes} {is_below} {target} {known} {node} can knows header =
     let read = entries_from_header nodes slot node header in

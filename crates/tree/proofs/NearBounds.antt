@@ -7,7 +7,7 @@ use Rattle.std.proofs.lemmas.List.Elements.{All-nil, All-cons}
 use Rattle.keys.specs.Key.{IsBytes}
 use Rattle.tree.specs.declared.entry.Entry.{Entry}
 use Rattle.tree.proofs.HeadChanges.{target_beside}
-use Rattle.tree.specs.Heads.{KeyBytes, HaveCommonPrefix, IsPrefixLenAt, KeyHeads, HasPrefix, IsHeadBeside, IsTargetHead}
+use Rattle.tree.specs.Heads.{KeyBytes, HaveCommonPrefix, IsCommonPrefixAt, KeyHeads, HasPrefix, IsHeadBeside, IsTargetHead}
 use Rattle.tree.specs.Node.{keys_of}
 use Rattle.tree.proofs.Overwriting.{entries_put}
 use Rattle.tree.proofs.Spans.{fewer_before}
@@ -17,24 +17,24 @@ pub fewer_alike : (fewer n : ℕ) (a b : List ℕ) → fewer ≤ n → take n a 
 fewer_alike fewer n a b le same = sym (take-take fewer n a le) ∙ ap (take fewer) same ∙ take-take fewer n b le
 
 -- The first key of a leaf and what another bound looks for begin alike as far as it is known.
-pub begin_alike : (bytes near : KeyBytes) (is_below : ℕ → Bool) (target other : List ℕ) (es : List Entry)
-    (known : Option ℕ) (n : ℕ) → IsPrefixLenAt bytes is_below target known es 0 → n ≤ unwrap_or known 0
+pub common_prefix_near : (bytes near : KeyBytes) (is_below : ℕ → Bool) (target other : List ℕ) (es : List Entry)
+    (known : Option ℕ) (n : ℕ) → IsCommonPrefixAt bytes is_below target known es 0 → n ≤ unwrap_or known 0
     → take n other ≡ take n target → ((key : ℕ) → near key ≡ bytes key)
     → (e : Entry) (text : List ℕ) → slice_get es 0 ≡ Some e → near e.key ≡ Some text → HaveCommonPrefix n text other
-begin_alike bytes near is_below target other es None n knows most alike same e text is there count within few =
+common_prefix_near bytes near is_below target other es None n knows most have_prefix same e text is there count within few =
     let none : count ≡ 0 = omega arith in rw none refl
-begin_alike bytes near is_below target other es (Some known) n knows most alike same e text is there count within few =
+common_prefix_near bytes near is_below target other es (Some known) n knows most have_prefix same e text is there count within few =
     ((knows e is).1 text (sym (same e.key) ∙ there) count within).0 (omega (arith, few, most))
-    ∙ sym (fewer_alike count n other target few alike)
+    ∙ sym (fewer_alike count n other target few have_prefix)
 
 -- What begins as far alike as what another bound looks for, which has a head, begins as all keys do.
-pub agrees_too : (bytes near : KeyBytes) (key_heads : KeyHeads) (target other : List ℕ) (shared : ℕ) (head : Option ℕ)
+pub has_prefix_too : (bytes near : KeyBytes) (key_heads : KeyHeads) (target other : List ℕ) (common_prefix_len : ℕ) (head : Option ℕ)
     → ((key : ℕ) → near key ≡ bytes key) → IfSome head (IsTargetHead near key_heads other) → is_some head ≡ true
-    → key_heads.prefix_len ≤ shared → take shared other ≡ take shared target → HasPrefix bytes key_heads target
-agrees_too bytes near key_heads target other shared None same for some short alike = absurd (cc)
-agrees_too bytes near key_heads target other shared (Some head) same for some short alike =
-    let known = sym (same for.agrees.key) ∙ for.agrees.known in
-    let begins = for.agrees.same ∙ fewer_alike key_heads.prefix_len shared other target short alike in
+    → key_heads.prefix_len ≤ common_prefix_len → take common_prefix_len other ≡ take common_prefix_len target → HasPrefix bytes key_heads target
+has_prefix_too bytes near key_heads target other common_prefix_len None same for some short have_prefix = absurd (cc)
+has_prefix_too bytes near key_heads target other common_prefix_len (Some head) same for some short have_prefix =
+    let known = sym (same for.has_prefix.key) ∙ for.has_prefix.known in
+    let begins = for.has_prefix.same ∙ fewer_alike key_heads.prefix_len common_prefix_len other target short have_prefix in
     search rules
 
 -- The head of what another bound looks for is that of the same bytes.
@@ -42,7 +42,7 @@ pub same_head : (bytes near : KeyBytes) (key_heads : KeyHeads) (target other : L
     → other ≡ target → (head : ℕ) → IsTargetHead near key_heads other head → IsTargetHead bytes key_heads target head
 same_head bytes near key_heads target other same is head for =
     let found = rw is at for in
-    let agrees = agrees_too bytes near _ target target key_heads.prefix_len (Some head) same found refl (omega arith) refl in
+    let has_prefix = has_prefix_too bytes near _ target target key_heads.prefix_len (Some head) same found refl (omega arith) refl in
     search rules
 
 -- It is that of a key that has these bytes, where it is known.

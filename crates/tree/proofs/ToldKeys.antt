@@ -2,7 +2,7 @@
 use Rattle.std.proofs.Common.{◌≡◌, ℕ, ◌+◌, ◌-◌, ◌<◌, ◌≤◌, Bool, true, false, List, [], ◌∷◌, Some, None, length, get_or, slice_get, filter, flat_map, All, refl, sym, arith, ◌≢◌, Option, unwrap_or}
 use Rattle.std.proofs.lemmas.Bool.{cases_Bool}
 use Rattle.std.proofs.lemmas.Option.{slice_get_read}
-use Rattle.tree.proofs.Words.{Arena, Entry, Node, KeyBytes, IsPrefixLenAt, Item, Tells, CanReach, IsPartitioned, index_in, entries_at, items_in}
+use Rattle.tree.proofs.Words.{Arena, Entry, Node, KeyBytes, IsCommonPrefixAt, Item, Tells, CanReach, IsPartitioned, index_in, entries_at, items_in}
 use Rattle.tree.proofs.callers.Partitions.{none_pass, rest_fails, length-items_below}
 use Rattle.tree.proofs.HeadCounts.{passing_at, passing_inside}
 use Rattle.tree.proofs.FirstKeys.{first_tells, items_under, node_items, node_tells}
@@ -41,8 +41,8 @@ none_from_first is_below under es e there tell (x ∷ xs) same partitioned f =
 pub known_where_some : {N : ℕ} {nodes : Arena (Node N)} {least height slot : ℕ} {bytes : KeyBytes} {is_below : ℕ → Bool}
     (target : List ℕ) (known : Option ℕ) → CanReach bytes is_below nodes least height slot
     → filter (λ x. is_below x.key) (items_in nodes height slot) ≢ []
-    → IsPrefixLenAt bytes is_below target known (entries_at nodes slot) 0
-    → IsPrefixLenAt bytes is_below target (Some (unwrap_or known 0)) (entries_at nodes slot) 0
+    → IsCommonPrefixAt bytes is_below target known (entries_at nodes slot) 0
+    → IsCommonPrefixAt bytes is_below target (Some (unwrap_or known 0)) (entries_at nodes slot) 0
 known_where_some {N} {nodes} {least} {height} {slot} {bytes} {is_below} target None can some knows e there =
     absurd (some (none_from_first is_below (items_under nodes height) (entries_at nodes slot) e there
     (node_tells nodes least height slot can.subtree) _ (node_items nodes least height slot) can.partitioned (knows e there)))

@@ -2,7 +2,7 @@
 use Rattle.std.specs.Prelude.{◌≡◌, ◌≢◌, ◌≤◌, ◌<◌, ℕ, Bool, List, filter, length, get_or, Option, None, Some, unwrap_or, IfSome}
 use Rattle.tree.specs.declared.node.Node.{Node}
 use Rattle.tree.specs.declared.node.step.Step.{Step}
-use Rattle.tree.specs.Heads.{KeyHeads, KeyBytes, IsTargetHead, AreHeads, IsPrefixLenAt}
+use Rattle.tree.specs.Heads.{KeyHeads, KeyBytes, IsTargetHead, AreHeads, IsCommonPrefixAt}
 use Rattle.tree.specs.Node.{entries_of, key_heads_of}
 use Rattle.tree.specs.Path.{IsPartitioned, index_in}
 
@@ -25,21 +25,21 @@ module _ {N : ℕ} where
 
   -- Such a node, and what is known of its first key: how many bytes it and the target begin with in common, or that it isn't
   -- below the bound.
-  pub record CanStep (bytes : KeyBytes) (is_below : ℕ → Bool) (target : List ℕ) (node : Node N) (shared : Option ℕ) : Type 0 where
+  pub record CanStep (bytes : KeyBytes) (is_below : ℕ → Bool) (target : List ℕ) (node : Node N) (common_prefix_len : Option ℕ) : Type 0 where
     pub can_find : CanFind bytes is_below node
-    pub known : IsPrefixLenAt bytes is_below target shared (entries_of node) 0
+    pub known : IsCommonPrefixAt bytes is_below target common_prefix_len (entries_of node) 0
 
   -- likewise with the own head of the target, as those bytes tell it
-  pub record CanStepBy (bytes : KeyBytes) (is_below : ℕ → Bool) (target : List ℕ) (node : Node N) (shared own : Option ℕ)
+  pub record CanStepBy (bytes : KeyBytes) (is_below : ℕ → Bool) (target : List ℕ) (node : Node N) (common_prefix_len own : Option ℕ)
       : Type 0 where
-    pub can_step : CanStep bytes is_below target node shared
-    pub head : IsOwnHead bytes target (unwrap_or shared 0) own (key_heads_of node)
+    pub can_step : CanStep bytes is_below target node common_prefix_len
+    pub head : IsOwnHead bytes target (unwrap_or common_prefix_len 0) own (key_heads_of node)
 
   -- A node that was searched so, where the first key is below the bound. There is a head of the target where that is known to
   -- begin as all keys do.
-  pub record IsSearched (bytes : KeyBytes) (is_below : ℕ → Bool) (target : List ℕ) (node : Node N) (shared : ℕ) (own : Option ℕ)
+  pub record IsSearched (bytes : KeyBytes) (is_below : ℕ → Bool) (target : List ℕ) (node : Node N) (common_prefix_len : ℕ) (own : Option ℕ)
       : Type 0 where
-    pub can_step : CanStep bytes is_below target node (Some shared)
+    pub can_step : CanStep bytes is_below target node (Some common_prefix_len)
     pub own_head : HasHead bytes target own (key_heads_of node)
 
   -- how many of the entries are below the bound
@@ -51,7 +51,7 @@ module _ {N : ℕ} where
   pub record IsStep (bytes : KeyBytes) (is_below : ℕ → Bool) (target : List ℕ) (node : Node N) (step : Step) : Type 0 where
     pub index_is : step.index ≡ index_in is_below (entries_of node)
     pub within : step.index < length (entries_of node)
-    pub knows : IsPrefixLenAt bytes is_below target step.common_prefix_len (entries_of node) step.index
+    pub knows : IsCommonPrefixAt bytes is_below target step.common_prefix_len (entries_of node) step.index
 
   -- The entries that have a head stand between these two, from an index on.
   pub record AreTied (node : Node N) (head from first end : ℕ) : Type 0 where

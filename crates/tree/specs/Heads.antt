@@ -54,22 +54,22 @@ pub record IsBelowInOrder (text target : List ℕ) (is_below : Bool) : Type 0 wh
 
 -- The two begin alike as far as so many bytes, or to the end of the first one.
 abbrev pub HaveCommonPrefix : ℕ → List ℕ → List ℕ → Type 0
-HaveCommonPrefix shared text target = (count : ℕ) → count ≤ length text → count ≤ shared → take count text ≡ take count target
+HaveCommonPrefix common_prefix_len text target = (count : ℕ) → count ≤ length text → count ≤ common_prefix_len → take count text ≡ take count target
 
 -- They begin alike just as far.
 abbrev pub IsCommonPrefixLen : ℕ → List ℕ → List ℕ → Type 0
-IsCommonPrefixLen shared text target = (count : ℕ) → count ≤ length text → (count ≤ shared) ↔ (take count text ≡ take count target)
+IsCommonPrefixLen common_prefix_len text target = (count : ℕ) → count ≤ length text → (count ≤ common_prefix_len) ↔ (take count text ≡ take count target)
 
 -- What is known of a key: how far it and the target begin alike, or that it isn't below the bound.
-abbrev pub IsPrefixLen : KeyBytes → (ℕ → Bool) → List ℕ → Option ℕ → ℕ → Type 0
-IsPrefixLen bytes is_below target known key =
+abbrev pub IsCommonPrefix : KeyBytes → (ℕ → Bool) → List ℕ → Option ℕ → ℕ → Type 0
+IsCommonPrefix bytes is_below target known key =
     MatchOption known (is_below key ≡ false)
-    (λ shared. (is_below key ≡ true) × ((text : List ℕ) → bytes key ≡ Some text → IsCommonPrefixLen shared text target))
+    (λ common_prefix_len. (is_below key ≡ true) × ((text : List ℕ) → bytes key ≡ Some text → IsCommonPrefixLen common_prefix_len text target))
 
 -- what is known of the key of the entry at an index
-abbrev pub IsPrefixLenAt : KeyBytes → (ℕ → Bool) → List ℕ → Option ℕ → List Entry → ℕ → Type 0
-IsPrefixLenAt bytes is_below target known entries index =
-    (e : Entry) → slice_get entries index ≡ Some e → IsPrefixLen bytes is_below target known e.key
+abbrev pub IsCommonPrefixAt : KeyBytes → (ℕ → Bool) → List ℕ → Option ℕ → List Entry → ℕ → Type 0
+IsCommonPrefixAt bytes is_below target known entries index =
+    (e : Entry) → slice_get entries index ≡ Some e → IsCommonPrefix bytes is_below target known e.key
 
 -- The target begins as all keys of the node do: as one of them that is long enough, so far as the node tells.
 pub record HasPrefix (bytes : KeyBytes) (key_heads : KeyHeads) (target : List ℕ) : Type 0 where
@@ -91,6 +91,6 @@ AreHeadsBeside bytes key_heads keys heads = AllZip (IsHeadBeside bytes key_heads
 
 -- The head of the target, which begins as all keys do.
 pub record IsTargetHead (bytes : KeyBytes) (key_heads : KeyHeads) (target : List ℕ) (head : ℕ) : Type 0 where
-  pub agrees : HasPrefix bytes key_heads target
+  pub has_prefix : HasPrefix bytes key_heads target
   pub head_is : head ≡ head_behind key_heads.prefix_len target
   pub are_bytes : IsBytes target

@@ -7,7 +7,7 @@ use Rattle.tree.specs.declared.approach.Approach.{Approach}
 use Rattle.tree.specs.declared.approach.Approach.TheVariants.{Leaf, Clear, Open}
 use Rattle.tree.specs.declared.approach.Near.{Near}
 use Rattle.tree.specs.Finding.{IsOwnHead}
-use Rattle.tree.specs.Heads.{KeyBytes, IsPrefixLenAt}
+use Rattle.tree.specs.Heads.{KeyBytes, IsCommonPrefixAt}
 use Rattle.tree.specs.Item.{Item}
 use Rattle.tree.specs.Node.{all_heads_of}
 use Rattle.tree.specs.Path.{IsPartitioned, from_last}
@@ -19,20 +19,23 @@ pub record IsAsked {N : ℕ} (nodes : Arena (Node N)) (least height slot : ℕ) 
   pub can_reach : CanReach bytes p nodes least height slot
   pub to : IsPartitioned (λ x. q x.key) (items_in nodes height slot)
 
--- What is told of some items, if anything is: whether a version of those before the second bound, of those before the first one the
--- last alone, is above this one. That holds whatever stands before them, and behind them. Where `clear` holds, what stands behind
--- them doesn't come before the second bound.
+-- A version of the items before the second bound, of those before the first one the last alone, is above this one.
+abbrev pub Exceeds : (ℕ → Bool) → (ℕ → Bool) → ℤ → List Item → Type 0
+Exceeds p q v items = Any (λ x. v <ℤ x.version) (from_last p (Some q) items)
+
+-- What is told of some items, if anything is: whether they exceed a version. That holds whatever stands before them, and behind them.
+-- Where `clear` holds, what stands behind them doesn't come before the second bound.
 abbrev pub IsTold : (ℕ → Bool) → (ℕ → Bool) → ℤ → Bool → List Item → Option Bool → Type 0
 IsTold p q v clear items result =
     (before after : List Item) → (IsTrue clear → All (λ x. q x.key ≡ false) after)
     → IsPartitioned (λ x. p x.key) (before ++ (items ++ after)) → IsPartitioned (λ x. q x.key) (before ++ (items ++ after))
-    → IfSome result (λ told. IsTrue told ↔ Any (λ x. v <ℤ x.version) (from_last p (Some q) (before ++ (items ++ after))))
+    → IfSome result (λ told. IsTrue told ↔ Exceeds p q v (before ++ (items ++ after)))
 
 -- a leaf that has entries, with what is known of its first key
 pub record IsNear {N : ℕ} (nodes : Arena (Node N)) (bytes : KeyBytes) (p : ℕ → Bool) (target : List ℕ) (near : Near) : Type 0 where
   pub live : IsLive nodes near.leaf
   pub some : 1 ≤ length (entries_at nodes near.leaf)
-  pub known : IsPrefixLenAt bytes p target (Some near.common_prefix_len) (entries_at nodes near.leaf) 0
+  pub known : IsCommonPrefixAt bytes p target (Some near.common_prefix_len) (entries_at nodes near.leaf) 0
 
 -- A leaf of a subtree, whose items are partitioned twice. What is told of them is told of the subtree's.
 pub record IsFor {N : ℕ} (nodes : Arena (Node N)) (height slot : ℕ) (bytes : KeyBytes) (p q : ℕ → Bool) (target : List ℕ)

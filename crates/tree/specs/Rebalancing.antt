@@ -16,7 +16,7 @@ module _ {N : ℕ} where
   -- The node at a slot, which is too full for entries in place of those from one index up to another, and so is split. It may be
   -- known that their keys begin as all others do, with their heads.
   pub record CanSplit (bytes : KeyBytes) (nodes : Arena (Node N)) (slot from to : ℕ) (new : List Entry) (heads : List ℕ)
-      (alike : Bool) : Type 0 where
+      (have_prefix : Bool) : Type 0 where
     pub fan_out : 4 ≤ N
     pub live : IsLive nodes slot
     pub keyless : IsKeyless nodes
@@ -28,7 +28,7 @@ module _ {N : ℕ} where
     pub headed : AllAreHeads bytes (all_heads_of nodes)
     pub known : All (IsKnown bytes) (keys_of new)
     pub same_len : length heads ≡ length new
-    pub beside : IsTrue alike → IfSome (all_heads_of nodes slot) (λ own. AreHeadsBeside bytes own (keys_of new) heads)
+    pub beside : IsTrue have_prefix → IfSome (all_heads_of nodes slot) (λ own. AreHeadsBeside bytes own (keys_of new) heads)
 
   -- A node is stored at a slot, and its right neighbour, if any, at one that was spare.
   pub record IsStored (bytes : KeyBytes) (old new : Arena (Node N)) (slot : ℕ) (added : Option ℕ) : Type 0 where

@@ -14,14 +14,14 @@ pub record AreHalfFull (most : ℕ) (first second : List Entry) : Type 0 where
 module _ {N : ℕ} where
   -- Entries that may come in place of those of a node from one index up to another. It may be said that their keys begin as all
   -- others do, and that these are their heads.
-  pub record CanSplice (bytes : KeyBytes) (node : Node N) (from to : ℕ) (new : List Entry) (heads : List ℕ) (alike : Bool)
+  pub record CanSplice (bytes : KeyBytes) (node : Node N) (from to : ℕ) (new : List Entry) (heads : List ℕ) (have_prefix : Bool)
       : Type 0 where
     pub ordered : from ≤ to
     pub within : to ≤ length (entries_of node)
     pub same_len : length heads ≡ length new
     pub headed : AreHeads bytes (key_heads_of node)
     pub known : All (IsKnown bytes) (keys_of new)
-    pub beside : IsTrue alike → AreHeadsBeside bytes (key_heads_of node) (keys_of new) heads
+    pub beside : IsTrue have_prefix → AreHeadsBeside bytes (key_heads_of node) (keys_of new) heads
 
   -- two neighbours that know the bytes of their keys
   pub record AreBothHeaded (bytes : KeyBytes) (first second : Node N) : Type 0 where

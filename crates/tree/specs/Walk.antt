@@ -8,7 +8,7 @@ use Rattle.tree.specs.declared.node.Node.{Node}
 use Rattle.tree.specs.declared.walk.Outcome.{Outcome}
 use Rattle.tree.specs.declared.walk.RaisedLeaf.{RaisedLeaf}
 use Rattle.tree.specs.declared.walk.Outcome.TheVariants.{Same, Raised, Changed, Split}
-use Rattle.tree.specs.Heads.{KeyBytes, AllAreHeads, IsPrefixLenAt}
+use Rattle.tree.specs.Heads.{KeyBytes, AllAreHeads, IsCommonPrefixAt}
 use Rattle.tree.specs.Item.{Item}
 use Rattle.tree.specs.Node.{all_heads_of}
 use Rattle.tree.specs.Path.{IsPartitioned, first_key}
@@ -66,16 +66,16 @@ module _ {N : ℕ} where
 
   -- What is known of the way to a subtree, where a bound is sought.
   pub record CanSearch (bytes : KeyBytes) (is_below : ℕ → Bool) (target : List ℕ) (nodes : Arena (Node N)) (height slot : ℕ)
-      (shared : Option ℕ) : Type 0 where
+      (common_prefix_len : Option ℕ) : Type 0 where
     pub partitioned : IsPartitioned (λ x. is_below x.key) (items_in nodes height slot)
     pub headed : AllAreHeads bytes (all_heads_of nodes)
-    pub known : IsPrefixLenAt bytes is_below target shared (entries_at nodes slot) 0
+    pub known : IsCommonPrefixAt bytes is_below target common_prefix_len (entries_at nodes slot) 0
 
   -- A subtree of which a leaf may be changed: the bound is sought there, the items are as is wanted, and none is taken out yet.
   pub record CanChangeLeaf (bytes : KeyBytes) (is_below : ℕ → Bool) (target : List ℕ) (Wants : List Item → Type 0)
-      (nodes : Arena (Node N)) (height slot : ℕ) (shared : Option ℕ) (taken : List Entry) : Type 0 where
+      (nodes : Arena (Node N)) (height slot : ℕ) (common_prefix_len : Option ℕ) (taken : List Entry) : Type 0 where
     pub changeable : CanChange nodes height slot
-    pub searched : CanSearch bytes is_below target nodes height slot shared
+    pub searched : CanSearch bytes is_below target nodes height slot common_prefix_len
     pub wanted : Wants (items_in nodes height slot)
     pub none_taken : taken ≡ []
 

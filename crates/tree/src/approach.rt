@@ -2,7 +2,7 @@
 
 ghost use Rattle.std.specs.Prelude.{◌≡◌, ◌≢◌, ◌≤◌, ◌<◌, ◌+◌, true, false, length, slice_get, Some, [], IsTrue};
 ghost use Rattle.tree.specs.Finding.{HasHead, IsSearched};
-ghost use Rattle.tree.specs.Heads.{IsPrefixLenAt};
+ghost use Rattle.tree.specs.Heads.{IsCommonPrefixAt};
 ghost use Rattle.tree.specs.Node.{entries_of, key_heads_of};
 ghost use Rattle.tree.specs.Path.{index_in, items_below};
 ghost use Rattle.tree.specs.Question.{IsApproach, IsAsked};
@@ -52,7 +52,7 @@ pub fn descend<P: Bound, Q: Bound, const N: usize>(
 ) -> Approach
     requires asked { IsAsked nodes.now (least_of N) height slot (P.bytes question.now.from) (P.below question.now.from)
         (Q.below question.now.to) }
-    requires known { IsPrefixLenAt (P.bytes question.now.from) (P.below question.now.from) (P.target question.now.from) (Some common_prefix_len)
+    requires known { IsCommonPrefixAt (P.bytes question.now.from) (P.below question.now.from) (P.target question.now.from) (Some common_prefix_len)
         (entries_at nodes.now slot) 0 }
     ensures approach { IsApproach nodes.now height slot (P.bytes question.now.from) (P.below question.now.from)
         (Q.below question.now.to) (P.target question.now.from) question.now.version clear result }
@@ -146,9 +146,9 @@ pub fn end_head<P: Bound, Q: Bound, const N: usize>(
     ensures head { HasHead (Q.bytes question.now.to) (Q.target question.now.to) result (key_heads_of node.now) }
 {
     let targets_prefix_len = question.targets_prefix_len;
-    let agrees = own.is_some() && node.prefix_len() <= targets_prefix_len;
+    let has_prefix = own.is_some() && node.prefix_len() <= targets_prefix_len;
     node.head_given(
-        agrees,
+        has_prefix,
         &question.to,
         common_prefix_len.min(targets_prefix_len),
     )

@@ -2,7 +2,7 @@
 
 ghost use Rattle.std.specs.Prelude.{◌≡◌, ◌≤◌, ◌↔◌, ℕ, Bool, List, [], length, take, Option, Some, IsTrue};
 ghost use Rattle.keys.specs.Key.{IsBytes};
-ghost use Rattle.tree.specs.Heads.{head_behind, IsBelowInOrder, IsCommonPrefixLen, IsPrefixLen};
+ghost use Rattle.tree.specs.Heads.{head_behind, IsBelowInOrder, IsCommonPrefixLen, IsCommonPrefix};
 
 use arena::Slot;
 
@@ -54,8 +54,8 @@ pub trait Bound {
             → IsTrue result ↔ (take count text ≡ take count (target self.now)) };
 
     /// Returns how many bytes a key and the target begin with in common, or none if an item of this key isn't below the bound.
-    fn prefix_len_below(&self, key: Slot) -> Option<usize>
-        ensures known { IsPrefixLen (bytes self.now) (below self.now) (target self.now) result key };
+    fn common_prefix_len_below(&self, key: Slot) -> Option<usize>
+        ensures known { IsCommonPrefix (bytes self.now) (below self.now) (target self.now) result key };
 
     // A key that comes before the target is below the bound, and one behind it isn't.
     ghost order: { (bound : Self) (key : ℕ) (text : List ℕ) → bytes bound key ≡ Some text

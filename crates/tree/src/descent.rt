@@ -2,16 +2,15 @@
 
 ghost use Rattle.std.specs.Prelude.{◌≡◌, ◌≤◌, length};
 ghost use Rattle.arena.specs.Arena.{IsLive};
-ghost use Rattle.tree.specs.Heads.{AllAreHeads, IsPrefixLenAt};
+ghost use Rattle.tree.specs.Heads.{AllAreHeads, IsCommonPrefixAt};
 ghost use Rattle.tree.specs.Node.{all_heads_of};
 ghost use Rattle.tree.specs.Reached.{CanReach};
 ghost use Rattle.tree.specs.Subtree.{entries_at};
 ghost use Rattle.tree.specs.Tree.{least_of};
-ghost use Rattle.tree.specs.Path.{leaf_in, behind_leaf, first_key};
+ghost use Rattle.tree.specs.Path.{leaf_in};
 
 use crate::bound::Bound;
 use crate::node::Node;
-use crate::search::key_at;
 use arena::{Arena, Slot};
 
 /// Where a search has come to.
@@ -20,8 +19,6 @@ pub struct Reached {
     pub leaf: Slot,
     /// How many bytes the first key of the leaf and the target begin with in common, or none if that key isn't below the bound.
     pub common_prefix_len: Option<usize>,
-    /// The key of the first item behind the leaf.
-    pub behind: Option<Slot>,
 }
 
 /// Returns how many bytes the first key of a node and the target begin with in common, or none if that key isn't below the bound.
@@ -34,40 +31,35 @@ pub fn common_prefix_len_at<P: Bound, const N: usize>(
     requires live { IsLive nodes.now slot }
     requires some { 1 ≤ length (entries_at nodes.now slot) }
     requires headed { AllAreHeads (P.bytes bound.now) (all_heads_of nodes.now) }
-    ensures known { IsPrefixLenAt (P.bytes bound.now) (P.below bound.now) (P.target bound.now) result (entries_at nodes.now slot) 0 }
+    ensures known { IsCommonPrefixAt (P.bytes bound.now) (P.below bound.now) (P.target bound.now) result (entries_at nodes.now slot) 0 }
 {
-    nodes.header_ref(slot).first_prefix_len(bound)
+    nodes.header_ref(slot).first_common_prefix_len(bound)
 }
 
 /// Finds the leaf that has the last item below the bound, or else the first leaf. `common_prefix_len` is how many bytes the first
-/// key of the subtree and the target begin with in common, or none if that key isn't below the bound. `behind` is the key of the
-/// first item behind the subtree.
+/// key of the subtree and the target begin with in common, or none if that key isn't below the bound.
 pub fn find<P: Bound, const N: usize>(
     nodes: &Arena<Node<N>>,
     slot: Slot,
     height: usize,
     bound: &P,
     common_prefix_len: Option<usize>,
-    behind: Option<Slot>,
 ) -> Reached
     requires can_reach { CanReach (P.bytes bound.now) (P.below bound.now) nodes.now (least_of N) height slot }
-    requires known { IsPrefixLenAt (P.bytes bound.now) (P.below bound.now) (P.target bound.now) common_prefix_len (entries_at nodes.now slot) 0 }
+    requires known { IsCommonPrefixAt (P.bytes bound.now) (P.below bound.now) (P.target bound.now) common_prefix_len (entries_at nodes.now slot) 0 }
     ensures leaf { result.leaf ≡ leaf_in nodes.now height slot (P.below bound.now) }
-    ensures known { IsPrefixLenAt (P.bytes bound.now) (P.below bound.now) (P.target bound.now) result.common_prefix_len
+    ensures known { IsCommonPrefixAt (P.bytes bound.now) (P.below bound.now) (P.target bound.now) result.common_prefix_len
         (entries_at nodes.now result.leaf) 0 }
     ensures some { 1 ≤ length (entries_at nodes.now result.leaf) }
-    ensures behind { result.behind ≡ first_key behind (behind_leaf nodes.now height slot (P.below bound.now)) }
 {
     if height == 0 {
         return Reached {
             leaf: slot,
             common_prefix_len,
-            behind,
         };
     }
     let node = nodes.header_ref(slot);
     let step = node.step(bound, common_prefix_len);
-    let next = key_at(node.entries(), step.index + 1, behind);
     let child = node.entries()[step.index].child;
     find(
         nodes,
@@ -75,6 +67,5 @@ pub fn find<P: Bound, const N: usize>(
         height - 1,
         bound,
         step.common_prefix_len,
-        next,
     )
 }

@@ -55,7 +55,7 @@ pub struct Overwrite<'a, P: Bound, Q: Bound, R: Bound> {
     ghost outer: { (key : ℕ) → Q.below to.now key ≡ true → R.below past.now key ≡ true },
     ghost bytes: { (key : ℕ) → P.bytes from.now key ≡ Q.bytes to.now key },
     ghost past_bytes: { (key : ℕ) → R.bytes past.now key ≡ Q.bytes to.now key },
-    ghost begin_alike: { take targets_prefix_len (P.target from.now) ≡ take targets_prefix_len (Q.target to.now) },
+    ghost common_prefix: { take targets_prefix_len (P.target from.now) ≡ take targets_prefix_len (Q.target to.now) },
     ghost past_target: { R.target past.now ≡ Q.target to.now },
     ghost first_is: { Q.bytes to.now first.key ≡ Some (P.target from.now) },
     ghost second_is: { Q.bytes to.now second ≡ Some (Q.target to.now) },
@@ -95,11 +95,11 @@ impl<'a, 'b, P: Bound, Q: Bound, R: Bound, const N: usize> LeafChange<N>
     ) -> Outcome {
         let new = self.new;
         let leaf = nodes.header_ref(slot);
-        let alike = place.common_prefix_len.unwrap_or(0);
-        let to_head = leaf.head_for(new.to, alike);
+        let common_prefix_len = place.common_prefix_len.unwrap_or(0);
+        let to_head = leaf.head_for(new.to, common_prefix_len);
         let end = leaf.lower_bound_with(new.to, place.common_prefix_len, to_head);
-        let begin_alike = to_head.is_some() && leaf.prefix_len() <= new.targets_prefix_len;
-        let head = leaf.head_given(begin_alike, new.from, alike.min(new.targets_prefix_len));
+        let from_has_prefix = to_head.is_some() && leaf.prefix_len() <= new.targets_prefix_len;
+        let head = leaf.head_given(from_has_prefix, new.from, common_prefix_len.min(new.targets_prefix_len));
         let begin = leaf.lower_bound_back(end, new.from, head);
         put_taken(taken, &leaf.entries()[begin..end]);
         let last = leaf.entries()[..end]

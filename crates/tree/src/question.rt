@@ -24,5 +24,5 @@ pub struct Question<P: Bound, Q: Bound> {
     ghost nested: { (key : ℕ) → P.below from key ≡ true → Q.below to key ≡ true },
     ghost single: { is_single ≡ true → (key : ℕ) → Q.below to key ≡ true → P.below from key ≡ true },
     ghost bytes: { (key : ℕ) → P.bytes from key ≡ Q.bytes to key },
-    ghost begin_alike: { take targets_prefix_len (P.target from) ≡ take targets_prefix_len (Q.target to) },
+    ghost common_prefix: { take targets_prefix_len (P.target from) ≡ take targets_prefix_len (Q.target to) },
 }

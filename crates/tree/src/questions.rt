@@ -6,8 +6,8 @@ ghost use Rattle.std.specs.List.{All, AllZip, Any};
 ghost use Rattle.tree.specs.Finding.{IsLowerBound, IsOwnHead, IsSearched};
 ghost use Rattle.tree.specs.Heads.{AllAreHeads};
 ghost use Rattle.tree.specs.Node.{all_heads_of, entries_of};
-ghost use Rattle.tree.specs.Path.{IsPartitioned, from_last, items_below};
-ghost use Rattle.tree.specs.Question.{IsApproach, IsAsked, IsLeading, IsLooked, IsNear, IsTold};
+ghost use Rattle.tree.specs.Path.{IsPartitioned, items_below};
+ghost use Rattle.tree.specs.Question.{Exceeds, IsApproach, IsAsked, IsLeading, IsLooked, IsNear, IsTold};
 ghost use Rattle.tree.specs.Subtree.{items_in};
 ghost use Rattle.tree.specs.Tree.{least_of};
 ghost use Rattle.tree.specs.declared.question.TheConstants.{SIDE};
@@ -110,8 +110,8 @@ pub fn answer<P: Bound, Q: Bound, const N: usize>(
     requires approach { IsApproach nodes.now root.height root.slot (P.bytes question.now.from) (P.below question.now.from)
         (Q.below question.now.to) (P.target question.now.from) question.now.version true look.way }
     requires looked { IsLooked nodes.now (P.bytes question.now.from) (P.target question.now.from) look.way look.own }
-    ensures above { IsTrue result ↔ Any (λ x. question.now.version <ℤ x.version)
-        (from_last (P.below question.now.from) (Some (Q.below question.now.to)) (items_in nodes.now root.height root.slot)) }
+    ensures above { IsTrue result ↔ Exceeds (P.below question.now.from) (Q.below question.now.to) question.now.version
+        (items_in nodes.now root.height root.slot) }
 {
     let Look { way, own } = look;
     match way {
@@ -133,8 +133,8 @@ fn exceeds<P: Bound, Q: Bound, const N: usize>(
     requires asked { IsAsked nodes.now (least_of N) root.height root.slot (P.bytes question.now.from)
         (P.below question.now.from) (Q.below question.now.to) }
     requires some_below { items_below (P.below question.now.from) (items_in nodes.now root.height root.slot) ≢ [] }
-    ensures above { IsTrue result ↔ Any (λ x. question.now.version <ℤ x.version)
-        (from_last (P.below question.now.from) (Some (Q.below question.now.to)) (items_in nodes.now root.height root.slot)) }
+    ensures above { IsTrue result ↔ Exceeds (P.below question.now.from) (Q.below question.now.to) question.now.version
+        (items_in nodes.now root.height root.slot) }
 {
     let Root { slot, height } = root;
     let version = question.version;
@@ -201,9 +201,8 @@ pub fn answer_each<P: Bound, Q: Bound, const N: usize>(
     requires approach { AllZip (λ q l. IsApproach nodes.now root.now.height root.now.slot (P.bytes q.from)
         (P.below q.from) (Q.below q.to) (P.target q.from) q.version true l.way) questions.now looks.now }
     requires looked { AllZip (λ q l. IsLooked nodes.now (P.bytes q.from) (P.target q.from) l.way l.own) questions.now looks.now }
-    ensures told { AllZip (λ q above. IsTrue above ↔ Any (λ x. q.version <ℤ x.version)
-        (from_last (P.below q.from) (Some (Q.below q.to)) (items_in nodes.now root.now.height root.now.slot)))
-        questions.now result.items }
+    ensures told { AllZip (λ q above. IsTrue above ↔ Exceeds (P.below q.from) (Q.below q.to) q.version
+        (items_in nodes.now root.now.height root.now.slot)) questions.now result.items }
 {
     let mut answers = ArrayVec::new();
     for (question, look) in questions.iter().zip(looks) {

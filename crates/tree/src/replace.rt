@@ -36,13 +36,13 @@ pub fn insert_child<P: Bound, const N: usize>(
         node.head_of(new[1].key, index, bound),
     );
     let heads = [head.unwrap_or(0), added_head.unwrap_or(0)];
-    let alike = head.is_some() && added_head.is_some();
+    let have_prefix = head.is_some() && added_head.is_some();
     if node.len() == N {
-        return Some(split(nodes, slot, index, index + 1, &new, &heads, alike, bound));
+        return Some(split(nodes, slot, index, index + 1, &new, &heads, have_prefix, bound));
     }
     nodes
         .header_mut(slot)
-        .splice_with_heads(index, index + 1, &new, &heads, alike, bound);
+        .splice_with_heads(index, index + 1, &new, &heads, have_prefix, bound);
     None
 }
 
@@ -55,17 +55,17 @@ pub fn split<P: Bound, const N: usize>(
     to: usize,
     new: &[Entry],
     heads: &[u32],
-    alike: bool,
+    have_prefix: bool,
     bound: &P,
 ) -> Slot
-    requires can_split { CanSplit (P.bytes bound.now) nodes.old slot from to new.now heads.now alike }
+    requires can_split { CanSplit (P.bytes bound.now) nodes.old slot from to new.now heads.now have_prefix }
     ensures entries { entries_at_both nodes.new slot (Some result)
         ≡ take from (entries_at nodes.old slot) ++ (new.now ++ drop to (entries_at nodes.old slot)) }
     ensures stored { IsStored (P.bytes bound.now) nodes.old nodes.new slot (Some result) }
 {
     let right = nodes
         .header_mut(slot)
-        .splice_apart(from, to, new, heads, alike, bound);
+        .splice_apart(from, to, new, heads, have_prefix, bound);
     place(nodes, right)
 }
 

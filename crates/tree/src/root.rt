@@ -46,7 +46,6 @@ pub fn reach<P: Bound, const N: usize>(nodes: &Arena<Node<N>>, root: Root, bound
         root.height,
         bound,
         common_prefix_len,
-        None,
     )
 }
 

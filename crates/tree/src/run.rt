@@ -69,13 +69,13 @@ pub fn write_run<P: Bound, Q: Bound, R: Bound, const N: usize>(
     // The keys of both entries have the bytes of the targets, and so their heads.
     let heads = [run.begin_head.unwrap_or(0), run.end_head.unwrap_or(0)];
     let heads = &heads[..entries.len()];
-    let alike = run.begin_head.is_some() && run.end_head.is_some();
+    let have_prefix = run.begin_head.is_some() && run.end_head.is_some();
     let (begin, end) = (run.begin, run.end);
     if begin + entries.len() > N - (nodes.header_ref(slot).len() - end) {
-        return Some(split(nodes, slot, begin, end, entries, heads, alike, new.to));
+        return Some(split(nodes, slot, begin, end, entries, heads, have_prefix, new.to));
     }
     nodes
         .header_mut(slot)
-        .splice_with_heads(begin, end, entries, heads, alike, new.to);
+        .splice_with_heads(begin, end, entries, heads, have_prefix, new.to);
     None
 }

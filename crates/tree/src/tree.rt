@@ -6,7 +6,8 @@ ghost use Rattle.tree.specs.Item.{item_of, IsGreatest};
 ghost use Rattle.tree.specs.Heads.{AllAreHeads, KeyBytes};
 ghost use Rattle.tree.specs.Overwrite.{CanOverwrite, Overwrites};
 ghost use Rattle.tree.specs.Expire.{CanRemoveExpired, RemovesExpired};
-ghost use Rattle.tree.specs.Path.{IsPartitioned, items_below, behind, first_key, between, from_last};
+ghost use Rattle.tree.specs.Path.{IsPartitioned, items_below, behind, first_key, between};
+ghost use Rattle.tree.specs.Question.{Exceeds};
 ghost use Rattle.tree.specs.declared.question.TheConstants.{SIDE};
 ghost use Rattle.tree.specs.Tree.{IsLast, tree_heads, KnowItems};
 
@@ -157,8 +158,8 @@ impl<const N: usize> Tree<N> {
         requires to { All (λ q. IsPartitioned (λ x. Q.below q.to x.key) self.now.items) questions.now }
         requires some { All (λ q. items_below (P.below q.from) self.now.items ≢ []) questions.now }
         requires headed { All (λ q. AllAreHeads (P.bytes q.from) (tree_heads self.now)) questions.now }
-        ensures told { AllZip (λ q above. IsTrue above ↔ Any (λ x. q.version <ℤ x.version)
-            (from_last (P.below q.from) (Some (Q.below q.to)) self.now.items)) questions.now result.items }
+        ensures told { AllZip (λ q above. IsTrue above ↔ Exceeds (P.below q.from) (Q.below q.to) q.version self.now.items)
+            questions.now result.items }
     {
         let ways = descend_each(&self.nodes, &self.root, questions);
         let looks = look_at_each(&self.nodes, questions, ways.as_slice());

@@ -20,21 +20,24 @@ const EARLY_CELLS: usize = 65_536;
 
 impl StepMap {
     // Returns whether the boundaries, and two for each of so many ranges, are within the limit.
-    pub(super) fn has_room_for(&self, ranges: usize) -> bool
+    fn has_room_for(&self, ranges: usize) -> bool
         ensures room { result ≡ nat_le (length self.now.boundaries + 2 * ranges) self.now.limit }
         ensures steps { AreSteps self.now }
     {
         ranges <= (self.limit - self.boundaries.len()) / 2
     }
 
-    // Sweeps a whole round, unless there is room for so many ranges.
-    pub(super) fn make_room(&mut self, ranges: usize)
+    // Returns whether there is room for so many ranges. Where there is none it sweeps a whole round first.
+    pub(super) fn make_room(&mut self, ranges: usize) -> bool
         ensures map { self.new ≡ made_room ranges self.old }
+        ensures room { result ≡ nat_le (length self.new.boundaries + 2 * ranges) self.new.limit }
         ensures steps { AreSteps self.old }
     {
-        if !self.has_room_for(ranges) {
-            self.sweep_round();
+        if self.has_room_for(ranges) {
+            return true;
         }
+        self.sweep_round();
+        self.has_room_for(ranges)
     }
 
     // Sweeps a whole round from the front, wherever the cursor is; the next sweep begins at the front.

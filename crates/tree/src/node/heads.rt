@@ -83,7 +83,7 @@ impl<const N: usize> Node<N> {
         self.heads[index] = bound.head_of(entry.key, self.prefix_len());
     }
 
-    /// Puts these entries in place of those from one index up to another. `alike` tells that their keys begin as all others do, and
+    /// Puts these entries in place of those from one index up to another. `have_prefix` tells that their keys begin as all others do, and
     /// that these are their heads. Else all heads are computed anew.
     pub fn splice_with_heads<P: Bound>(
         &mut self,
@@ -91,16 +91,16 @@ impl<const N: usize> Node<N> {
         to: usize,
         new: &[Entry],
         heads: &[u32],
-        alike: bool,
+        have_prefix: bool,
         bound: &P,
     )
-        requires can_splice { CanSplice (P.bytes bound.now) self.old from to new.now heads.now alike }
+        requires can_splice { CanSplice (P.bytes bound.now) self.old from to new.now heads.now have_prefix }
         requires room { from + length new.now + (length (entries_of self.old) - to) ≤ N }
         ensures entries { entries_of self.new ≡ take from (entries_of self.old) ++ (new.now ++ drop to (entries_of self.old)) }
         ensures headed { AreHeads (P.bytes bound.now) (key_heads_of self.new) }
     {
         self.splice(from, to, new, heads);
-        if !alike {
+        if !have_prefix {
             self.compute_heads(bound);
         }
     }
@@ -113,10 +113,10 @@ impl<const N: usize> Node<N> {
         to: usize,
         new: &[Entry],
         heads: &[u32],
-        alike: bool,
+        have_prefix: bool,
         bound: &P,
     ) -> Node<N>
-        requires can_splice { CanSplice (P.bytes bound.now) self.old from to new.now heads.now alike }
+        requires can_splice { CanSplice (P.bytes bound.now) self.old from to new.now heads.now have_prefix }
         requires few_new { 2 * length new.now ≤ N }
         requires many { N < from + length new.now + (length (entries_of self.old) - to) }
         ensures entries { entries_of self.new ++ entries_of result
@@ -132,7 +132,7 @@ impl<const N: usize> Node<N> {
             right.splice(0, 0, new, heads);
         }
         self.redistribute(&mut right);
-        if alike {
+        if have_prefix {
             self.lengthen_prefix(bound);
             right.lengthen_prefix(bound);
         } else {
@@ -154,9 +154,9 @@ impl<const N: usize> Node<N> {
         let Some(first) = other.entries().first() else {
             return;
         };
-        let alike = self.prefix_len == other.prefix_len && self.begins(first.key, bound);
+        let have_prefix = self.prefix_len == other.prefix_len && self.begins(first.key, bound);
         self.append(other.entries(), other.heads());
-        if !alike {
+        if !have_prefix {
             return self.compute_heads(bound);
         }
         self.lengthen_prefix(bound);
@@ -172,9 +172,9 @@ impl<const N: usize> Node<N> {
         ensures headed { AreBothHeaded (P.bytes bound.now) self.new right.new }
     {
         let first = right.entries[0].key;
-        let alike = self.prefix_len == right.prefix_len && self.begins(first, bound);
+        let have_prefix = self.prefix_len == right.prefix_len && self.begins(first, bound);
         self.redistribute(right);
-        if !alike {
+        if !have_prefix {
             self.compute_heads(bound);
             return right.compute_heads(bound);
         }
@@ -212,7 +212,7 @@ impl<const N: usize> Node<N> {
     // Returns whether a key begins as all keys do. Where there is no key it doesn't.
     fn begins<P: Bound>(&self, key: Slot, bound: &P) -> bool
         requires headed { AreHeads (P.bytes bound.now) (key_heads_of self.now) }
-        ensures agrees { IsTrue result → (text : List ℕ) → P.bytes bound.now key ≡ Some text
+        ensures has_prefix { IsTrue result → (text : List ℕ) → P.bytes bound.now key ≡ Some text
             → HasPrefix (P.bytes bound.now) (key_heads_of self.now) text }
     {
         match self.entries().last() {

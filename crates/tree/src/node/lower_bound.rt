@@ -80,38 +80,38 @@ impl<const N: usize> Node<N> {
     pub fn head_for<P: Bound>(&self, bound: &P, common_prefix_len: usize) -> Option<u32>
         requires headed { AreHeads (P.bytes bound.now) (key_heads_of self.now) }
         requires some { 0 < length (entries_of self.now) }
-        requires shared { (e : Entry) (text : List ℕ) → slice_get (entries_of self.now) 0 ≡ Some e
+        requires common_prefix_len { (e : Entry) (text : List ℕ) → slice_get (entries_of self.now) 0 ≡ Some e
             → P.bytes bound.now e.key ≡ Some text → HaveCommonPrefix common_prefix_len text (P.target bound.now) }
         ensures head { IsOwnHead (P.bytes bound.now) (P.target bound.now) common_prefix_len result (key_heads_of self.now) }
     {
-        let alike = if self.heads[0] == 0 && self.prefix_len > 0 {
+        let has_prefix = if self.heads[0] == 0 && self.prefix_len > 0 {
             self.has_prefix_of(self.len() - 1, bound)
         } else {
             common_prefix_len >= self.prefix_len()
         };
-        if !alike {
+        if !has_prefix {
             return None;
         }
         Some(bound.head(self.prefix_len()))
     }
 
-    /// Returns the head as `head_for` does. `agrees` tells that the target begins as all keys do, and may be false although it
+    /// Returns the head as `head_for` does. `has_prefix` tells that the target begins as all keys do, and may be false although it
     /// does.
     #[inline(always)]
     pub fn head_given<P: Bound>(
         &self,
-        agrees: bool,
+        has_prefix: bool,
         bound: &P,
         common_prefix_len: usize,
     ) -> Option<u32>
         requires headed { AreHeads (P.bytes bound.now) (key_heads_of self.now) }
         requires some { 0 < length (entries_of self.now) }
-        requires agrees { IsTrue agrees → HasPrefix (P.bytes bound.now) (key_heads_of self.now) (P.target bound.now) }
-        requires shared { (e : Entry) (text : List ℕ) → slice_get (entries_of self.now) 0 ≡ Some e
+        requires has_prefix { IsTrue has_prefix → HasPrefix (P.bytes bound.now) (key_heads_of self.now) (P.target bound.now) }
+        requires common_prefix_len { (e : Entry) (text : List ℕ) → slice_get (entries_of self.now) 0 ≡ Some e
             → P.bytes bound.now e.key ≡ Some text → HaveCommonPrefix common_prefix_len text (P.target bound.now) }
         ensures head { HasHead (P.bytes bound.now) (P.target bound.now) result (key_heads_of self.now) }
     {
-        if agrees {
+        if has_prefix {
             return Some(bound.head(self.prefix_len()));
         }
         self.head_for(bound, common_prefix_len)
@@ -121,7 +121,7 @@ impl<const N: usize> Node<N> {
     /// may be empty, and is where there is none.
     pub fn has_prefix_of<P: Bound>(&self, index: usize, bound: &P) -> bool
         requires headed { AreHeads (P.bytes bound.now) (key_heads_of self.now) }
-        ensures agrees { IsTrue result → HasPrefix (P.bytes bound.now) (key_heads_of self.now) (P.target bound.now) }
+        ensures has_prefix { IsTrue result → HasPrefix (P.bytes bound.now) (key_heads_of self.now) (P.target bound.now) }
     {
         if index >= self.len() || self.heads[index] == 0 {
             return false;

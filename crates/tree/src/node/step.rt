@@ -2,7 +2,7 @@
 
 ghost use Rattle.std.specs.Prelude.{◌≡◌, ◌<◌, ◌+◌, ◌-◌, length, get_or, slice_get, None, Some, IsTrue};
 ghost use Rattle.tree.specs.Finding.{CanStep, CanStepBy, IsOwnHead, IsStep};
-ghost use Rattle.tree.specs.Heads.{AreHeads, IsPrefixLenAt};
+ghost use Rattle.tree.specs.Heads.{AreHeads, IsCommonPrefixAt};
 ghost use Rattle.tree.specs.Node.{entries_of, key_heads_of};
 
 use super::Node;
@@ -22,10 +22,10 @@ pub struct Step {
 impl<const N: usize> Node<N> {
     /// Returns how many bytes the first key and the target begin with in common, or none if that key isn't below the bound.
     #[inline(always)]
-    pub fn first_prefix_len<P: Bound>(&self, bound: &P) -> Option<usize>
+    pub fn first_common_prefix_len<P: Bound>(&self, bound: &P) -> Option<usize>
         requires headed { AreHeads (P.bytes bound.now) (key_heads_of self.now) }
         requires some { 0 < length (entries_of self.now) }
-        ensures known { IsPrefixLenAt (P.bytes bound.now) (P.below bound.now) (P.target bound.now) result (entries_of self.now) 0 }
+        ensures known { IsCommonPrefixAt (P.bytes bound.now) (P.below bound.now) (P.target bound.now) result (entries_of self.now) 0 }
     {
         // Every target begins as all keys do where these have no byte in common, so that it has a head.
         if self.prefix_len == 0 {
@@ -34,7 +34,7 @@ impl<const N: usize> Node<N> {
                 return Some(same_head_bytes(self.heads[0], head));
             }
         }
-        bound.prefix_len_below(self.entries[0].key)
+        bound.common_prefix_len_below(self.entries[0].key)
     }
 
     /// Finds the last entry below the bound, or else the first one. `common_prefix_len` is how many bytes the first key and the
@@ -131,11 +131,11 @@ impl<const N: usize> Node<N> {
     ) -> usize
         requires headed { AreHeads (P.bytes bound.now) (key_heads_of self.now) }
         requires within { index < length (entries_of self.now) }
-        requires known { IsPrefixLenAt (P.bytes bound.now) (P.below bound.now) (P.target bound.now) (Some common_prefix_len)
+        requires known { IsCommonPrefixAt (P.bytes bound.now) (P.below bound.now) (P.target bound.now) (Some common_prefix_len)
             (entries_of self.now) 0 }
         requires is_below { (e : Entry) → slice_get (entries_of self.now) index ≡ Some e → IsTrue (P.below bound.now e.key) }
         requires head { IsOwnHead (P.bytes bound.now) (P.target bound.now) common_prefix_len head (key_heads_of self.now) }
-        ensures known { IsPrefixLenAt (P.bytes bound.now) (P.below bound.now) (P.target bound.now) (Some result)
+        ensures known { IsCommonPrefixAt (P.bytes bound.now) (P.below bound.now) (P.target bound.now) (Some result)
             (entries_of self.now) index }
     {
         if index == 0 {

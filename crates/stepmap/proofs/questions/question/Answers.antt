@@ -35,7 +35,7 @@ invariant_of-result c =
       nested = nested keys true begin end rises;
       single = λ yes slot. rw (is_begin, is_end) (nested_single keys range (single yes) slot);
       bytes = λ key. refl;
-      begin_alike = elim c.if-is_single.branch [
+      common_prefix = elim c.if-is_single.branch [
         | then-is_single w ↦
             rw (w.targets_prefix_len-is, is_begin, is_end) (single_alike range (single w.if-is_single.true))
         | else-is_single w ↦ rw w.targets_prefix_len-is w.common_prefix_len-targets_prefix_len.ensures.same

@@ -107,16 +107,16 @@ returns-clause-rebalanced g c height family =
     let x = first g s in
     let y = second g s in
     let P = IsMade b least height in
-    let one = made b least height x t t_is.child (omega arith) (omega (arith, shared.filled.left)) (t_is.tells height least) in
-    let other = made b least height y u u_is.child (omega arith) (omega (arith, shared.filled.right)) (u_is.tells height least) in
+    let one = made b least height x t t_is.child (omega arith) (omega (arith, common_prefix_len.filled.left)) (t_is.tells height least) in
+    let other = made b least height y u u_is.child (omega arith) (omega (arith, common_prefix_len.filled.right)) (u_is.tells height least) in
     rebalanced_by a least height i (i + 2) (es g s) (entry g s ∷ next g s ∷ []) family
     (around_two (es g s) i c.index-entries-index.result c.index-entries-index-2.result within) b _ (t ∷ u ∷ [])
     (rw c.set_with_head-2.ensures.entries at c.set_with_head-3.ensures.entries ∙ set_both (es g s) i t u within)
     (All-cons P t (u ∷ []) one (All-cons P u [] other (All-nil P)))
-    (cc (append-nil (entries_at b y), append-nil (entries_at a y), first_is g s, second_is g s, shared.entries))
-    (rw (← first_is g s, ← second_is g s, t_is.child, u_is.child) (moves_if_changes a b (x ∷ y ∷ []) (x ∷ y ∷ []) shared.changes))
+    (cc (append-nil (entries_at b y), append-nil (entries_at a y), first_is g s, second_is g s, common_prefix_len.entries))
+    (rw (← first_is g s, ← second_is g s, t_is.child, u_is.child) (moves_if_changes a b (x ∷ y ∷ []) (x ∷ y ∷ []) common_prefix_len.changes))
   where
-    open c use {args.{nodes.{now as a}, index as i}, redistribute.{new.{nodes as b}, ensures as shared}}
+    open c use {args.{nodes.{now as a}, index as i}, redistribute.{new.{nodes as b}, ensures as common_prefix_len}}
     open c use {entry_for-2.{result as t, ensures as t_is}, entry_for-3.{result as u, ensures as u_is}}
     open c use {requires.{can_merge.{within}}}
 

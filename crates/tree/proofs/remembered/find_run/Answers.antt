@@ -4,7 +4,7 @@ use Rattle.tree.specs.Finding.{CanFind}
 use Rattle.tree.specs.Heads.{HasPrefix, IsTargetHead}
 use Rattle.tree.specs.Node.{entries_of, key_heads_of}
 use Rattle.tree.proofs.Headed.{key_heads_kept}
-use Rattle.tree.proofs.NearBounds.{agrees_too, no_more}
+use Rattle.tree.proofs.NearBounds.{has_prefix_too, no_more}
 use Rattle.tree.proofs.WrittenLeaf.{none_if}
 use Rattle.tree.proofs.remembered.find_run.Goals.{then-ends_above, else-ends_above, After-head}
 use Rattle.tree.proofs.remembered.find_run.Given as given
@@ -16,7 +16,7 @@ module _ (g : given.Over) (c : After-head g) where
 
   end_head : IsTargetHead (g.Q.Bound.bytes new.to.now) (key_heads_of leaf) (g.Q.Bound.target new.to.now) c.head-end_head.result
   end_head = record {
-    agrees = c.has_prefix_of.ensures.agrees (search rules);
+    has_prefix = c.has_prefix_of.ensures.has_prefix (search rules);
     head_is = rw c.prefix_len-prefix_len.ensures.prefix_len at c.head-end_head.ensures.head;
     are_bytes = c.head-end_head.ensures.are_bytes;
   }
@@ -24,15 +24,15 @@ module _ (g : given.Over) (c : After-head g) where
   begin_agrees : HasPrefix (g.P.Bound.bytes new.from.now) (key_heads_of leaf) (g.P.Bound.target new.from.now)
   begin_agrees = elim c.if-ends_above.branch [
     | then-ends_above w ↦
-        agrees_too _ _ _ _ _ new.targets_prefix_len (Some c.head-end_head.result) (λ key. sym (new.bytes key)) end_head refl
+        has_prefix_too _ _ _ _ _ new.targets_prefix_len (Some c.head-end_head.result) (λ key. sym (new.bytes key)) end_head refl
         (omega (arith, leb-true c.prefix_len-prefix_len.result new.targets_prefix_len (cc), c.prefix_len-prefix_len.ensures.prefix_len))
-        (sym new.begin_alike)
+        (sym new.common_prefix)
     | else-ends_above w ↦ absurd (cc)
   ]
 
   begin_head : IsTargetHead (g.P.Bound.bytes new.from.now) (key_heads_of leaf) (g.P.Bound.target new.from.now) c.head.result
   begin_head = record {
-    agrees = begin_agrees;
+    has_prefix = begin_agrees;
     head_is = rw c.prefix_len-prefix_len.ensures.prefix_len at c.head.ensures.head;
     are_bytes = c.head.ensures.are_bytes;
   }

@@ -17,7 +17,7 @@ splice_apart-right-requires g c =
           same_len = can.same_len;
           headed = headed_at _ c.args.nodes.now c.args.slot node can.headed header;
           known = can.known;
-          beside = λ alike. (rw header at (can.beside alike));
+          beside = λ have_prefix. (rw header at (can.beside have_prefix));
         },
         (can.few_new, omega (arith, can.many, len)),
       ),

@@ -43,9 +43,9 @@ module _ (g : given.Over) (c : Joined-is_some g) where
       (record { text = g.Q.Bound.target new.to.now; known = second_is; are_bytes = new.to_bytes }))
 
   -- The heads are those of the new keys, where both targets begin as all keys do.
-  heads_beside : c.if-is_some.alike ≡ true → AreHeadsBeside bytes (key_heads_of can_write.leaf) (keys_of put)
+  heads_beside : c.if-is_some.have_prefix ≡ true → AreHeadsBeside bytes (key_heads_of can_write.leaf) (keys_of put)
       (take (length put) (c.unwrap_or-2.result ∷ c.unwrap_or-3.result ∷ []))
-  heads_beside alike = elim c.if-is_some.branch [
+  heads_beside have_prefix = elim c.if-is_some.branch [
     | then-is_some w ↦
         let keys = key_heads_of can_write.leaf in
         let one = key_beside bytes (g.P.Bound.bytes new.from.now) keys _ run.begin_head new.bytes
@@ -88,7 +88,7 @@ split-requires g c =
         headed = can.headed;
         known = put_known g j;
         same_len = length-take-le _ _ (few_put g j);
-        beside = λ alike. rw can.there (heads_beside g j alike);
+        beside = λ have_prefix. rw can.there (heads_beside g j have_prefix);
       },
     )
 
@@ -112,7 +112,7 @@ splice_with_heads-requires g c =
           same_len = length-take-le _ _ (few_put g j);
           headed = headed_at _ c.args.nodes.now c.args.slot _ can.headed c.header_mut.ensures.header;
           known = put_known g j;
-          beside = λ alike. rw same (heads_beside g j alike);
+          beside = λ have_prefix. rw same (heads_beside g j have_prefix);
         },
         omega (arith, len, c.if-begin-entries.false),
       ),

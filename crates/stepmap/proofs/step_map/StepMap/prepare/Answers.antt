@@ -18,47 +18,47 @@ full c =
     c.make_room.new.self _ c.make_room.ensures.map
     (ap (λ (m : Steps). record m { ready = c.clear.new.self.items }) c.self.view_is)
 
-pub returns-then-not-has_room_for-clause-same : goal.returns-then-not-has_room_for-clause-same
-returns-then-not-has_room_for-clause-same c =
-    (full (goal.at.returns-then-not-has_room_for-clause-same c).After-clear).same
+pub returns-then-not-make_room-clause-same : goal.returns-then-not-make_room-clause-same
+returns-then-not-make_room-clause-same c =
+    (full (goal.at.returns-then-not-make_room-clause-same c).After-clear).same
 
-pub returns-then-not-has_room_for-clause-newest : goal.returns-then-not-has_room_for-clause-newest
-returns-then-not-has_room_for-clause-newest c =
-    (full (goal.at.returns-then-not-has_room_for-clause-newest c).After-clear).newest
+pub returns-then-not-make_room-clause-newest : goal.returns-then-not-make_room-clause-newest
+returns-then-not-make_room-clause-newest c =
+    (full (goal.at.returns-then-not-make_room-clause-newest c).After-clear).newest
 
-pub returns-then-not-has_room_for-clause-covers : goal.returns-then-not-has_room_for-clause-covers
-returns-then-not-has_room_for-clause-covers c =
-    (full (goal.at.returns-then-not-has_room_for-clause-covers c).After-clear).covers
+pub returns-then-not-make_room-clause-covers : goal.returns-then-not-make_room-clause-covers
+returns-then-not-make_room-clause-covers c =
+    (full (goal.at.returns-then-not-make_room-clause-covers c).After-clear).covers
 
-pub returns-then-not-has_room_for-clause-rooted : goal.returns-then-not-has_room_for-clause-rooted
-returns-then-not-has_room_for-clause-rooted c =
-    (full (goal.at.returns-then-not-has_room_for-clause-rooted c).After-clear).rooted
+pub returns-then-not-make_room-clause-rooted : goal.returns-then-not-make_room-clause-rooted
+returns-then-not-make_room-clause-rooted c =
+    (full (goal.at.returns-then-not-make_room-clause-rooted c).After-clear).rooted
 
-pub returns-then-not-has_room_for-clause-edge : goal.returns-then-not-has_room_for-clause-edge
-returns-then-not-has_room_for-clause-edge c =
-    (full (goal.at.returns-then-not-has_room_for-clause-edge c).After-clear).edge
+pub returns-then-not-make_room-clause-edge : goal.returns-then-not-make_room-clause-edge
+returns-then-not-make_room-clause-edge c =
+    (full (goal.at.returns-then-not-make_room-clause-edge c).After-clear).edge
 
-pub returns-then-not-has_room_for-clause-limit : goal.returns-then-not-has_room_for-clause-limit
-returns-then-not-has_room_for-clause-limit c =
-    (full (goal.at.returns-then-not-has_room_for-clause-limit c).After-clear).limit
+pub returns-then-not-make_room-clause-limit : goal.returns-then-not-make_room-clause-limit
+returns-then-not-make_room-clause-limit c =
+    (full (goal.at.returns-then-not-make_room-clause-limit c).After-clear).limit
 
-pub returns-then-not-has_room_for-clause-untouched : goal.returns-then-not-has_room_for-clause-untouched
-returns-then-not-has_room_for-clause-untouched c =
-    (full (goal.at.returns-then-not-has_room_for-clause-untouched c).After-clear).untouched
+pub returns-then-not-make_room-clause-untouched : goal.returns-then-not-make_room-clause-untouched
+returns-then-not-make_room-clause-untouched c =
+    (full (goal.at.returns-then-not-make_room-clause-untouched c).After-clear).untouched
 
-pub returns-then-not-has_room_for-clause-front : goal.returns-then-not-has_room_for-clause-front
-returns-then-not-has_room_for-clause-front c =
-    (full (goal.at.returns-then-not-has_room_for-clause-front c).After-clear).front
+pub returns-then-not-make_room-clause-front : goal.returns-then-not-make_room-clause-front
+returns-then-not-make_room-clause-front c =
+    (full (goal.at.returns-then-not-make_room-clause-front c).After-clear).front
 
-pub returns-then-not-has_room_for-clause-ends : goal.returns-then-not-has_room_for-clause-ends
-returns-then-not-has_room_for-clause-ends c =
-    (full (goal.at.returns-then-not-has_room_for-clause-ends c).After-clear).ends
+pub returns-then-not-make_room-clause-ends : goal.returns-then-not-make_room-clause-ends
+returns-then-not-make_room-clause-ends c =
+    (full (goal.at.returns-then-not-make_room-clause-ends c).After-clear).ends
 
-pub returns-then-not-has_room_for-clause-bound : goal.returns-then-not-has_room_for-clause-bound
-returns-then-not-has_room_for-clause-bound c =
+pub returns-then-not-make_room-clause-bound : goal.returns-then-not-make_room-clause-bound
+returns-then-not-make_room-clause-bound c =
     let old = c.args.self.now in
     let n = length c.args.lengths.now in
-    let test = sym c.has_room_for.ensures.room ∙ c.if-not-has_room_for.true in
+    let test = sym c.make_room.ensures.room ∙ c.if-not-make_room.true in
     let none : ¬ HasRoomFor n (made_room n old) =
     subst (λ (m : Steps). ¬ HasRoomFor n m) c.make_room.ensures.map
     (no_room_if n c.make_room.new.self test) in

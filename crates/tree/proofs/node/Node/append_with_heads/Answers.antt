@@ -20,16 +20,16 @@ lengthen_prefix-requires g c =
     let bytes = g.P.Bound.bytes c.args.bound.now in
     let get : slice_get es 0 ≡ Some first = sym {b = slice_get es 0} c.in-Some.ensures.value in
     let there = keys_there es 0 first (slice_get_within es 0 first get) (get_or_from_slice_get es 0 first first get) in
-    let alike : (one.prefix_len ≡ other.prefix_len)
+    let have_prefix : (one.prefix_len ≡ other.prefix_len)
     × ((text : List ℕ) → bytes first.key ≡ Some text → HasPrefix bytes (key_heads_of one) text) =
     elim c.if-self-other.branch [
-      | goal.then-self-other w ↦ (w.if-self-other.true, w.begins-alike.ensures.agrees (sym w.alike-is ∙ c.if-not-alike.false))
+      | goal.then-self-other w ↦ (w.if-self-other.true, w.begins-have_prefix.ensures.has_prefix (sym w.have_prefix-is ∙ c.if-not-have_prefix.false))
       | goal.else-self-other w ↦
-          absurd (w.if-self-other.false (eqb-true one.prefix_len other.prefix_len (sym w.alike-is ∙ c.if-not-alike.false)))
+          absurd (w.if-self-other.false (eqb-true one.prefix_len other.prefix_len (sym w.have_prefix-is ∙ c.if-not-have_prefix.false)))
     ] in
     let keys = rw c.entries-2.ensures.entries at c.append.ensures.entries in
     let joined = headed_joined bytes (key_heads_of one) (key_heads_of other) c.requires.headed c.requires.other_headed first.key
-    alike.0 (rw c.entries.ensures.entries at there) alike.1 _ (simp map-append at (ap keys_of keys)) heads.prefix_len
+    have_prefix.0 (rw c.entries.ensures.entries at there) have_prefix.1 _ (simp map-append at (ap keys_of keys)) heads.prefix_len
     (rw c.heads.ensures.heads at heads.heads_are) in
     (search rules, joined)
   where

@@ -10,7 +10,7 @@ returns-in-Some g c =
     let common = c.common_prefix_len.ensures in
     let get : slice_get es (length es - 1) ≡ Some last = cc (c.entries.ensures.entries, c.in-Some.ensures.value) in
     record {
-      agrees = λ enough.
+      has_prefix = λ enough.
           let least = leb-true c.prefix_len.result c.common_prefix_len.result enough in
           common_agrees (g.P.Bound.bytes c.args.bound.now) (key_heads_of c.args.self.now) c.requires.headed last.key c.args.key
           c.common_prefix_len.result (last_there es last get) (omega (arith, least)) common.same common.within;

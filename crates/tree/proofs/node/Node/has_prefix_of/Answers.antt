@@ -5,7 +5,7 @@ use Rattle.tree.proofs.node.Node.has_prefix_of.Goals as goal
 
 pub returns : goal.returns
 returns g c = record {
-  agrees = λ enough.
+  has_prefix = λ enough.
       let node = c.args.self.now in
       let es = entries_of node in
       let i = c.args.index in

@@ -29,7 +29,7 @@ module _ (g : given.Over) (c : After-redistribute g) where
       (All-front P left.keys right.keys all, All-back P left.keys right.keys all)
 
   -- both have right heads where all keys begin alike
-  both_headed : c.if-self-right.alike ≡ true → AreHeads bytes left × AreHeads bytes right
+  both_headed : c.if-self-right.have_prefix ≡ true → AreHeads bytes left × AreHeads bytes right
   both_headed is_alike =
       let one = c.args.self.now in
       let other = c.args.right.now in
@@ -40,9 +40,9 @@ module _ (g : given.Over) (c : After-redistribute g) where
       × ((text : List ℕ) → bytes first.key ≡ Some text → HasPrefix bytes (key_heads_of one) text) =
       elim c.if-self-right.branch [
         | then-self-right w ↦
-            (w.if-self-right.true, rw (← c.index-right-0.is) at (w.begins-alike.ensures.agrees (sym w.alike-is ∙ is_alike)))
+            (w.if-self-right.true, rw (← c.index-right-0.is) at (w.begins-have_prefix.ensures.has_prefix (sym w.have_prefix-is ∙ is_alike)))
         | else-self-right w ↦
-            absurd (w.if-self-right.false (eqb-true one.prefix_len other.prefix_len (sym w.alike-is ∙ is_alike)))
+            absurd (w.if-self-right.false (eqb-true one.prefix_len other.prefix_len (sym w.have_prefix-is ∙ is_alike)))
       ] in
       let are = c.redistribute.ensures.heads in
       headed_shared bytes (key_heads_of one) (key_heads_of other) c.requires.headed.left c.requires.headed.right first.key begin.0
@@ -54,14 +54,14 @@ module _ (g : given.Over) (c : After-redistribute g) where
 pub compute_heads-requires : goal.compute_heads-requires
 compute_heads-requires g c = (search rules, (known g (goal.at.compute_heads-requires g c).After-redistribute).0)
 
-pub compute_heads-requires-then-not-alike : goal.compute_heads-requires-then-not-alike
-compute_heads-requires-then-not-alike g c =
-    (search rules, (known g (goal.at.compute_heads-requires-then-not-alike g c).After-redistribute).1)
+pub compute_heads-requires-then-not-have_prefix : goal.compute_heads-requires-then-not-have_prefix
+compute_heads-requires-then-not-have_prefix g c =
+    (search rules, (known g (goal.at.compute_heads-requires-then-not-have_prefix g c).After-redistribute).1)
 
 pub lengthen_prefix-requires : goal.lengthen_prefix-requires
 lengthen_prefix-requires g c =
-    (search rules, (both_headed g (goal.at.lengthen_prefix-requires g c).After-redistribute c.if-not-alike.false).0)
+    (search rules, (both_headed g (goal.at.lengthen_prefix-requires g c).After-redistribute c.if-not-have_prefix.false).0)
 
 pub lengthen_prefix-requires-2 : goal.lengthen_prefix-requires-2
 lengthen_prefix-requires-2 g c =
-    (search rules, (both_headed g (goal.at.lengthen_prefix-requires-2 g c).After-redistribute c.if-not-alike.false).1)
+    (search rules, (both_headed g (goal.at.lengthen_prefix-requires-2 g c).After-redistribute c.if-not-have_prefix.false).1)

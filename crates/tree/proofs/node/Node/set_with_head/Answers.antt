@@ -30,7 +30,7 @@ returns-clause-headed g c =
     let prefix_len : new.prefix_len ≡ old.prefix_len = ap (λ (h : KeyHeads). h.prefix_len) kept in
     let known = head_known bytes c.prefix_len.result key head c.requires.known c.head_of.ensures.head in
     headed_set bytes (key_heads_of old) c.requires.headed _ i key head c.requires.known
-    (λ text known. inr (c.begins-begins.ensures.agrees c.if-not-begins.false text known))
+    (λ text known. inr (c.begins-begins.ensures.has_prefix c.if-not-begins.false text known))
     (rw (c.prefix_len.ensures.prefix_len, prefix_len) at known) (simp map-set at (ap keys_of c.set-2.ensures.entries)) prefix_len
     (take-set-lt new.len new.heads i head inside ∙ ap (λ (h : KeyHeads). slice_set h.heads i head) kept)
   where

@@ -52,13 +52,13 @@ module _ (g : given.Over) (c : After-redistribute g) where
       ∙ map_spliced (λ (e : Entry). e.key) (entries_of c.args.self.now) c.args.new.now _ c.args.from c.args.to both.entries
 
   -- the heads of both are right where the new keys begin as all others do
-  both_headed : c.args.alike ≡ true → AreHeads bytes left × AreHeads bytes right
-  both_headed alike =
+  both_headed : c.args.have_prefix ≡ true → AreHeads bytes left × AreHeads bytes right
+  both_headed have_prefix =
       let can = c.requires.can_splice in
       let all : KeyHeads =
       record { keys = left.keys ++ right.keys; prefix_len = node.prefix_len; heads = left.heads ++ right.heads } in
       let headed = headed_spliced bytes node can.headed all (keys_of c.args.new.now) c.args.heads.now c.args.from c.args.to
-      can.known (can.beside alike) keys refl both.heads in
+      can.known (can.beside have_prefix) keys refl both.heads in
       let size = length-map (entries_of c.redistribute.new.self) (λ (e : Entry). e.key) in
       let count = c.redistribute.ensures.heads.count ∙ sym size in
       headed_apart bytes all left right headed refl refl count both.prefix_len both.right_prefix_len
@@ -72,15 +72,15 @@ module _ (g : given.Over) (c : After-redistribute g) where
 
 pub lengthen_prefix-requires : goal.lengthen_prefix-requires
 lengthen_prefix-requires g c =
-    (search rules, (both_headed g (goal.at.lengthen_prefix-requires g c).After-redistribute c.if-alike.true).0)
+    (search rules, (both_headed g (goal.at.lengthen_prefix-requires g c).After-redistribute c.if-have_prefix.true).0)
 
-pub lengthen_prefix-requires-then-alike : goal.lengthen_prefix-requires-then-alike
-lengthen_prefix-requires-then-alike g c =
-    (search rules, (both_headed g (goal.at.lengthen_prefix-requires-then-alike g c).After-redistribute c.if-alike.true).1)
+pub lengthen_prefix-requires-then-have_prefix : goal.lengthen_prefix-requires-then-have_prefix
+lengthen_prefix-requires-then-have_prefix g c =
+    (search rules, (both_headed g (goal.at.lengthen_prefix-requires-then-have_prefix g c).After-redistribute c.if-have_prefix.true).1)
 
 pub compute_heads-requires : goal.compute_heads-requires
 compute_heads-requires g c = (search rules, (known g (goal.at.compute_heads-requires g c).After-redistribute).0)
 
-pub compute_heads-requires-else-alike : goal.compute_heads-requires-else-alike
-compute_heads-requires-else-alike g c =
-    (search rules, (known g (goal.at.compute_heads-requires-else-alike g c).After-redistribute).1)
+pub compute_heads-requires-else-have_prefix : goal.compute_heads-requires-else-have_prefix
+compute_heads-requires-else-have_prefix g c =
+    (search rules, (known g (goal.at.compute_heads-requires-else-have_prefix g c).After-redistribute).1)

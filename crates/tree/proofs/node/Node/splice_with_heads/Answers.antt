@@ -10,10 +10,10 @@ compute_heads-requires g c =
     let keys = map_spliced (λ (e : Entry). e.key) (entries_of old) _ _ c.args.from c.args.to c.splice.ensures.entries in
     (search rules, known_spliced _ (key_heads_of old) can.headed (keys_of c.args.new.now) _ c.args.from c.args.to can.known keys)
 
-pub returns-else-not-alike-clause-headed : goal.returns-else-not-alike-clause-headed
-returns-else-not-alike-clause-headed g c =
+pub returns-else-not-have_prefix-clause-headed : goal.returns-else-not-have_prefix-clause-headed
+returns-else-not-have_prefix-clause-headed g c =
     let can = c.requires.can_splice in
     let old = c.args.self.now in
     let keys = map_spliced (λ (e : Entry). e.key) (entries_of old) _ _ c.args.from c.args.to c.splice.ensures.entries in
     headed_spliced _ (key_heads_of old) can.headed _ _ c.args.heads.now c.args.from c.args.to can.known
-    (can.beside c.if-not-alike.false) keys c.splice.ensures.heads.prefix_len c.splice.ensures.heads.heads_are
+    (can.beside c.if-not-have_prefix.false) keys c.splice.ensures.heads.prefix_len c.splice.ensures.heads.heads_are

@@ -11,13 +11,13 @@ pub returns : goal.returns
 returns c =
     let a_is : c.from.result * 4294967296 % 18446744073709551616 ≡ a * 4294967296 = omega (arith, c.from.ensures, c.ranges.a) in
     let b_is : c.from-2.result * 4294967296 % 18446744073709551616 ≡ b * 4294967296 = omega (arith, c.from-2.ensures, c.ranges.b) in
-    let alike : take r (to_be_bytes w64 (a * 4294967296)) ≡ take r (to_be_bytes w64 (b * 4294967296)) =
+    let have_prefix : take r (to_be_bytes w64 (a * 4294967296)) ≡ take r (to_be_bytes w64 (b * 4294967296)) =
     rw (a_is, b_is) at c.same_bytes.ensures.same in
     let few : m ≤ 4 = omega (arith, c.min.ensures) in
     let first = λ (h : ℕ). ap (take m) (raised h) ∙ take-take m 4 (to_be_bytes w64 (h * 4294967296)) few in
     record {
       within = few;
-      same = first a ∙ take_fewer m r _ _ (omega (arith, c.min.ensures)) alike ∙ sym (first b);
+      same = first a ∙ take_fewer m r _ _ (omega (arith, c.min.ensures)) have_prefix ∙ sym (first b);
       differ = λ less e.
           let all : m ≡ r = omega (arith, c.min.ensures, less) in
           let at = λ (h : ℕ). ap (λ (l : List ℕ). get_or l m 0) (raised h)

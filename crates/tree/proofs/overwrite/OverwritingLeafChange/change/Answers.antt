@@ -19,7 +19,7 @@ use Rattle.tree.proofs.callers.Partitions.{not_both, not_true}
 use Rattle.tree.proofs.ChangedLeaf.{leaf_can_find, leaf_can_step, leaf_changed, leaf_stored}
 use Rattle.tree.proofs.Headed.{headed_at, key_heads_kept}
 use Rattle.tree.proofs.LeafChange.{parted}
-use Rattle.tree.proofs.NearBounds.{begin_alike, agrees_too, no_more, fewer_alike, same_head}
+use Rattle.tree.proofs.NearBounds.{common_prefix_near, has_prefix_too, no_more, fewer_alike, same_head}
 use Rattle.tree.proofs.Placing.{entries_from_header, put_entries}
 use Rattle.tree.proofs.RunWritten.{taken_out, whole_run}
 use Rattle.tree.proofs.WrittenLeaf.{none_if, some_item, part_partitioned, items_parted, last_version, raised, ended_in_leaf, ended_behind}
@@ -40,18 +40,18 @@ from_known g c =
 pub head_for-to_head-requires : goal.head_for-to_head-requires
 head_for-to_head-requires g c =
     let known = leaf_can_step c.requires.can_change c.header_ref-leaf.ensures.header in
-    let begins = begin_alike _ _ _ _ _ _ c.args.place.common_prefix_len c.unwrap_or-alike.result known.known
-    (omega (arith, c.unwrap_or-alike.ensures)) refl (λ key. refl) in
+    let begins = common_prefix_near _ _ _ _ _ _ c.args.place.common_prefix_len c.unwrap_or-common_prefix_len.result known.known
+    (omega (arith, c.unwrap_or-common_prefix_len.ensures)) refl (λ key. refl) in
     (omega (arith, c.requires.can_change.changeable.few), (known.can_find.headed, (known.can_find.some, begins)))
 
 pub lower_bound_with-end-requires : goal.lower_bound_with-end-requires
 lower_bound_with-end-requires g c =
     let known = leaf_can_step c.requires.can_change c.header_ref-leaf.ensures.header in
-    let own = rw c.unwrap_or-alike.ensures at c.head_for-to_head.ensures.head in
+    let own = rw c.unwrap_or-common_prefix_len.ensures at c.head_for-to_head.ensures.head in
     (omega (arith, c.requires.can_change.changeable.few), record { can_step = known; head = own })
 
 -- The target of the first bound begins as all keys do, where that is told.
-told_alike : (g : given.Over) (c : Joined-is_some g) → c.if-is_some.begin_alike ≡ true
+told_alike : (g : given.Over) (c : Joined-is_some g) → c.if-is_some.from_has_prefix ≡ true
     → HasPrefix (g.P.Bound.bytes c.args.self.now.new.now.from.now) (key_heads_of c.header_ref-leaf.result.now)
     (g.P.Bound.target c.args.self.now.new.now.from.now)
 told_alike g c said =
@@ -59,8 +59,8 @@ told_alike g c said =
     elim c.if-is_some.branch [
       | then-is_some w ↦
           let least = leb-true w.prefix_len.result new.targets_prefix_len (cc) in
-          agrees_too _ _ _ _ _ new.targets_prefix_len c.head_for-to_head.result (λ key. sym (new.bytes key))
-          c.head_for-to_head.ensures.head.head (cc) (omega (arith, least, w.prefix_len.ensures.prefix_len)) (sym new.begin_alike)
+          has_prefix_too _ _ _ _ _ new.targets_prefix_len c.head_for-to_head.result (λ key. sym (new.bytes key))
+          c.head_for-to_head.ensures.head.head (cc) (omega (arith, least, w.prefix_len.ensures.prefix_len)) (sym new.common_prefix)
       | else-is_some w ↦ absurd (cc)
     ]
 
@@ -70,9 +70,9 @@ head_given-head-requires g c =
     let from = from_known g at.After-header_ref-leaf in
     let known = leaf_can_step c.requires.can_change c.header_ref-leaf.ensures.header in
     let new = c.args.self.now.new.now in
-    let alike = fewer_alike c.min.result new.targets_prefix_len _ _ (omega (arith, c.min.ensures)) new.begin_alike in
-    let begins = begin_alike _ _ _ _ _ _ c.args.place.common_prefix_len c.min.result known.known
-    (omega (arith, c.min.ensures, c.unwrap_or-alike.ensures)) alike new.bytes in
+    let alike = fewer_alike c.min.result new.targets_prefix_len _ _ (omega (arith, c.min.ensures)) new.common_prefix in
+    let begins = common_prefix_near _ _ _ _ _ _ c.args.place.common_prefix_len c.min.result known.known
+    (omega (arith, c.min.ensures, c.unwrap_or-common_prefix_len.ensures)) alike new.bytes in
     (omega (arith, c.requires.can_change.changeable.few), (from.headed, (from.some, (told_alike g at.Joined-is_some, begins))))
 
 pub lower_bound_back-begin-requires : goal.lower_bound_back-begin-requires

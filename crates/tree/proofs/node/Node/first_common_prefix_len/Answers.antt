@@ -1,7 +1,7 @@
 use Rattle.std.proofs.Common.{◌≡◌, ◌<◌, ◌+◌, inl, get_or, get_or-take, refl, arith, length-take, lt-ltb}
 use Rattle.tree.proofs.Words.{IsTargetHead, entries_of, key_heads_of}
 use Rattle.tree.proofs.HeadAt.{agrees_at, key_there, common_at, less_passes}
-use Rattle.tree.proofs.node.Node.first_prefix_len.Goals as goal
+use Rattle.tree.proofs.node.Node.first_common_prefix_len.Goals as goal
 
 pub returns-then-self-head : goal.returns-then-self-head
 returns-then-self-head g c = record {
@@ -10,7 +10,7 @@ returns-then-self-head g c = record {
       let none : node.prefix_len ≡ 0 = c.if-self-eq0.true in
       let at = key_there (entries_of node) 0 e there in
       let is : IsTargetHead _ (key_heads_of node) (g.P.Bound.target c.args.bound.now) head = record {
-        agrees = agrees_at _ _ h 0 e.key _ at (inl none) (λ text known long. rw none refl);
+        has_prefix = agrees_at _ _ h 0 e.key _ at (inl none) (λ text known long. rw none refl);
         head_is = rw none c.head-head.ensures.head;
         are_bytes = c.head-head.ensures.are_bytes;
       } in
