@@ -91,7 +91,8 @@ impl<const N: usize> Boundaries<N> {
             key,
             up_to: true,
         };
-        self.tree.last(&bound).unwrap().version
+        let (last, _) = self.tree.last_and_next(&bound);
+        last.unwrap().version
     }
 
     // Returns the greatest version at a key of the range, which isn't empty.

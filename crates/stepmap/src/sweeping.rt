@@ -59,10 +59,9 @@ impl<const N: usize> Boundaries<N> {
             key: cursor,
             up_to: cursor.is_empty(),
         };
-        let last = self.tree.last(&passed).unwrap();
-        let next = self.tree.key_behind(&passed);
+        let (last, next) = self.tree.last_and_next(&passed);
         move_to(&self.keys, cursor, next);
-        last.version
+        last.unwrap().version
     }
 
     // Looks at some boundaries from the one at the cursor on, at most `count`, and takes out each whose version and

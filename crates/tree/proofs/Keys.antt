@@ -30,14 +30,6 @@ behind-parts is_below a c b p f =
     let m = (none_pass (λ (x : Item). is_below x.key) b f).1 in
     simp (filter-append, n, m)
 
--- at a leaf
-pub key_of_leaf : {N : ℕ} (nodes : Arena (Node N)) (height slot : ℕ) (is_below : ℕ → Bool) (header : Node N)
-    (es rest : List Entry) (key : Option ℕ) → height ≡ 0 → header_at nodes slot ≡ Some header
-    → es ≡ entries_of header → rest ≡ filter (λ e. not (is_below e.key)) es
-    → first_key key (map item_of rest) ≡ first_key key (behind is_below (items_in nodes height slot))
-key_of_leaf nodes height slot is_below header es rest key z h e r =
-    rw (z, entries_read nodes slot header es h e, filter-items (λ (x : Item). not (is_below x.key)) es, r) refl
-
 -- At the entry behind the child that the bound finds, the next key is that of the entries behind it, or else the key given.
 module _ {N : ℕ} (nodes : Arena (Node N)) (least height slot : ℕ) (is_below : ℕ → Bool) (child : ℕ)
     (f : IsFound nodes least height slot is_below child) (header : Node N) (es : List Entry) (index : ℕ) (key next : Option ℕ)
@@ -59,16 +51,6 @@ module _ {N : ℕ} (nodes : Arena (Node N)) (least height slot : ℕ) (is_below 
       let tell = All-drop (λ e. Tells e (items_in nodes (height - 1) e.child)) from all f.way.tell in
       let same = first_key-children (λ e. items_in nodes (height - 1) e.child) key (drop from all) tell in
       cc (n, i, entries_read nodes slot header es h e, same)
-
-  -- above the leaves: of the child, or else that of the next entry
-  pub key_of_child : first_key next (behind is_below (items_in nodes (height - 1) child))
-      ≡ first_key key (behind is_below (items_in nodes height slot))
-  key_of_child =
-      let a = below (take (index_in is_below all) all) in
-      let c = items_in nodes (height - 1) child in
-      let items : items_in nodes height slot ≡ a ++ (c ++ later) =
-      ap (λ n. items_in nodes n slot) (sym f.lower) ∙ (rw (← f.is) at f.way.items) in
-      rw (items, behind-parts is_below a c later f.way.before f.way.behind, first_key-append, key_of_next) refl
 
   -- behind the leaf, above it: of the child, or else that of the next entry
   pub key_behind_child : first_key next (behind_leaf nodes (height - 1) child is_below)

@@ -1,5 +1,5 @@
 -- The search for the leaf of a tree where a bound goes through its items. This project's own.
-use Rattle.std.specs.Prelude.{◌≡◌, ◌≤◌, ◌++◌, true, false, ℕ, Bool, List, [], filter, length, map}
+use Rattle.std.specs.Prelude.{◌≡◌, ◌≤◌, ◌++◌, true, false, ℕ, Bool, List, [], filter, length, map, None}
 use Rattle.std.specs.List.{All}
 use Rattle.arena.specs.Arena.{Arena, IsLive}
 use Rattle.tree.specs.declared.descent.Reached.{Reached}
@@ -7,7 +7,7 @@ use Rattle.tree.specs.declared.node.Node.{Node}
 use Rattle.tree.specs.Heads.{AllAreHeads, KeyBytes, IsCommonPrefixAt}
 use Rattle.tree.specs.Item.{item_of}
 use Rattle.tree.specs.Node.{all_heads_of}
-use Rattle.tree.specs.Path.{IsPartitioned, before_leaf, behind_leaf}
+use Rattle.tree.specs.Path.{IsPartitioned, before_leaf, behind_leaf, first_key}
 use Rattle.tree.specs.Subtree.{entries_at, items_in, IsSubtree}
 
 module _ {N : ℕ} where
@@ -31,3 +31,4 @@ module _ {N : ℕ} where
     pub partitioned : IsPartitioned (λ e. is_below e.key) (entries_at nodes reached.leaf)
     pub some : 1 ≤ length (entries_at nodes reached.leaf)
     pub knows : IsCommonPrefixAt bytes is_below target reached.common_prefix_len (entries_at nodes reached.leaf) 0
+    pub next : reached.behind ≡ first_key None (behind_leaf nodes height slot is_below)

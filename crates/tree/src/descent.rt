@@ -7,10 +7,11 @@ ghost use Rattle.tree.specs.Node.{all_heads_of};
 ghost use Rattle.tree.specs.Reached.{CanReach};
 ghost use Rattle.tree.specs.Subtree.{entries_at};
 ghost use Rattle.tree.specs.Tree.{least_of};
-ghost use Rattle.tree.specs.Path.{leaf_in};
+ghost use Rattle.tree.specs.Path.{leaf_in, behind_leaf, first_key};
 
 use crate::bound::Bound;
 use crate::node::Node;
+use crate::search::key_at;
 use arena::{Arena, Slot};
 
 /// Where a search has come to.
@@ -19,6 +20,8 @@ pub struct Reached {
     pub leaf: Slot,
     /// How many bytes the first key of the leaf and the target begin with in common, or none if that key isn't below the bound.
     pub common_prefix_len: Option<usize>,
+    /// The key of the first item behind the leaf.
+    pub behind: Option<Slot>,
 }
 
 /// Returns how many bytes the first key of a node and the target begin with in common, or none if that key isn't below the bound.
@@ -37,13 +40,15 @@ pub fn common_prefix_len_at<P: Bound, const N: usize>(
 }
 
 /// Finds the leaf that has the last item below the bound, or else the first leaf. `common_prefix_len` is how many bytes the first
-/// key of the subtree and the target begin with in common, or none if that key isn't below the bound.
+/// key of the subtree and the target begin with in common, or none if that key isn't below the bound. `behind` is the key of the
+/// first item behind the subtree.
 pub fn find<P: Bound, const N: usize>(
     nodes: &Arena<Node<N>>,
     slot: Slot,
     height: usize,
     bound: &P,
     common_prefix_len: Option<usize>,
+    behind: Option<Slot>,
 ) -> Reached
     requires can_reach { CanReach (P.bytes bound.now) (P.below bound.now) nodes.now (least_of N) height slot }
     requires known { IsCommonPrefixAt (P.bytes bound.now) (P.below bound.now) (P.target bound.now) common_prefix_len (entries_at nodes.now slot) 0 }
@@ -51,21 +56,26 @@ pub fn find<P: Bound, const N: usize>(
     ensures known { IsCommonPrefixAt (P.bytes bound.now) (P.below bound.now) (P.target bound.now) result.common_prefix_len
         (entries_at nodes.now result.leaf) 0 }
     ensures some { 1 ≤ length (entries_at nodes.now result.leaf) }
+    ensures behind { result.behind ≡ first_key behind (behind_leaf nodes.now height slot (P.below bound.now)) }
 {
     if height == 0 {
         return Reached {
             leaf: slot,
             common_prefix_len,
+            behind,
         };
     }
     let node = nodes.header_ref(slot);
+    let entries = node.entries();
     let step = node.step(bound, common_prefix_len);
-    let child = node.entries()[step.index].child;
+    let next = key_at(entries, step.index + 1, behind);
+    let child = entries[step.index].child;
     find(
         nodes,
         child,
         height - 1,
         bound,
         step.common_prefix_len,
+        next,
     )
 }

@@ -16,7 +16,7 @@ use crate::approach::{Approach, Near, descend_from, end_head};
 use crate::bound::Bound;
 use crate::node::Node;
 use crate::question::{Question, SIDE};
-use crate::root::{Root, last};
+use crate::root::{Root, last_and_next};
 use crate::search::greatest;
 use crate::span::any_above;
 use arena::Arena;
@@ -139,7 +139,7 @@ fn exceeds<P: Bound, Q: Bound, const N: usize>(
     let Root { slot, height } = root;
     let version = question.version;
     let from = &question.from;
-    if last(nodes, root, from).unwrap().version > version {
+    if last_and_next(nodes, root, from).0.unwrap().version > version {
         return true;
     }
     let to = &question.to;

@@ -7,7 +7,7 @@ ghost use Rattle.tree.specs.Overwrite.{GivesWritten, IsPartOfPartitioned};
 ghost use Rattle.tree.specs.Rebalancing.{CanGrow, CanShrink};
 ghost use Rattle.tree.specs.Node.{all_heads_of};
 ghost use Rattle.tree.specs.Subtree.{items_in};
-ghost use Rattle.tree.specs.Path.{items_below};
+ghost use Rattle.tree.specs.Path.{items_below, behind, first_key};
 ghost use Rattle.tree.specs.Reached.{CanReach, IsReached};
 ghost use Rattle.tree.specs.Replace.{items_with};
 ghost use Rattle.tree.specs.Tree.{least_of, IsLast};
@@ -21,6 +21,7 @@ use crate::overwrite::{Overwrite, Overwriting, Written};
 use crate::rebalance::entry_for;
 use crate::remembered::write_in_leaf;
 use crate::replace::place;
+use crate::search::key_at;
 use crate::walk::{LeafChange, Outcome, Place, RaisedLeaf, change_leaf};
 use crate::way::Way;
 use arena::{Arena, Slot};
@@ -46,23 +47,29 @@ pub fn reach<P: Bound, const N: usize>(nodes: &Arena<Node<N>>, root: Root, bound
         root.height,
         bound,
         common_prefix_len,
+        None,
     )
 }
 
-/// Returns the last item below the bound.
-pub fn last<P: Bound, const N: usize>(
+/// Returns the last item below the bound, and the key of the first one that isn't.
+pub fn last_and_next<P: Bound, const N: usize>(
     nodes: &Arena<Node<N>>,
     root: Root,
     bound: &P,
-) -> Option<Entry>
+) -> (Option<Entry>, Option<Slot>)
     requires can_reach { CanReach (P.bytes bound.now) (P.below bound.now) nodes.now (least_of N) root.height root.slot }
-    ensures last { MatchOption result (items_below (P.below bound.now) (items_in nodes.now root.height root.slot) ≡ [])
+    ensures last { MatchOption result.0 (items_below (P.below bound.now) (items_in nodes.now root.height root.slot) ≡ [])
         (λ e. IsLast (item_of e) (items_below (P.below bound.now) (items_in nodes.now root.height root.slot))) }
+    ensures next { result.1 ≡ first_key None (behind (P.below bound.now) (items_in nodes.now root.height root.slot)) }
 {
     let reached = reach(nodes, root, bound);
     let leaf = nodes.header_ref(reached.leaf);
     let count = leaf.lower_bound(bound, reached.common_prefix_len);
-    leaf.entries()[..count].last().copied()
+    let entries = leaf.entries();
+    (
+        entries[..count].last().copied(),
+        key_at(entries, count, reached.behind),
+    )
 }
 
 /// Changes a leaf of a tree, and puts the entries that are taken out into `taken`. A root that is split gets one above

@@ -23,37 +23,6 @@ pub fn lower_bound<P: Bound>(entries: &[Entry], bound: &P) -> usize
     entries.partition_point(|entry| bound.is_below(entry.key))
 }
 
-/// Returns the index of the last entry below the bound, or else that of the first one.
-pub fn index_of<P: Bound>(entries: &[Entry], bound: &P) -> usize
-    requires partitioned { IsPartitioned (λ e. P.below bound.now e.key) entries.now }
-    requires some { 0 < length entries.now }
-    ensures index { result ≡ index_in (P.below bound.now) entries.now }
-    ensures within { result < length entries.now }
-{
-    lower_bound(entries, bound).saturating_sub(1)
-}
-
-/// Returns the key of the first item that isn't below the bound, or `behind` if all of them are.
-pub fn key_behind<P: Bound, const N: usize>(
-    nodes: &Arena<Node<N>>,
-    slot: Slot,
-    height: usize,
-    bound: &P,
-    behind: Option<Slot>,
-) -> Option<Slot>
-    requires subtree { IsSubtree nodes.now (least_of N) height slot }
-    requires partitioned { IsPartitioned (λ x. P.below bound.now x.key) (items_in nodes.now height slot) }
-    ensures key { result ≡ first_key behind (behind_partitioned (P.below bound.now) (items_in nodes.now height slot)) }
-{
-    let entries = nodes.header_ref(slot).entries();
-    if height == 0 {
-        return key_at(entries, lower_bound(entries, bound), behind);
-    }
-    let index = index_of(entries, bound);
-    let next = key_at(entries, index + 1, behind);
-    key_behind(nodes, entries[index].child, height - 1, bound, next)
-}
-
 /// Returns the key of the entry at an index, or `behind` if there is none.
 pub fn key_at(entries: &[Entry], index: usize, behind: Option<Slot>) -> Option<Slot>
     ensures key { result ≡ first_key behind (map item_of (drop index entries.now)) }

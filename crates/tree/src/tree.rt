@@ -19,8 +19,8 @@ use crate::overwrite::{Overwrite, Written};
 use crate::question::{Question, SIDE};
 use crate::questions::{answer_each, descend_each, look_at_each};
 use crate::rebalance::least;
-use crate::root::{Root, change, last, overwrite};
-use crate::search::{greatest, key_behind};
+use crate::root::{Root, change, last_and_next, overwrite};
+use crate::search::greatest;
 use crate::walk::RaisedLeaf;
 use crate::way::Way;
 use arena::{Arena, ArenaError, Slot};
@@ -129,22 +129,15 @@ impl<const N: usize> Tree<N> {
         self.len
     }
 
-    /// Returns the last item below the bound.
-    pub fn last<P: Bound>(&self, bound: &P) -> Option<Entry>
+    /// Returns the last item below the bound, and the key of the first one that isn't.
+    pub fn last_and_next<P: Bound>(&self, bound: &P) -> (Option<Entry>, Option<Slot>)
         requires partitioned { IsPartitioned (λ x. P.below bound.now x.key) self.now.items }
         requires headed { AllAreHeads (P.bytes bound.now) (tree_heads self.now) }
-        ensures last { MatchOption result (items_below (P.below bound.now) self.now.items ≡ [])
+        ensures last { MatchOption result.0 (items_below (P.below bound.now) self.now.items ≡ [])
             (λ e. IsLast (item_of e) (items_below (P.below bound.now) self.now.items)) }
+        ensures next { result.1 ≡ first_key None (behind (P.below bound.now) self.now.items) }
     {
-        last(&self.nodes, self.root, bound)
-    }
-
-    /// Returns the key of the first item that isn't below the bound.
-    pub fn key_behind<P: Bound>(&self, bound: &P) -> Option<Slot>
-        requires partitioned { IsPartitioned (λ x. P.below bound.now x.key) self.now.items }
-        ensures key { result ≡ first_key None (behind (P.below bound.now) self.now.items) }
-    {
-        key_behind(&self.nodes, self.root.slot, self.root.height, bound, None)
+        last_and_next(&self.nodes, self.root, bound)
     }
 
     /// Returns for each question, in their order, whether a version of the items before its second bound, of those before its first

@@ -3,6 +3,7 @@ use Rattle.tree.proofs.Words.{index_in, least_of}
 use Rattle.tree.proofs.Found.{IsFound, found, found_subtree, found_partitioned, found_leaf}
 use Rattle.tree.proofs.FirstKeys.{known_below, some_below}
 use Rattle.tree.proofs.Looks.{can_step_at}
+use Rattle.tree.proofs.Keys.{key_behind_child}
 use Rattle.tree.proofs.descent.+find.Given.{Over}
 use Rattle.tree.proofs.descent.+find.Goals as goal
 use Rattle.tree.proofs.descent.+find.Goals.{After-index-entries-step}
@@ -13,11 +14,11 @@ step-step-requires g t c = search (rules, can_step_at c.requires.can_reach c.req
 -- the child at which the search goes on
 child_found : (g : Over) (t : ℕ) (c : After-index-entries-step g t)
     → IsFound c.args.nodes.now (least_of g.row.N) c.args.height c.args.slot (g.P.Bound.below c.args.bound.now)
-    (get_or c.entries.result.now c.step-step.result.index c.index-entries-step.result).child
+    (get_or c.entries-entries.result.now c.step-step.result.index c.index-entries-step.result).child
 child_found g t c =
     found _ _ c.args.height c.args.slot _ _ _ c.step-step.result.index c.index-entries-step.result c.if-height-eq0.false
-    c.requires.can_reach.subtree c.requires.can_reach.partitioned c.header_ref-node.ensures.header c.entries.ensures.entries
-    (c.step-step.ensures.step.index_is ∙ ap (index_in _) (sym c.entries.ensures.entries))
+    c.requires.can_reach.subtree c.requires.can_reach.partitioned c.header_ref-node.ensures.header c.entries-entries.ensures.entries
+    (c.step-step.ensures.step.index_is ∙ ap (index_in _) (sym c.entries-entries.ensures.entries))
 
 pub find-requires : goal.find-requires
 find-requires g t c κs within =
@@ -31,3 +32,11 @@ find-requires g t c κs within =
 pub returns-clause-leaf : goal.returns-clause-leaf
 returns-clause-leaf g t c =
     found_leaf _ _ _ _ _ _ (child_found g t (goal.at.returns-clause-leaf g t c).After-index-entries-step) _ c.find.ensures.leaf
+
+pub returns-clause-behind : goal.returns-clause-behind
+returns-clause-behind g t c =
+    c.find.ensures.behind
+    ∙ key_behind_child _ _ _ _ _ _ (child_found g t (goal.at.returns-clause-behind g t c).After-index-entries-step) _
+    c.entries-entries.result.now c.step-step.result.index c.args.behind c.key_at-next.result c.header_ref-node.ensures.header
+    c.entries-entries.ensures.entries (c.step-step.ensures.step.index_is ∙ ap (index_in _) (sym c.entries-entries.ensures.entries))
+    c.key_at-next.ensures.key

@@ -9,7 +9,7 @@ pub returns-then-unwrap-version : goal.returns-then-unwrap-version
 returns-then-unwrap-version g c =
     let test = above_tested c.args.question.now.version c.unwrap.result.version (search rules) (search rules) in
     let above = above_by_last _ _ c.args.question.now.version c.args.question.now.nested _ c.requires.asked.can_reach.partitioned
-    (item_of c.unwrap.result) (rw c.unwrap.ensures at c.last.ensures.last) (test.0 c.if-unwrap-version.true) in
+    (item_of c.unwrap.result) (rw c.unwrap.ensures at c.last_and_next.ensures.last) (test.0 c.if-unwrap-version.true) in
     record { above = ((λ _. above), (λ _. refl)) }
 
 pub returns : goal.returns
@@ -19,7 +19,7 @@ returns g c =
     let none : v <ℤ e.version → ⊥ =
     λ lt. not_both _ ((above_tested v e.version (search rules) (search rules)).1 lt) c.if-unwrap-version.false in
     let answer = above_by_most _ _ v c.args.question.now.nested _ c.requires.asked.can_reach.partitioned (item_of e)
-    (rw c.unwrap.ensures at c.last.ensures.last) c.unwrap-2.result none
+    (rw c.unwrap.ensures at c.last_and_next.ensures.last) c.unwrap-2.result none
     (rw (to_z-of_z w64 v (search rules), c.unwrap-2.ensures) at c.greatest.ensures.greatest) in
     let test = above_tested v c.unwrap-2.result (search rules) (search rules) in
     record { above = ((λ t. answer.0 (test.0 t)), (λ a. test.1 (answer.1 a))) }

@@ -13,8 +13,8 @@ use Rattle.stepmap.proofs.Partitioning.{stored_partitioned}
 use Rattle.stepmap.proofs.LastFound.{some_is_below, last_boundary, value_of_last}
 use Rattle.stepmap.proofs.boundaries.Boundaries.version_at.Goals as goal
 
-pub last-requires : goal.last-requires
-last-requires g c =
+pub last_and_next-last-requires : goal.last_and_next-last-requires
+last_and_next-last-requires g c =
     let b = c.self.inside in (
       omega arith,
       ((stored_partitioned b.keys b.tree c.self.invariant.stored true c.args.key.now).partitioned, c.self.invariant.headed),
@@ -22,7 +22,7 @@ last-requires g c =
 
 pub unwrap-requires : goal.unwrap-requires
 unwrap-requires g c =
-    some_since c.last.result _ _ c.last.ensures.last
+    some_since c.last_and_next-last.result.0 _ _ c.last_and_next-last.ensures.last
     (some_is_below c.self.inside.keys c.self.inside.tree c.self.invariant.stored c.args.key.now)
 
 pub returns : goal.returns
@@ -31,7 +31,7 @@ returns g c =
     let key = c.args.key.now in
     let x = item_of c.unwrap.result in
     let last : IsLast x (items_below (slot_is_below b.keys true key) b.tree.items) =
-    MatchOption-at_some _ _ c.unwrap.result c.unwrap.ensures c.last.ensures.last in
+    MatchOption-at_some _ _ c.unwrap.result c.unwrap.ensures c.last_and_next-last.ensures.last in
     let found = last_boundary b.keys b.tree c.self.invariant.stored true key x last in
     let fits : FitsSigned w64 x.version = search rules in
     record {

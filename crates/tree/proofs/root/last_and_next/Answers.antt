@@ -1,13 +1,15 @@
-use Rattle.std.proofs.Common.{◌<◌, rules, ◌≡◌, ◌∙◌, length, filter, take, ap, refl, arith}
+use Rattle.std.proofs.Common.{◌<◌, rules, ◌≡◌, ◌∙◌, length, filter, take, drop, map, ◌++◌, None, sym, ap, refl, arith}
 use Rattle.std.specs.Prelude.{not}
-use Rattle.std.proofs.Math.Seq.{take-append_seam}
+use Rattle.std.proofs.Math.Seq.{drop-append_seam, take-append_seam}
+use Rattle.tree.proofs.Words.{Item, behind, behind_leaf, first_key, item_of, items_in}
 use Rattle.tree.specs.declared.entry.Entry.{Entry}
 use Rattle.tree.specs.Node.{entries_of}
 use Rattle.tree.specs.Subtree.{entries_at}
 use Rattle.tree.proofs.Found.{entries_read}
 use Rattle.tree.proofs.Headed.{headed_at}
+use Rattle.tree.proofs.Keys.{behind-parts, filter-items, first_key-append}
 use Rattle.tree.proofs.Leaves.{IsLeaf, last_passing}
-use Rattle.tree.proofs.root.last.Goals as goal
+use Rattle.tree.proofs.root.last_and_next.Goals as goal
 
 pub lower_bound-count-requires : goal.lower_bound-count-requires
 lower_bound-count-requires g c =
@@ -33,8 +35,16 @@ returns g c =
     let read : es ≡ entries_of header = entries_read nodes _ header _ c.header_ref-leaf.ensures.header refl in
     let passed : take (length (filter p es)) es ≡ filter p es =
     ap (take (length (filter p es))) found.partitioned ∙ take-append_seam (filter p es) (filter (λ e. not (p e)) es) in
+    let rest : drop (length (filter p es)) es ≡ filter (λ e. not (p e)) es =
+    ap (drop (length (filter p es))) found.partitioned ∙ drop-append_seam (filter p es) (filter (λ e. not (p e)) es) in
+    let later = behind_leaf nodes c.args.root.height c.args.root.slot is_below in
+    let behind_is : behind is_below (items_in nodes c.args.root.height c.args.root.slot) ≡ map item_of (drop (length (filter p es)) es) ++ later =
+    ap (behind is_below) found.items_are ∙ behind-parts is_below _ (map item_of es) later found.before found.after
+    ∙ ap (λ xs. xs ++ later) (filter-items (λ (x : Item). not (is_below x.key)) es ∙ ap (map item_of) (sym rest)) in
     record {
-      last = last_passing is_below _ _ _ es (take c.lower_bound-count.result c.entries.result.now) c.copied.result leaf
-          (rw (c.lower_bound-count.ensures.count.count_is, c.entries.ensures.entries, ← read) passed)
+      next = rw (c.lower_bound-count.ensures.count.count_is, c.entries-entries.ensures.entries, ← read, found.next) at c.key_at.ensures.key
+          ∙ sym (first_key-append None (map item_of (drop (length (filter p es)) es)) later) ∙ ap (first_key None) (sym behind_is);
+      last = last_passing is_below _ _ _ es (take c.lower_bound-count.result c.entries-entries.result.now) c.copied.result leaf
+          (rw (c.lower_bound-count.ensures.count.count_is, c.entries-entries.ensures.entries, ← read) passed)
           (c.copied.ensures ∙ c.last.ensures.value);
     }
