@@ -12,7 +12,7 @@ use Rattle.stepmap.specs.Boundary.{Boundary, AreInOrder}
 pub record Stored : Type 0 where
   -- in the order of their keys
   pub boundaries : List Boundary
-  -- for each of the ten sizes of slots, how many keys
+  -- for each size of slots, how many keys
   pub spare : List ℕ
   -- how many boundaries there may be in the tree
   pub room : ℕ

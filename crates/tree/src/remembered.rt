@@ -1,5 +1,5 @@
 //! A write into the leaf of the write before it: the writes of a batch come in the order of their keys, those of one leaf one after the
-//! other, so that one walk leads to it and most of them need no other.
+//! other, so that one walk leads to it, and those that go on there need no other.
 
 ghost use Rattle.std.specs.Prelude.{◌≡◌, MatchOption, IfSome, map};
 ghost use Rattle.tree.specs.Item.{item_of};

@@ -40,8 +40,8 @@ pub struct RaisedLeaf {
 pub enum Outcome {
     /// It is as it was.
     Same,
-    /// Its first key is as it was, and an item came into this leaf of it; no other item has a version that there wasn't. A leaf has
-    /// enough entries, and a node above lost none.
+    /// Its first key is as it was, and an item came into this leaf of it; no other item has a version that none had
+    /// before. A leaf has enough entries, and a node above lost none.
     Raised(RaisedLeaf),
     /// Its items are others.
     Changed,
