@@ -14,6 +14,7 @@ pub mod Looking
 pub mod Sweeps
 pub mod SweptMap
 pub mod WrittenMap
+pub mod Indexes
 pub mod IndexFound
 pub mod GreatestFound
 pub mod Changes
