@@ -61,11 +61,5 @@ pub fn find<P: Bound, const N: usize>(
     let node = nodes.header_ref(slot);
     let step = node.step(bound, common_prefix_len);
     let child = node.entries()[step.index].child;
-    find(
-        nodes,
-        child,
-        height - 1,
-        bound,
-        step.common_prefix_len,
-    )
+    find(nodes, child, height - 1, bound, step.common_prefix_len)
 }

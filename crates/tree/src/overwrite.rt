@@ -99,7 +99,11 @@ impl<'a, 'b, P: Bound, Q: Bound, R: Bound, const N: usize> LeafChange<N>
         let to_head = leaf.head_for(new.to, common_prefix_len);
         let end = leaf.lower_bound_with(new.to, place.common_prefix_len, to_head);
         let from_has_prefix = to_head.is_some() && leaf.prefix_len() <= new.targets_prefix_len;
-        let head = leaf.head_given(from_has_prefix, new.from, common_prefix_len.min(new.targets_prefix_len));
+        let head = leaf.head_given(
+            from_has_prefix,
+            new.from,
+            common_prefix_len.min(new.targets_prefix_len),
+        );
         let begin = leaf.lower_bound_back(end, new.from, head);
         put_taken(taken, &leaf.entries()[begin..end]);
         let last = leaf.entries()[..end]

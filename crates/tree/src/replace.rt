@@ -38,7 +38,16 @@ pub fn insert_child<P: Bound, const N: usize>(
     let heads = [head.unwrap_or(0), added_head.unwrap_or(0)];
     let have_prefix = head.is_some() && added_head.is_some();
     if node.len() == N {
-        return Some(split(nodes, slot, index, index + 1, &new, &heads, have_prefix, bound));
+        return Some(split(
+            nodes,
+            slot,
+            index,
+            index + 1,
+            &new,
+            &heads,
+            have_prefix,
+            bound,
+        ));
     }
     nodes
         .header_mut(slot)

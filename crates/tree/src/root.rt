@@ -40,13 +40,7 @@ pub fn reach<P: Bound, const N: usize>(nodes: &Arena<Node<N>>, root: Root, bound
     ensures reached { IsReached (P.bytes bound.now) (P.below bound.now) (P.target bound.now) nodes.now root.height root.slot result }
 {
     let common_prefix_len = common_prefix_len_at(nodes, root.slot, bound);
-    find(
-        nodes,
-        root.slot,
-        root.height,
-        bound,
-        common_prefix_len,
-    )
+    find(nodes, root.slot, root.height, bound, common_prefix_len)
 }
 
 /// Returns the last item below the bound.
