@@ -2,7 +2,7 @@
 use Rattle.std.proofs.Common.{arith, ◌≡◌, ℕ, ◌+◌, ◌-◌, Bool, true, false, not, List, [], ◌∷◌, ◌++◌, Option, Some, map, take, drop, filter, flat_map, All, refl, sym, ◌∙◌, ap}
 use Rattle.std.proofs.lemmas.Bool.{cases_Bool}
 use Rattle.std.proofs.lemmas.List.Elements.{All-head, All-drop, filter-append}
-use Rattle.tree.proofs.Words.{Arena, header_at, Entry, Node, Item, Tells, item_of, entries_of, index_in, behind, behind_leaf, first_key, entries_at, items_in}
+use Rattle.tree.proofs.Words.{Arena, header_at, Entry, Node, Item, Tells, item_of, entries_of, index_in, behind, first_key, entries_at, items_in}
 use Rattle.tree.proofs.callers.Partitions.{none_pass, none_fail}
 use Rattle.tree.proofs.Found.{IsFound, entries_read}
 
@@ -69,9 +69,3 @@ module _ {N : ℕ} (nodes : Arena (Node N)) (least height slot : ℕ) (is_below 
       let items : items_in nodes height slot ≡ a ++ (c ++ later) =
       ap (λ n. items_in nodes n slot) (sym f.lower) ∙ (rw (← f.is) at f.way.items) in
       rw (items, behind-parts is_below a c later f.way.before f.way.behind, first_key-append, key_of_next) refl
-
-  -- behind the leaf, above it: of the child, or else that of the next entry
-  pub key_behind_child : first_key next (behind_leaf nodes (height - 1) child is_below)
-      ≡ first_key key (behind_leaf nodes height slot is_below)
-  key_behind_child =
-      rw (← ap (λ m. behind_leaf nodes m slot is_below) f.lower, f.is, f.way.child, first_key-append, key_of_next) refl

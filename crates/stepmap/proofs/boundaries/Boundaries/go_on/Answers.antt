@@ -18,7 +18,7 @@ pub last-requires : goal.last-requires
 last-requires g c =
     let p = are_passed c.self.inside.keys c.self.inside.tree c.self.invariant.stored c.is_empty.result c.deref.result.now
     c.args.cursor.now.items _ c.deref.ensures.value c.deref.ensures.len c.is_empty.ensures in
-    (omega arith, (p.partitioned, c.self.invariant.headed))
+    (search rules, record { partitioned = p.partitioned; headed = c.self.invariant.headed })
 
 pub unwrap-last-requires : goal.unwrap-last-requires
 unwrap-last-requires g c =
