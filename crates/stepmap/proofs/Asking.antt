@@ -3,10 +3,9 @@ use Rattle.std.proofs.Common.{◌≡◌, ◌≢◌, ℕ, ℤ, Bool, true, false,
 use Rattle.std.specs.Prelude.{IsTrue, IsSomeAnd, None, Any, Option, ◌↔◌, ◌<ℤ◌}
 use Rattle.arena.specs.Arena.{Arena, key_at}
 use Rattle.keys.specs.declared.range.Range.{Range}
-use Rattle.tree.specs.Heads.{AllAreHeads}
 use Rattle.tree.specs.Item.{Item}
-use Rattle.tree.specs.Path.{IsPartitioned, items_below, from_last}
-use Rattle.tree.specs.Tree.{Items, tree_heads}
+use Rattle.tree.specs.Path.{items_below, from_last}
+use Rattle.tree.specs.Tree.{CanSearchItems, Items}
 use Rattle.tree.specs.declared.question.Question.{Question}
 use Rattle.stepmap.specs.Asking.{Exceeds, IsAt, AsksFor}
 use Rattle.stepmap.specs.Boundary.{AreBoundaries}
@@ -49,16 +48,17 @@ from_query None P gives it = absurd it
 from_query (Some a) P gives it = gives a it
 
 module _ (keys : Arena (Unit {0})) (tree : Items) (indexed : AreIndexed keys tree) where
-  pub is_partitioned : (up_to : Bool) (key : List ℕ) (bound : KeyBound) → IsAt keys up_to key bound
-      → IsPartitioned (λ (x : Item). is_below bound x.key) tree.items
-  is_partitioned up_to key bound at = rw (at.arena, at.side) (stored_partitioned keys tree indexed.stored up_to bound.key.now).partitioned
+  -- the tree can be searched by each bound
+  pub can_search : (up_to : Bool) (key : List ℕ) → CanSearchItems (slot_is_below keys up_to key) (key_at keys) tree
+  can_search up_to key =
+      record { partitioned = (stored_partitioned keys tree indexed.stored up_to key).partitioned; headed = indexed.headed }
+
+  pub can_search_at : (up_to : Bool) (key : List ℕ) (bound : KeyBound) → IsAt keys up_to key bound
+      → CanSearchItems (is_below bound) (key_at bound.keys.now) tree
+  can_search_at up_to key bound at = rw (at.arena, at.side) (can_search up_to bound.key.now)
 
   pub some_pass : (key : List ℕ) (bound : KeyBound) → IsAt keys true key bound → items_below (is_below bound) tree.items ≢ []
   some_pass key bound at = rw (at.arena, at.side) (some_is_below keys tree indexed.stored bound.key.now)
-
-  pub are_headed : (up_to : Bool) (key : List ℕ) (bound : KeyBound) → IsAt keys up_to key bound
-      → AllAreHeads (key_at bound.keys.now) (tree_heads tree)
-  are_headed up_to key bound at = rw at.arena indexed.headed
 
   -- its answer is that of the function
   pub told_above : AreBoundaries (boundaries_of keys tree.items) → (a : Range × ℤ) (q : BoundQuestion) (above : Bool)

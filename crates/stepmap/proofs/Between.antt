@@ -1,48 +1,11 @@
 -- The boundaries between two bounds, and what they say of the values in a range.
-use Rattle.std.proofs.Common.{
-  ◌≡◌,
-  ℕ,
-  ◌+◌,
-  ◌-◌,
-  Bool,
-  true,
-  false,
-  not,
-  ◌&&◌,
-  List,
-  [],
-  ◌∷◌,
-  ◌++◌,
-  length,
-  Option,
-  None,
-  Some,
-  take,
-  drop,
-  map,
-  filter,
-  fold,
-  refl,
-  sym,
-  ◌∙◌,
-  ap,
-  subst,
-  inl,
-  inr,
-  arith,
-  unwrap_or,
-  option_map,
-  length-append,
-}
-use Rattle.std.specs.Prelude.{ℤ, negsuc, ◌≤ℤ◌, ◌<ℤ◌, All, Any, slice_range}
-use Rattle.std.specs.Int.{int_max}
+use Rattle.std.proofs.Common.{◌≡◌, ℕ, ◌+◌, ◌-◌, Bool, true, false, not, ◌&&◌, List, [], ◌∷◌, ◌++◌, length, Option, None, Some, take, drop, filter, refl, sym, ◌∙◌, ap, subst, inl, inr, arith, unwrap_or, option_map, length-append}
+use Rattle.std.specs.Prelude.{ℤ, negsuc, ◌≤ℤ◌, ◌<ℤ◌, Any, slice_range}
 use Rattle.std.proofs.Math.Seq.{take-append_seam, drop-append_seam}
-use Rattle.std.proofs.lemmas.Int.{ints, clamps, fold-int_max_bounds, fold-int_max_reached}
 use Rattle.std.proofs.lemmas.List.{drop-take}
-use Rattle.std.proofs.lemmas.Simd.{map-map}
-use Rattle.std.proofs.lemmas.List.Elements.{All-map, All-weaker, filter_agree}
+use Rattle.std.proofs.lemmas.List.Elements.{All-weaker, filter_agree}
 use Rattle.arena.specs.Arena.{Arena, IsLive, key_at}
-use Rattle.tree.specs.Item.{Item, IsGreatest}
+use Rattle.tree.specs.Item.{Item}
 use Rattle.tree.specs.Path.{between}
 use Rattle.tree.specs.Tree.{Items}
 use Rattle.keys.specs.Key.{IsBytes, is_before, IsBefore}
@@ -60,14 +23,11 @@ use Rattle.stepmap.proofs.Parting.{parted}
 use Rattle.stepmap.proofs.Values.{parted_below}
 use Rattle.stepmap.proofs.IndexFound.{up_to_falls, value_up_to}
 use Rattle.stepmap.proofs.WritingValues.{begins_before_end}
-use Rattle.keys.proofs.callers.SomeElement.{Any-map}
 use Rattle.stepmap.proofs.Partitioning.{filtered, slot_is_below_live}
-use Rattle.stepmap.proofs.LastFound.{parted_up_to, some_of_all}
-use Rattle.stepmap.proofs.GreatestFound.{
+use Rattle.stepmap.proofs.LastFound.{parted_up_to}
+use Rattle.stepmap.proofs.AboveFound.{
   IsInside,
   inside_ordered,
-  greatest_bound,
-  greatest_reached,
   above_at_begin,
   above_inside,
   above_found,
@@ -158,38 +118,6 @@ below_parts begin end bs o l =
     ∙ ap (λ xs. xs ++ filter (λ b. is_before begin b.key) (below end bs)) front
     ∙ ap (λ xs. up_to begin bs ++ xs) (filter_both (λ b. is_before begin b.key) q bs)
 
--- the greater one of a version and the greatest of some is what a fold finds
-greatest_fold : {X : Type 0} (f : X → ℤ) (v m : ℤ) (xs : List X) → IsGreatest f m xs
-    → int_max m v ≡ fold int_max v (map f xs)
-greatest_fold f v m xs g =
-    let ys = map f xs in
-    let r = fold int_max v ys in
-    let bounds = fold-int_max_bounds v ys r refl in
-    let top = bounds.0 in
-    let under : All (λ y. y ≤ℤ m) ys = All-map (λ y. y ≤ℤ m) f xs g.bound in
-    let own = some_of_all (λ y. y ≤ℤ r) (λ y. y ≡ m) ys bounds.1 (Any-map f (λ y. y ≡ m) xs g.reached) in
-    let least : m ≤ℤ r = subst (λ y. y ≤ℤ r) own.2 own.1 in
-    elim (fold-int_max_reached v ys r refl) [
-      | inl e ↦ omega (arith, ints, clamps)
-      | inr at ↦
-          let le : r ≤ℤ m = subst (λ y. y ≤ℤ m) at.2 (under at.0 r at.1) in
-          omega (arith, ints, clamps)
-    ]
-
--- the same of items, by their boundaries
-module _ {H : Type 0} (keys : Arena H) (xs : List Item) (bs : List Boundary) (are : boundaries_of keys xs ≡ bs) where
-  pub greatest_of_some : (v m : ℤ) → IsGreatest (λ x. x.version) m xs
-      → int_max m v ≡ fold int_max v (map (λ b. b.version) bs)
-  greatest_of_some v m g =
-      greatest_fold (λ (x : Item). x.version) v m xs g
-      ∙ ap (fold int_max v)
-      (sym (map-map (λ b. b.version) (boundary_of keys) xs) ∙ ap (map (λ (b : Boundary). b.version)) are)
-
-  pub greatest_of_none : (v : ℤ) → xs ≡ [] → v ≡ fold int_max v (map (λ b. b.version) bs)
-  greatest_of_none v none =
-      ap (λ ys. fold int_max v (map (λ (b : Boundary). b.version) (boundaries_of keys ys))) (sym none)
-      ∙ ap (λ ys. fold int_max v (map (λ (b : Boundary). b.version) ys)) are
-
 module _ (range : Range) (filled : ¬ IsEmpty range) (bs : List Boundary) (h : AreBoundaries bs) where
   abbrev from : ℕ
   from = length (up_to range.begin bs)
@@ -231,17 +159,6 @@ module _ (range : Range) (filled : ¬ IsEmpty range) (bs : List Boundary) (h : A
         at_begin ∙ value_up_to bs range.begin (parted_up_to range.begin bs h.in_order)
         ∙ ap (last_version (negsuc 0)) (sym is_inside.front)
 
-    module _ (r : ℤ) (is : r ≡ fold int_max v (map (λ b. b.version) (inside range.begin range.end bs))) where
-      greatest : r ≡ fold int_max v (map (λ b. b.version) (slice_range bs from to))
-      greatest = is ∙ ap (λ (ys : List Boundary). fold int_max v (map (λ b. b.version) ys)) (sym slice_inside)
-
-      -- it is the greatest value in the range
-      pub range_bound : (key : List ℕ) → Holds range key → value_at bs key ≤ℤ r
-      range_bound = greatest_bound range filled bs h from to is_inside v r first greatest
-
-      pub range_reached : (key : List ℕ) × IsBytes key × Holds range key × (value_at bs key ≡ r)
-      range_reached = greatest_reached range filled bs h from to is_inside v r first greatest
-
     -- the function is above the number at the begin, or at a boundary inside, or nowhere in the range
     pub above_by_begin : (s : ℤ) → s <ℤ v
         → (key : List ℕ) × IsBytes key × Holds range key × (s <ℤ value_at bs key)
@@ -253,9 +170,8 @@ module _ (range : Range) (filled : ¬ IsEmpty range) (bs : List Boundary) (h : A
         above_inside range filled bs h from to is_inside v s first
         (subst (Any (λ b. s <ℤ b.version)) (sym slice_inside) a)
 
-    pub inside_if_above : (s : ℤ) → v ≤ℤ s
-        → (key : List ℕ) × IsBytes key × Holds range key × (s <ℤ value_at bs key)
+    pub inside_if_above : (s : ℤ) → v ≤ℤ s → (key : List ℕ) → Holds range key → s <ℤ value_at bs key
         → Any (λ b. s <ℤ b.version) (inside range.begin range.end bs)
-    inside_if_above s le a =
+    inside_if_above s le key held lt =
         subst (Any (λ b. s <ℤ b.version)) slice_inside
-        (above_found range filled bs h from to is_inside v s first a le)
+        (above_found range filled bs h from to is_inside v s first key held lt le)

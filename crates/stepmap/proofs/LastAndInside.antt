@@ -1,10 +1,11 @@
--- The last boundary up to the begin of a range and those inside it: whether one of them is above a number.
+-- The last boundary up to the begin of a range and those inside it: whether one of them is above a number, and the greatest.
 use Rattle.std.proofs.Common.{◌≡◌, ◌≢◌, ◌-◌, Bool, true, false, List, [], ◌∷◌, ◌++◌, length, length-append, Some, drop, refl, sym, ◌∙◌, ap, subst, inl, inr, ◌⊎◌, arith}
-use Rattle.std.specs.Prelude.{ℕ, ℤ, int_lt, ◌<ℤ◌, ◌≤ℤ◌, Any, ◌↔◌}
+use Rattle.std.specs.Prelude.{ℕ, ℤ, pos, ◌-ℤ◌, int_lt, ◌<ℤ◌, ◌≤ℤ◌, Any, ◌↔◌}
 use Rattle.std.proofs.Math.Seq.{drop-append_seam}
 use Rattle.std.proofs.lemmas.Bool.{cases_Bool}
+use Rattle.std.proofs.lemmas.Int.{ints}
 use Rattle.arena.specs.Arena.{Arena}
-use Rattle.tree.specs.Item.{Item}
+use Rattle.tree.specs.Item.{IsGreatest, Item}
 use Rattle.tree.specs.Path.{items_below, between, from_last}
 use Rattle.tree.specs.Tree.{Items, IsLast}
 use Rattle.tree.proofs.callers.Lists.{last_and_between}
@@ -17,7 +18,7 @@ use Rattle.stepmap.specs.Stored.{boundary_of, boundaries_of, IsStored}
 use Rattle.stepmap.proofs.Between.{nested, between_inside, above_by_begin, above_by_inside, inside_if_above}
 use Rattle.stepmap.proofs.Partitioning.{stored_partitioned}
 use Rattle.stepmap.proofs.LastFound.{some_is_below, last_boundary, value_of_last}
-use Rattle.keys.proofs.callers.SomeElement.{Any-first, Any-later, Any-cases, Any-map, Any-unmap}
+use Rattle.keys.proofs.callers.SomeElement.{Any-weaker, Any-first, Any-later, Any-cases, Any-map, Any-unmap}
 use Rattle.stepmap.proofs.Removal.{lt_from_test, le_from_test}
 use Rattle.stepmap.proofs.WritingValues.{begins_before_end}
 
@@ -85,25 +86,44 @@ module _ {H : Type 0} (keys : Arena H) (tree : Items) (stored : IsStored keys tr
     abbrev AboveSomewhere : Type 0
     AboveSomewhere = (key : List ℕ) × IsBytes key × Holds range key × (s <ℤ value_at bs key)
 
+    told : Any IsAbove (from_last p (Some q) tree.items) → AboveSomewhere
+    told a = elim (Any-cases IsAbove last_up_to.0 inner (subst (Any IsAbove) found_are a)) [
+      | inl first ↦ above_by_begin range filled bs are last_up_to.0.version at_begin s first
+      | inr later ↦ above_by_inside range filled bs are last_up_to.0.version at_begin s
+          (subst (Any Above) (between_inside keys tree stored range.begin range.end)
+          (Any-map (boundary_of keys) Above inner later))
+    ]
+
+    found : (key : List ℕ) → Holds range key → s <ℤ value_at bs key → Any IsAbove (from_last p (Some q) tree.items)
+    found key held lt =
+        subst (Any IsAbove) (sym found_are)
+        (elim (above_or_not s last_up_to.0.version) [
+          | inl first ↦ Any-first IsAbove last_up_to.0 inner first
+          | inr le ↦ Any-later IsAbove last_up_to.0 inner
+              (Any-unmap (boundary_of keys) Above inner
+              (subst (Any Above) (sym (between_inside keys tree stored range.begin range.end))
+              (inside_if_above range filled bs are last_up_to.0.version at_begin s le key held lt)))
+        ])
+
     -- the function is above the number in the range exactly where one of them is
     pub above_told : Any IsAbove (from_last p (Some q) tree.items) ↔ AboveSomewhere
-    above_told = (told, found)
-      where
-        told : Any IsAbove (from_last p (Some q) tree.items) → AboveSomewhere
-        told a = elim (Any-cases IsAbove last_up_to.0 inner (subst (Any IsAbove) found_are a)) [
-          | inl first ↦ above_by_begin range filled bs are last_up_to.0.version at_begin s first
-          | inr later ↦ above_by_inside range filled bs are last_up_to.0.version at_begin s
-              (subst (Any Above) (between_inside keys tree stored range.begin range.end)
-              (Any-map (boundary_of keys) Above inner later))
-        ]
+    above_told = (told, λ a. found a.0 a.2 a.3)
 
-        found : AboveSomewhere → Any IsAbove (from_last p (Some q) tree.items)
-        found a =
-            subst (Any IsAbove) (sym found_are)
-            (elim (above_or_not s last_up_to.0.version) [
-              | inl first ↦ Any-first IsAbove last_up_to.0 inner first
-              | inr le ↦ Any-later IsAbove last_up_to.0 inner
-                  (Any-unmap (boundary_of keys) Above inner
-                  (subst (Any Above) (sym (between_inside keys tree stored range.begin range.end))
-                  (inside_if_above range filled bs are last_up_to.0.version at_begin s le a)))
-            ])
+  -- the greatest version of them is the greatest value in the range
+  module _ (are : AreBoundaries bs) (r : ℤ) (greatest : IsGreatest (λ x. x.version) r (from_last p (Some q) tree.items)) where
+    pub range_bound : (key : List ℕ) → Holds range key → value_at bs key ≤ℤ r
+    range_bound key held = elim (above_or_not r (value_at bs key)) [
+      | inl lt ↦
+          let above = found are r key held lt in
+          let le = rw above.3 at (greatest.bound above.0 above.1 above.2) in
+          absurd (omega (arith, ints, le, above.4))
+      | inr le ↦ le
+    ]
+
+    pub range_reached : (key : List ℕ) × IsBytes key × Holds range key × (value_at bs key ≡ r)
+    range_reached =
+        let s : ℤ = r -ℤ pos 1 in
+        let near = Any-weaker (λ (x : Item). x.version ≡ r) (λ x. s <ℤ x.version) (λ x is. omega (arith, ints, is))
+        (from_last p (Some q) tree.items) greatest.reached in
+        let above = told are s near in
+        (above.0, above.1, above.2, omega (arith, ints, above.3, range_bound above.0 above.2))

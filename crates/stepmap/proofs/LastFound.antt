@@ -58,7 +58,7 @@ before_rising (x ∷ xs) b ys r =
     All-cons (λ x. IsBefore x.key b.key) x xs m.first m.before
 
 -- what holds of all elements holds of one that something else holds of
-pub some_of_all : {X : Type 0} (P Q : X → Type 0) (xs : List X) → All P xs → Any Q xs → (x : X) × P x × Q x
+some_of_all : {X : Type 0} (P Q : X → Type 0) (xs : List X) → All P xs → Any Q xs → (x : X) × P x × Q x
 some_of_all P Q xs all a = (a.1, subst P a.3 (all a.0 a.1 a.2), a.4)
 
 module _ (key : List ℕ) (bs : List Boundary) (o : AreInOrder bs) where

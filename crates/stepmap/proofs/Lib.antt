@@ -16,7 +16,7 @@ pub mod SweptMap
 pub mod WrittenMap
 pub mod Indexes
 pub mod IndexFound
-pub mod GreatestFound
+pub mod AboveFound
 pub mod Changes
 pub mod Rounds
 pub mod FewBoundaries

@@ -103,7 +103,6 @@ impl<const N: usize> Boundaries<N> {
         ensures reached { (key : List ℕ) × IsBytes key × Holds range.now key
             × (value_at self.now.boundaries key ≡ result) }
     {
-        let at_begin = self.version_at(range.begin.as_bytes());
         let begin = KeyBound {
             keys: &self.keys,
             key: range.begin.as_bytes(),
@@ -114,10 +113,7 @@ impl<const N: usize> Boundaries<N> {
             key: range.end.as_bytes(),
             up_to: false,
         };
-        match self.tree.greatest(&begin, &end) {
-            Some(inside) => inside.max(at_begin),
-            None => at_begin,
-        }
+        self.tree.greatest(&begin, &end)
     }
 
     // Answers for each of the queries at these places, in order, whether the version at some key of its range is above its own.

@@ -10,10 +10,12 @@ use Rattle.tree.specs.declared.entry.Entry.{Entry}
 use Rattle.tree.specs.declared.node.Node.{Node}
 use Rattle.tree.specs.Heads.{KeyBytes, Begins, AreHeads, AllAreHeads}
 use Rattle.tree.specs.Item.{item_of}
-use Rattle.tree.specs.Node.{entries_of, key_heads_of, all_heads_of, keys_of}
+use Rattle.tree.specs.Node.{entries_of, key_heads_of, all_heads_of, heads_list, keys_of}
 use Rattle.tree.specs.Path.{IsPartitioned}
-use Rattle.tree.specs.Subtree.{entries_at}
-use Rattle.tree.specs.Tree.{IsTree}
+use Rattle.tree.specs.Reached.{CanReach}
+use Rattle.tree.specs.Subtree.{entries_at, items_in}
+use Rattle.tree.specs.Tree.{CanSearchItems, IsTree, least_of}
+use Rattle.tree.proofs.HeadList.{headed_from_list}
 use Rattle.tree.proofs.HeadOrder.{empty_head}
 use Rattle.tree.proofs.Headed.{headed_put}
 
@@ -31,6 +33,16 @@ module _ {N : ℕ} where
       → 1 ≤ length (entries_at nodes slot)
   root_some nodes slot zero len room t = omega (arith, t.some, t.counted, length-map (entries_at nodes slot) item_of)
   root_some nodes slot (suc height) len room t = t.rooted.subtree.1
+
+  -- What a search from the root asks of the nodes, where a tree can be searched.
+  pub can_reach_root : {nodes : Arena (Node N)} {slot height len room : ℕ} {bytes : KeyBytes} {is_below : ℕ → Bool}
+      → IsTree nodes slot height len room
+      → CanSearchItems is_below bytes
+      (record { items = items_in nodes height slot; room = room; all_heads = heads_list nodes })
+      → CanReach bytes is_below nodes (least_of N) height slot
+  can_reach_root {nodes} {slot} {height} {len} {room} {bytes} t can =
+      let headed = headed_from_list bytes nodes can.headed in
+      search (rules, t.rooted.subtree, root_some nodes slot height len room t, headed, can.partitioned)
 
   -- A node whose keys stay knows as much as before.
   pub key_heads_stays : (bytes : KeyBytes) (old new : Node N) (i : ℕ) (d e : Entry)

@@ -44,7 +44,6 @@ pub mod Replacing
 pub mod Rooting
 pub mod RunWritten
 pub mod Sharing
-pub mod Spans
 pub mod Splicing
 pub mod Stepping
 pub mod Storing

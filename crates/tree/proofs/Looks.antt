@@ -1,35 +1,30 @@
--- A look at the items from one bound to another, below a node.
-use Rattle.std.proofs.Common.{rules, ◌≡◌, ℕ, zero, suc, ◌-◌, ◌<◌, ◌≤◌, Bool, true, false, List, Option, Some, None, option_map, length, get_or, filter, flat_map, map, All, IfSome, sym, refl, not, ◌&&◌, ◌∙◌, ap, subst, arith, slice_range, append-nil}
-use Rattle.tree.proofs.Words.{Arena, header_at, Entry, Node, Item, Tells, item_of, entries_of, IsPartitioned, below_from, below_to, entries_at, items_in, IsChild, IsSubtree, CanStep, KeyBytes, IsCommonPrefixAt, CanReach}
+-- A look at the items before a bound, of those before another bound the last alone, below a node.
+use Rattle.std.proofs.Common.{rules, ◌≡◌, ℕ, zero, suc, ◌+◌, ◌-◌, ◌<◌, ◌≤◌, Bool, true, false, List, ◌∷◌, ◌++◌, take, drop, Option, Some, None, option_map, length, get_or, filter, flat_map, map, All, IfSome, sym, refl, ◌∙◌, ap, subst, arith, slice_range, append-nil}
+use Rattle.std.proofs.lemmas.Grind.{flat_map-append}
+use Rattle.std.proofs.lemmas.List.{drop-map, length-map, take-map}
+use Rattle.tree.proofs.Words.{Arena, header_at, Entry, Node, Item, Tells, item_of, entries_of, IsPartitioned, below_from, below_to, entries_at, items_in, IsChild, IsSubtree, CanFind, CanStep, IsLowerBound, KeyBytes, IsCommonPrefixAt, CanReach}
 use Rattle.tree.proofs.callers.Partitions.{none_pass, none_fail}
-use Rattle.tree.proofs.Ways.{children_partitioned, index_inside}
+use Rattle.tree.proofs.Ways.{around_element, children_partitioned, index_inside}
 use Rattle.tree.proofs.Found.{partitioned-entries, entries_read, read_partitioned}
 use Rattle.tree.proofs.Headed.{headed_at}
 use Rattle.tree.proofs.Placing.{entries_from_header}
 use Rattle.tree.proofs.Keys.{filter-items}
-use Rattle.tree.proofs.Spans.{span, span_range, fewer_before}
+use Rattle.tree.proofs.FromLast.{from_last_of, from_last_range, fewer_before}
 
--- What `requires` says of a bound that may be missing, as a bound, and back.
-module _ {A : Type 0} (lets : A → ℕ → Bool) (items : List Item) where
-  pub from_asked : (o : Option A) → IfSome o (λ p. IsPartitioned (λ x. lets p x.key) items)
-      → IsPartitioned (λ x. below_from (option_map lets o) x.key) items
-  from_asked None h = let n = none_pass (λ (x : Item). false) items (λ i d inside. refl) in rw (n.0, n.1) refl
-  from_asked (Some p) h = h
+-- What `requires` says of a bound that may be missing, as a bound.
+module _ {N : ℕ} {A : Type 0} (bytes : A → KeyBytes) (lets : A → ℕ → Bool) (nodes : Arena (Node N)) (least height slot : ℕ) where
+  pub from_asked : (o : Option A) → IfSome o (λ p. CanReach (bytes p) (lets p) nodes least height slot)
+      → IsPartitioned (λ x. below_from (option_map lets o) x.key) (items_in nodes height slot)
+  from_asked None h =
+      let n = none_pass (λ (x : Item). false) (items_in nodes height slot) (λ i d inside. refl) in rw (n.0, n.1) refl
+  from_asked (Some p) h = h.partitioned
 
-  pub to_asked : (o : Option A) → IfSome o (λ p. IsPartitioned (λ x. lets p x.key) items)
-      → IsPartitioned (λ x. below_to (option_map lets o) x.key) items
-  to_asked None h = let n = none_fail (λ (x : Item). true) items (λ i d inside. refl) in rw (n.0, n.1) (sym (append-nil items))
-  to_asked (Some p) h = h
-
-  pub ask_from : (o : Option A) → IsPartitioned (λ x. below_from (option_map lets o) x.key) items
-      → IfSome o (λ p. IsPartitioned (λ x. lets p x.key) items)
-  ask_from None h = tt
-  ask_from (Some p) h = h
-
-  pub ask_to : (o : Option A) → IsPartitioned (λ x. below_to (option_map lets o) x.key) items
-      → IfSome o (λ p. IsPartitioned (λ x. lets p x.key) items)
-  ask_to None h = tt
-  ask_to (Some p) h = h
+  pub to_asked : (o : Option A) → IfSome o (λ p. CanReach (bytes p) (lets p) nodes least height slot)
+      → IsPartitioned (λ x. below_to (option_map lets o) x.key) (items_in nodes height slot)
+  to_asked None h =
+      let n = none_fail (λ (x : Item). true) (items_in nodes height slot) (λ i d inside. refl) in
+      rw (n.0, n.1) (sym (append-nil (items_in nodes height slot)))
+  to_asked (Some p) h = h.partitioned
 
 pub ask_any : {A : Type 0} (o : Option A) (P : A → Type 0) → ((p : A) → P p) → IfSome o P
 ask_any None P h = tt
@@ -65,32 +60,40 @@ look_bound nodes least (suc height) slot is_below header es s c h e =
     read_partitioned nodes least (suc height) slot is_below header es (λ z. omega arith) s c h e
 
 -- A node that the code has read can be searched.
-pub can_step_at : {N : ℕ} {nodes : Arena (Node N)} {least height slot : ℕ} {bytes : KeyBytes} {is_below : ℕ → Bool}
-    {target : List ℕ} {known : Option ℕ} {node : Node N} → CanReach bytes is_below nodes least height slot
-    → IsCommonPrefixAt bytes is_below target known (entries_at nodes slot) 0 → header_at nodes slot ≡ Some node
-    → CanStep bytes is_below target node known
-can_step_at {N} {nodes} {least} {height} {slot} {bytes} {is_below} {target} {known} {node} can knows header =
-    let read = entries_from_header nodes slot node header in
-    let headed = headed_at bytes nodes slot node can.headed header in
-    let partitioned = look_bound nodes least height slot is_below node _ can.subtree can.partitioned header refl in
-    let some = rw read at can.some in
-    search (rules, rw read at knows)
+module _ {N : ℕ} {nodes : Arena (Node N)} {least height slot : ℕ} {bytes : KeyBytes} {is_below : ℕ → Bool} {node : Node N}
+    (can : CanReach bytes is_below nodes least height slot) (header : header_at nodes slot ≡ Some node) where
+  abbrev read : entries_at nodes slot ≡ entries_of node
+  read = entries_from_header nodes slot node header
 
-pub look_of : {N : ℕ} {A B : Type 0} (nodes : Arena (Node N)) (least height slot : ℕ) (f : A → ℕ → Bool)
-    (t : B → ℕ → Bool) (from : Option A) (to : Option B) (header : Node N) (es : List Entry) (begin end : ℕ)
+  pub can_find_at : CanFind bytes is_below node
+  can_find_at =
+      let headed = headed_at bytes nodes slot node can.headed header in
+      let partitioned = look_bound nodes least height slot is_below node _ can.subtree can.partitioned header refl in
+      let some = rw read at can.some in
+      search rules
+
+  pub can_step_at : {target : List ℕ} {known : Option ℕ} → IsCommonPrefixAt bytes is_below target known (entries_at nodes slot) 0
+      → CanStep bytes is_below target node known
+  can_step_at knows = record { can_find = can_find_at; known = rw read at knows }
+
+pub look_of : {N : ℕ} {A B : Type 0} (nodes : Arena (Node N)) (least height slot : ℕ) (bytes : A → KeyBytes) (f : A → ℕ → Bool)
+    (near : B → KeyBytes) (t : B → ℕ → Bool) (from : Option A) (to : Option B) (header : Node N) (es : List Entry) (begin end : ℕ)
     → IsSubtree nodes least height slot
-    → IfSome from (λ p. IsPartitioned (λ x. f p x.key) (items_in nodes height slot))
-    → IfSome to (λ q. IsPartitioned (λ x. t q x.key) (items_in nodes height slot))
+    → IfSome from (λ p. CanReach (bytes p) (f p) nodes least height slot)
+    → IfSome to (λ q. CanReach (near q) (t q) nodes least height slot)
     → IfSome from (λ p. IfSome to (λ q. (key : ℕ) → f p key ≡ true → t q key ≡ true))
     → header_at nodes slot ≡ Some header → es ≡ entries_of header
-    → begin ≡ length (filter (λ e. below_from (option_map f from) e.key) es)
-    → end ≡ length (filter (λ e. below_to (option_map t to) e.key) es)
+    → IsLowerBound (below_from (option_map f from)) header begin → IsLowerBound (below_to (option_map t to)) header end
     → IsLook nodes least height slot (below_from (option_map f from)) (below_to (option_map t to)) es begin end
-look_of nodes least height slot f t from to header es begin end s c d n h e b l =
-    let asked_from = from_asked f (items_in nodes height slot) from c in
-    let asked_to = to_asked t (items_in nodes height slot) to d in
-    let nested = nested_asked f t from to n in
-    search (rules, entries_read nodes slot header es h e)
+look_of nodes least height slot bytes f near t from to header es begin end s c d n h e b l = record {
+  subtree = s;
+  from = from_asked bytes f nodes least height slot from c;
+  to = to_asked near t nodes least height slot to d;
+  nested = nested_asked f t from to n;
+  read = entries_read nodes slot header es h e;
+  begin_is = rw e b.count_is;
+  end_is = rw e l.count_is;
+}
 
 module _ {N : ℕ} (nodes : Arena (Node N)) (least height slot : ℕ) (f t : ℕ → Bool) (es : List Entry)
     (begin end : ℕ) (k : IsLook nodes least height slot f t es begin end) where
@@ -104,13 +107,16 @@ module _ {N : ℕ} (nodes : Arena (Node N)) (least height slot : ℕ) (f t : ℕ
   look_ordered = omega (arith, k.begin_is, k.end_is, fewer_before _ _ (λ (e : Entry). k.nested e.key) es)
 
   -- at a leaf
-  pub leaf_look : height ≡ 0 → span p q (items_in nodes height slot) ≡ map item_of (slice_range es begin end)
-  leaf_look z =
-      let at : items_in nodes height slot ≡ map item_of es = rw (z, k.read) refl in
-      let c = partitioned-entries p es (rw at at k.from) in
-      let d = partitioned-entries q es (rw at at k.to) in
-      rw (at, filter-items (λ (x : Item). not (p x) && q x) es)
-      (ap (map item_of) (span_range _ _ es begin end c d look_ordered k.begin_is k.end_is))
+  pub leaf_from_last : height ≡ 0 → (first : ℕ) → first ≡ begin - 1
+      → from_last_of p q (items_in nodes height slot) ≡ map item_of (slice_range es first end)
+  leaf_from_last z first fi =
+      let at : items_in nodes height slot ≡ map item_of es = ap (λ n. items_in nodes n slot) z ∙ ap (map item_of) k.read in
+      let count = λ (b : ℕ → Bool). ap length (filter-items (λ (x : Item). b x.key) es)
+      ∙ length-map (filter (λ (e : Entry). b e.key) es) item_of in
+      ap (from_last_of p q) at
+      ∙ from_last_range p q (map item_of es) first end (rw at at k.to) (omega (arith, look_ordered, fi))
+      (omega (arith, fi, k.begin_is, count f)) (omega (arith, k.end_is, count t))
+      ∙ simp (drop-map item_of, take-map item_of)
 
   module _ (some : height ≡ 0 → ⊥) where
     abbrev pub below : Entry → List Item
@@ -128,11 +134,9 @@ module _ {N : ℕ} (nodes : Arena (Node N)) (least height slot : ℕ) (f t : ℕ
     pub look_items : items_in nodes height slot ≡ flat_map below es
     look_items = ap (λ n. items_in nodes n slot) (sym lower) ∙ ap (flat_map below) k.read
 
-    pub from_items : IsPartitioned p (flat_map below es)
-    from_items = rw (← look_items) k.from
-
-    pub to_items : IsPartitioned q (flat_map below es)
-    to_items = rw (← look_items) k.to
+    pub items_partitioned : (is_below : ℕ → Bool) → IsPartitioned (λ x. is_below x.key) (items_in nodes height slot)
+        → IsPartitioned (λ x. is_below x.key) (flat_map below es)
+    items_partitioned is_below c = rw (← look_items) c
 
     pub last_inside : end - 1 < length es
     last_inside = omega (arith, index_inside t below es node.0, k.end_is)
@@ -145,8 +149,19 @@ module _ {N : ℕ} (nodes : Arena (Node N)) (least height slot : ℕ) (f t : ℕ
       pub child_is : IsChild nodes least (height - 1) (IsSubtree nodes least (height - 1)) e
       child_is = rw is (node.1 i e inside)
 
-      pub child_from : IsPartitioned p (below e)
-      child_from = rw is (children_partitioned f below es from_items i e inside)
+      -- its items stand between those of the children before it and those of the children behind it
+      pub around_child : items_in nodes height slot
+          ≡ flat_map below (take i es) ++ (below e ++ flat_map below (drop (i + 1) es))
+      around_child =
+          rw (← is) at (look_items ∙ ap (flat_map below) (around_element es i e inside)
+          ∙ flat_map-append below (take i es) (get_or es i e ∷ drop (i + 1) es))
 
-      pub child_to : IsPartitioned q (below e)
-      child_to = rw is (children_partitioned t below es to_items i e inside)
+      pub child_partitioned : (is_below : ℕ → Bool) → IsPartitioned (λ x. is_below x.key) (items_in nodes height slot)
+          → IsPartitioned (λ x. is_below x.key) (below e)
+      child_partitioned is_below c = rw is (children_partitioned is_below below es (items_partitioned is_below c) i e inside)
+
+      pub child_reached : {bytes : KeyBytes} {is_below : ℕ → Bool} → CanReach bytes is_below nodes least height slot → 1 ≤ least
+          → CanReach bytes is_below nodes least (height - 1) e.child
+      child_reached can least_some =
+          let some : 1 ≤ length (entries_at nodes e.child) = omega (arith, least_some, child_is.filled) in
+          search (rules, child_is.subtree, some, child_partitioned _ can.partitioned, can.headed)

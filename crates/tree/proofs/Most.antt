@@ -1,11 +1,13 @@
 -- The greatest of a version, which may be missing, and those of items in parts.
-use Rattle.std.proofs.Common.{◌≡◌, Bool, false, List, [], ◌∷◌, ◌++◌, Option, Some, None, IfSome, IsTrue, ◌↔◌, filter, flat_map, All, refl, ap, inl, inr, arith, append-nil, append_assoc, ℤ, ◌≤ℤ◌, ◌<ℤ◌, w64, SFits, to_z, of_z}
+use Rattle.std.proofs.Common.{rules, ◌≡◌, ◌≢◌, Bool, false, List, [], ◌∷◌, ◌++◌, ◌-◌, length, Option, Some, None, IfSome, IsTrue, ◌↔◌, filter, flat_map, All, refl, ap, inl, inr, arith, append-nil, append_assoc, ℤ, ◌≤ℤ◌, ◌<ℤ◌, w64, SFits, to_z, of_z}
 use Rattle.std.specs.Int.{int_max}
+use Rattle.std.specs.Option.{IsSome}
 use Rattle.std.proofs.lemmas.Int.{ints, clamps, to_z-of_z}
-use Rattle.std.proofs.lemmas.List.Elements.{All-nil, All-append, All-filter}
+use Rattle.std.proofs.lemmas.List.Elements.{All-drop, All-nil, All-append, All-filter}
 use Rattle.keys.proofs.callers.SomeElement.{Any-parts, Any-left, Any-right}
 use Rattle.tree.proofs.Words.{Entry, Item, Tells, IsGreatestWith, greater_of, version_of}
 use Rattle.tree.proofs.callers.Partitions.{All-front, All-back}
+use Rattle.tree.proofs.FromLast.{from_last_of}
 use Rattle.tree.proofs.Greatest.{one_of_both}
 use Rattle.tree.proofs.GreatestParts.{IsPeak, IsPeak-children, Bounds, Reaches, higher}
 
@@ -62,18 +64,19 @@ pub most_of_parts : (a b c d : Option ℤ) (whole l m r : List Item) → whole �
 most_of_parts a b c d whole l m r parts i j k =
     rw (parts, ← append_assoc l m r) (most_append a c d (l ++ m) r (most_swapped a c m l (most_append a b c m l i j)) k)
 
--- a subtree that has none above the version is passed over
-pub most_passed : (least : Option ℤ) (e : Entry) (xs : List Item) (p : Item → Bool) (above : Bool) → SFits w64 e.version
+-- A subtree that has none above the version is passed over.
+pub most_passed : (least : Option ℤ) (e : Entry) (xs : List Item) (p q : Item → Bool) (above : Bool) → SFits w64 e.version
     → Tells e xs → above ≡ false → (IsTrue above ↔ IfSome least (λ l. l <ℤ to_z w64 (of_z w64 e.version)))
-    → IsGreatestWith least (filter p xs) least
-most_passed None e xs p above fits tells fails told = let yes = told.1 tt in absurd (cc)
-most_passed (Some l) e xs p above fits tells fails told =
+    → IsGreatestWith least (from_last_of p q xs) least
+most_passed None e xs p q above fits tells fails told = let yes = told.1 tt in absurd (cc)
+most_passed (Some l) e xs p q above fits tells fails told =
     let not_less : l <ℤ e.version → ⊥ = λ lt. (let yes = told.1 (rw (to_z-of_z w64 e.version fits) lt) in cc) in
     let le : e.version ≤ℤ l = grind (arith, ints) in
-    let bound = All-filter p (Bounds l) xs (higher e.version l xs le tells.greatest.bound) in
+    let bound = All-filter q (Bounds l) xs (higher e.version l xs le tells.greatest.bound) in
+    let bound = All-drop (Bounds l) (length (filter p xs) - 1) (filter q xs) bound in
     record { bound = bound; least_bound = omega (arith, ints); reached = inl refl }
 
--- with no version beside them it is the items' own
-pub most_alone : (a : Option ℤ) (xs : List Item) → IsGreatestWith None xs a → IsPeak (λ (x : Item). x.version) a xs
-most_alone None xs h = h.1
-most_alone (Some v) xs h = record { bound = h.bound; reached = elim h.reached [ inl e ↦ absurd (cc) | inr r ↦ r ] }
+-- There is a greatest one, where there are items.
+pub most_some : (least a : Option ℤ) (xs : List Item) → xs ≢ [] → IsGreatestWith least xs a → IsSome a
+most_some least None xs some h = absurd (some h.1)
+most_some least (Some v) xs some h = search rules

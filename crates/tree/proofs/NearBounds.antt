@@ -10,7 +10,7 @@ use Rattle.tree.proofs.HeadChanges.{target_beside}
 use Rattle.tree.specs.Heads.{KeyBytes, HaveCommonPrefix, IsCommonPrefixAt, KeyHeads, HasPrefix, IsHeadBeside, IsTargetHead}
 use Rattle.tree.specs.Node.{keys_of}
 use Rattle.tree.proofs.Overwriting.{entries_put}
-use Rattle.tree.proofs.Spans.{fewer_before}
+use Rattle.tree.proofs.FromLast.{fewer_before}
 
 -- what begins alike does so as far as fewer bytes
 pub fewer_alike : (fewer n : ℕ) (a b : List ℕ) → fewer ≤ n → take n a ≡ take n b → take fewer a ≡ take fewer b

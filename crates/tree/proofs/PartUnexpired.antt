@@ -2,12 +2,12 @@
 use Rattle.std.proofs.Common.{◌≡◌, ◌≢◌, ℕ, ℤ, ◌+◌, ◌≤◌, ◌≤ℤ◌, int_lt, Bool, true, false, List, [], ◌∷◌, ◌++◌, Option, None, length, sym, ◌∙◌, ap, arith, append_assoc, length-append}
 use Rattle.std.proofs.lemmas.Int.{ints}
 use Rattle.tree.proofs.Words.{Removal, Item, items_below, RemovesExpired, GivesUnexpired, unexpired, IsChangedWithin}
+use Rattle.tree.proofs.callers.Partitions.{filter_around}
 use Rattle.tree.proofs.callers.Times.{none_or_some}
 use Rattle.tree.proofs.Inserting.{length-partitioned}
 use Rattle.tree.proofs.Keys.{behind-parts, first_key-append}
 use Rattle.tree.proofs.PartWritten.{some_here}
 use Rattle.tree.proofs.Removing.{expired_or_kept}
-use Rattle.tree.proofs.Told.{filter_around}
 
 -- What becomes of all items where those of one leaf are swept of expired items.
 pub unexpired_all : (p : ℕ → Bool) (count : ℕ) (edge before : ℤ) (removal : Removal) (run was now : List Item)

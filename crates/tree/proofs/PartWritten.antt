@@ -9,12 +9,12 @@ use Rattle.tree.specs.Item.{Item}
 use Rattle.tree.specs.Overwrite.{IsOverwritten, GivesPart, GivesWritten, OverwritesPart, Overwrites}
 use Rattle.tree.specs.Path.{IsPartitioned, items_below, behind, between}
 use Rattle.tree.specs.Walk.{IsChangedWithin}
-use Rattle.tree.proofs.callers.Partitions.{All-front, none_pass, none_passed, not_both, IsPartitioned-parts}
+use Rattle.tree.proofs.callers.Partitions.{All-front, filter_around, none_pass, none_passed, not_both, IsPartitioned-parts}
+use Rattle.tree.proofs.FromLast.{none_of_fewer}
 use Rattle.tree.proofs.Inserting.{ended_some}
 use Rattle.tree.proofs.Keys.{behind-parts, first_key-append}
 use Rattle.tree.proofs.Overwriting.{between_is}
 use Rattle.tree.proofs.OverwrittenItems.{told_by_first}
-use Rattle.tree.proofs.Told.{filter_around, none_of_fewer}
 
 -- Items of which those of one leaf are changed: all before them are below the second bound, and none behind them does.
 module _ (p q : ℕ → Bool) (nested : (key : ℕ) → p key ≡ true → q key ≡ true)

@@ -1,39 +1,22 @@
 -- What a search by heads tells of the items before a bound, of those before another bound the last alone.
-use Rattle.std.proofs.Common.{◌≡◌, ℕ, zero, suc, ◌+◌, ◌-◌, ◌<◌, ◌≤◌, Bool, true, false, List, [], ◌∷◌, ◌++◌, Option, Some, IsTrue, ◌↔◌, length, get_or, slice_get, take, drop, filter, flat_map, map, All, refl, ◌∙◌, ap, inl, inr, arith, append-nil, append_assoc, length-append, ℤ, ◌<ℤ◌, ◌≤ℤ◌, slice_range, Any}
-use Rattle.std.proofs.Math.Seq.{drop-append-add}
-use Rattle.std.proofs.lemmas.Bool.{cases_Bool}
-use Rattle.std.proofs.lemmas.Grind.{flat_map-append}
+use Rattle.std.proofs.Common.{◌≡◌, ℕ, zero, suc, ◌+◌, ◌-◌, ◌<◌, ◌≤◌, Bool, true, false, List, [], ◌∷◌, ◌++◌, Option, Some, IsTrue, ◌↔◌, length, get_or, slice_get, drop, filter, flat_map, map, All, refl, ◌∙◌, ap, inl, inr, arith, append-nil, append_assoc, ℤ, ◌<ℤ◌, ◌≤ℤ◌, slice_range, Any}
 use Rattle.std.proofs.lemmas.List.{length-map}
-use Rattle.std.proofs.lemmas.List.Elements.{All-nil, filter-append}
+use Rattle.std.proofs.lemmas.List.Elements.{All-drop, All-filter, All-nil}
 use Rattle.tree.proofs.Words.{Arena, Entry, Node, Item, Tells, item_of, IsPartitioned, from_last, IsTold, items_in}
-use Rattle.tree.proofs.Above.{IsAbove, leaf_above}
+use Rattle.tree.proofs.Above.{IsAbove, leaf_above, not_above}
 use Rattle.tree.proofs.callers.Partitions.{All-front, none_pass, none_fail, IsPartitioned-parts, rest_fails}
-use Rattle.tree.proofs.FromLast.{from_last_of, leaf_from_last, none_told}
+use Rattle.tree.proofs.FromLast.{from_last_of, from_last_part}
+use Rattle.tree.proofs.GreatestParts.{Bounds}
 use Rattle.tree.proofs.Keys.{filter-items}
-use Rattle.tree.proofs.Looks.{IsLook, look_items}
-use Rattle.tree.proofs.Ways.{around_element}
+use Rattle.tree.proofs.Looks.{IsLook, around_child, leaf_from_last}
+use Rattle.tree.proofs.ToldKeys.{some_told}
 
--- those that pass, where all before a part and none behind it does
-pub filter_around : {X : Type 0} (p : X → Bool) (a c b : List X) → All (λ x. p x ≡ true) a
-    → All (λ x. p x ≡ false) b → filter p (a ++ (c ++ b)) ≡ a ++ filter p c
-filter_around p a c b t f =
-    rw (filter-append p a (c ++ b), (none_fail p a t).0, filter-append p c b, (none_pass p b f).0, append-nil (filter p c)) refl
-
-module _ {X : Type 0} (p q : X → Bool) (n : (x : X) → p x ≡ true → q x ≡ true) where
-  -- Where none is below the second bound, none passes the first.
-  pub none_of_fewer : (xs : List X) → All (λ x. q x ≡ false) xs → All (λ x. p x ≡ false) xs
-  none_of_fewer xs a i d inside = grind (arith, cases_Bool (p (get_or xs i d)), n (get_or xs i d), a i d inside)
-
-  -- From the last one before the first bound to the second one, where one of a part is below the bound, all before it are, and
-  -- none behind it is before the second bound.
-  from_last_part : (a c b : List X) → All (λ x. p x ≡ true) a → 1 ≤ length (filter p c)
-      → All (λ x. q x ≡ false) b → from_last_of p q (a ++ (c ++ b)) ≡ from_last_of p q c
-  from_last_part a c b before some behind =
-      let count : length (a ++ filter p c) - 1 ≡ length a + (length (filter p c) - 1) =
-      omega (arith, some, length-append a (filter p c)) in
-      let ps = filter_around p a c b before (none_of_fewer b behind) in
-      let qs = filter_around q a c b (λ i d inside. n _ (before i d inside)) behind in
-      rw (ps, qs, count) (drop-append-add a (filter q c) (length (filter p c) - 1))
+-- Where the entry's version isn't above it, no item's is.
+none_told : (v : ℤ) (e : Entry) (items : List Item) → Tells e items → e.version ≤ℤ v → (p q : Item → Bool)
+    → IsAbove v (from_last_of p q items) → ⊥
+none_told v e items t le p q a =
+    let passed = All-filter q (Bounds e.version) items t.greatest.bound in
+    not_above v e.version _ (All-drop (Bounds e.version) (length (filter p items) - 1) (filter q items) passed) le a
 
 -- None of these is below the bound.
 abbrev AllFail : (ℕ → Bool) → List Item → Type 0
@@ -84,7 +67,7 @@ module _ (p q : ℕ → Bool) (v : ℤ) (n : (key : ℕ) → p key ≡ true → 
             absurd (omega (arith, some, ap length z.0))
       ] in
       let rest = (IsPartitioned-parts (λ (x : Item). q x.key) before (part ++ after) d).1 in
-      rw (from_last_part _ (λ (x : Item). q x.key) (λ x. n x.key) before part after front some (behind after k rest)) answer
+      rw (from_last_part _ (λ (x : Item). q x.key) (λ x. n x.key) before part after front (inr some) (behind after k rest)) answer
 
   -- what is told of all items
   pub told_of_all : (items : List Item) (b : Bool) → IsTold p q v true items (Some b) → IsPartitioned (λ x. p x.key) items
@@ -96,7 +79,7 @@ module _ (p q : ℕ → Bool) (v : ℤ) (n : (key : ℕ) → p key ≡ true → 
   pub told_by_entry : (e : Entry) (part : List Item) (clear : Bool) → Tells e part → p e.key ≡ true → clear ≡ true
       → e.version ≤ℤ v → IsTold p q v clear part (Some false)
   told_by_entry e part clear t is_below c le =
-      told_part part clear false (rw (t.items_are, ← t.key, is_below) (omega arith)) (λ after k d. k c)
+      told_part part clear false (some_told p e part t is_below) (λ after k d. k c)
       ((λ yes. absurd (cc)), (λ above. absurd (none_told v e part t le (λ x. p x.key) (λ x. q x.key) above)))
 
 -- below a node
@@ -129,7 +112,5 @@ module _ {N : ℕ} (nodes : Arena (Node N)) (least height slot : ℕ) (p q : ℕ
       → IsTold p q v clear (items_in nodes height slot) result
   told_by_child some i e inside is next result =
       let below = λ (e : Entry). items_in nodes (height - 1) e.child in
-      let parts = rw (← is) at (look_items nodes least height slot p q es begin end k some
-      ∙ ap (flat_map below) (around_element es i e inside)
-      ∙ flat_map-append below (take i es) (get_or es i e ∷ drop (i + 1) es)) in
-      told_wider p q v k.nested _ _ (below e) _ clear next result parts
+      told_wider p q v k.nested _ _ (below e) _ clear next result
+      (around_child nodes least height slot p q es begin end k some i e inside is)

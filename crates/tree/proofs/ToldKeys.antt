@@ -1,8 +1,8 @@
 -- What is known of the first keys of nodes, where a search goes on with the last entry below the bound.
-use Rattle.std.proofs.Common.{◌≡◌, ℕ, ◌+◌, ◌-◌, ◌<◌, ◌≤◌, Bool, true, false, List, [], ◌∷◌, Some, None, length, get_or, slice_get, filter, flat_map, All, refl, sym, arith, ◌≢◌, Option, unwrap_or}
+use Rattle.std.proofs.Common.{◌≡◌, ℕ, ◌+◌, ◌-◌, ◌<◌, ◌≤◌, Bool, true, false, List, [], ◌∷◌, Some, None, length, get_or, slice_get, filter, flat_map, All, refl, sym, ap, arith, ◌≢◌, Option, unwrap_or}
 use Rattle.std.proofs.lemmas.Bool.{cases_Bool}
 use Rattle.std.proofs.lemmas.Option.{slice_get_read}
-use Rattle.tree.proofs.Words.{Arena, Entry, Node, KeyBytes, IsCommonPrefixAt, Item, Tells, CanReach, IsPartitioned, index_in, entries_at, items_in}
+use Rattle.tree.proofs.Words.{Arena, Entry, Node, KeyBytes, IsCommonPrefix, IsCommonPrefixAt, Item, Tells, CanReach, IsPartitioned, index_in, entries_at, items_in}
 use Rattle.tree.proofs.callers.Partitions.{none_pass, rest_fails, length-items_below}
 use Rattle.tree.proofs.HeadCounts.{passing_at, passing_inside}
 use Rattle.tree.proofs.FirstKeys.{first_tells, items_under, node_items, node_tells}
@@ -12,6 +12,19 @@ pub some_pass : (is_below : ℕ → Bool) (es : List Entry) → 1 ≤ length es
     → ((e : Entry) → slice_get es 0 ≡ Some e → is_below e.key ≡ true) → 1 ≤ length (filter (λ e. is_below e.key) es)
 some_pass is_below [] some first = absurd (omega arith)
 some_pass is_below (e ∷ es) some first = let t = first e refl in rw t (omega arith)
+
+-- Where an entry passes, some of the items that it tells of do.
+pub some_told : (is_below : ℕ → Bool) (e : Entry) (items : List Item) → Tells e items → is_below e.key ≡ true
+    → 1 ≤ length (filter (λ x. is_below x.key) items)
+some_told is_below e items t passes = rw (t.items_are, ← t.key, passes) (omega arith)
+
+-- So it is where bytes are known that its key and the target begin with in common.
+pub known_some_below : (bytes : KeyBytes) (is_below : ℕ → Bool) (target : List ℕ) {known : Option ℕ} {n : ℕ} (e : Entry)
+    (items : List Item) → Tells e items → known ≡ Some n → IsCommonPrefix bytes is_below target known e.key
+    → filter (λ x. is_below x.key) items ≢ []
+known_some_below bytes is_below target e items t is knows none =
+    let some = some_told is_below e items t (rw is at knows).0 in
+    omega (arith, some, ap length none)
 
 -- The last of those that pass does.
 pub last_passes : (is_below : ℕ → Bool) (es : List Entry) (i : ℕ) (e : Entry) → IsPartitioned (λ e. is_below e.key) es

@@ -9,7 +9,7 @@ pub use Rattle.tree.specs.declared.node.TheConstants.{PADDING}
 pub use Rattle.tree.specs.declared.overwrite.Written.{Written}
 pub use Rattle.tree.specs.declared.overwrite.Written.TheVariants.{Partly, Whole}
 pub use Rattle.tree.specs.Expire.{RemovesExpired, GivesUnexpired}
-pub use Rattle.tree.specs.Finding.{CanStep, IsStep, IsLowerBound}
+pub use Rattle.tree.specs.Finding.{CanFind, CanStep, IsStep, IsLowerBound}
 pub use Rattle.tree.specs.Heads.{KeyBytes, IsCommonPrefix, IsCommonPrefixAt, Begins, head_behind, head_at, KeyHeads, AreHeads, IsBelowInOrder, IsCommonPrefixLen, HasPrefix, IsTargetHead, IsKnown, IsHeadBeside, AllAreHeads}
 pub use Rattle.tree.specs.Item.{Item, item_of, IsMost, Tells, IsGreatest, version_of, IsGreatestWith, greater_of}
 pub use Rattle.tree.specs.Node.{entries_of, key_heads_of, keys_of, all_heads_of, heads_list}

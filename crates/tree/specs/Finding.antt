@@ -12,9 +12,10 @@ HasHead bytes target head key_heads = IfSome head (λ d. IsTargetHead bytes key_
 
 -- That, where the first key and the target are known to begin with so many bytes in common. It is missing only where the first key
 -- may be empty, or where they don't begin as all keys do.
-pub record IsOwnHead (bytes : KeyBytes) (target : List ℕ) (known : ℕ) (own : Option ℕ) (key_heads : KeyHeads) : Type 0 where
-  pub head : HasHead bytes target own key_heads
-  pub none : own ≡ None → get_or key_heads.heads 0 0 ≢ 0 → known < key_heads.prefix_len
+pub record IsHeadFor (bytes : KeyBytes) (target : List ℕ) (known : ℕ) (from_head : Option ℕ) (key_heads : KeyHeads)
+    : Type 0 where
+  pub head : HasHead bytes target from_head key_heads
+  pub none : from_head ≡ None → get_or key_heads.heads 0 0 ≢ 0 → known < key_heads.prefix_len
 
 module _ {N : ℕ} where
   -- a node that has entries, of which those below the bound come first, and that knows the bytes of their keys
@@ -29,18 +30,18 @@ module _ {N : ℕ} where
     pub can_find : CanFind bytes is_below node
     pub known : IsCommonPrefixAt bytes is_below target common_prefix_len (entries_of node) 0
 
-  -- likewise with the own head of the target, as those bytes tell it
-  pub record CanStepBy (bytes : KeyBytes) (is_below : ℕ → Bool) (target : List ℕ) (node : Node N) (common_prefix_len own : Option ℕ)
-      : Type 0 where
+  -- likewise with the head of the target, as those bytes tell it
+  pub record CanStepBy (bytes : KeyBytes) (is_below : ℕ → Bool) (target : List ℕ) (node : Node N) (common_prefix_len : Option ℕ)
+      (from_head : Option ℕ) : Type 0 where
     pub can_step : CanStep bytes is_below target node common_prefix_len
-    pub head : IsOwnHead bytes target (unwrap_or common_prefix_len 0) own (key_heads_of node)
+    pub head : IsHeadFor bytes target (unwrap_or common_prefix_len 0) from_head (key_heads_of node)
 
   -- A node that was searched so, where the first key is below the bound. There is a head of the target where that is known to
   -- begin as all keys do.
-  pub record IsSearched (bytes : KeyBytes) (is_below : ℕ → Bool) (target : List ℕ) (node : Node N) (common_prefix_len : ℕ) (own : Option ℕ)
-      : Type 0 where
+  pub record IsSearched (bytes : KeyBytes) (is_below : ℕ → Bool) (target : List ℕ) (node : Node N) (common_prefix_len : ℕ)
+      (from_head : Option ℕ) : Type 0 where
     pub can_step : CanStep bytes is_below target node (Some common_prefix_len)
-    pub own_head : HasHead bytes target own (key_heads_of node)
+    pub head : HasHead bytes target from_head (key_heads_of node)
 
   -- how many of the entries are below the bound
   pub record IsLowerBound (is_below : ℕ → Bool) (node : Node N) (count : ℕ) : Type 0 where

@@ -1,23 +1,24 @@
--- What answers a question: the leaf to which its way leads, or else the keys. This project's own.
-use Rattle.std.specs.Prelude.{◌≡◌, ◌≤◌, ◌<ℤ◌, ◌↔◌, ◌++◌, ℕ, ℤ, Bool, false, List, length, Option, Some, IfSome, IsTrue}
+-- What answers a question: the leaf to which it leads, or else the keys. This project's own.
+use Rattle.std.specs.Prelude.{◌≡◌, ◌≢◌, ◌≤◌, ◌<ℤ◌, ◌↔◌, ◌++◌, ℕ, ℤ, Bool, false, List, [], length, Option, Some, IfSome, IsTrue}
 use Rattle.std.specs.List.{All, Any}
 use Rattle.arena.specs.Arena.{Arena, IsLive}
 use Rattle.tree.specs.declared.node.Node.{Node}
 use Rattle.tree.specs.declared.approach.Approach.{Approach}
 use Rattle.tree.specs.declared.approach.Approach.TheVariants.{Leaf, Clear, Open}
 use Rattle.tree.specs.declared.approach.Near.{Near}
-use Rattle.tree.specs.Finding.{IsOwnHead}
+use Rattle.tree.specs.Finding.{IsHeadFor}
 use Rattle.tree.specs.Heads.{KeyBytes, IsCommonPrefixAt}
 use Rattle.tree.specs.Item.{Item}
 use Rattle.tree.specs.Node.{all_heads_of}
-use Rattle.tree.specs.Path.{IsPartitioned, from_last}
+use Rattle.tree.specs.Path.{IsPartitioned, from_last, items_below}
 use Rattle.tree.specs.Reached.{CanReach}
 use Rattle.tree.specs.Subtree.{entries_at, items_in}
 
--- a subtree that a question can be asked of: both bounds go through its items
+-- a subtree that a question can be asked of: both bounds go through its items, and some are below the first one
 pub record IsAsked {N : ℕ} (nodes : Arena (Node N)) (least height slot : ℕ) (bytes : KeyBytes) (p q : ℕ → Bool) : Type 0 where
   pub can_reach : CanReach bytes p nodes least height slot
   pub to : IsPartitioned (λ x. q x.key) (items_in nodes height slot)
+  pub some_below : items_below p (items_in nodes height slot) ≢ []
 
 -- A version of the items before the second bound, of those before the first one the last alone, is above this one.
 abbrev pub Exceeds : (ℕ → Bool) → (ℕ → Bool) → ℤ → List Item → Type 0
@@ -43,10 +44,11 @@ pub record IsFor {N : ℕ} (nodes : Arena (Node N)) (height slot : ℕ) (bytes :
   pub near_is : IsNear nodes bytes p target near
   pub from : IsPartitioned (λ x. p x.key) (items_in nodes 0 near.leaf)
   pub to : IsPartitioned (λ x. q x.key) (items_in nodes 0 near.leaf)
+  pub some_below : items_below p (items_in nodes 0 near.leaf) ≢ []
   pub tells : (result : Option Bool) → IsTold p q v near.clear (items_in nodes 0 near.leaf) result
       → IsTold p q v clear (items_in nodes height slot) result
 
--- where a way leads that begins with a subtree
+-- where a question leads from a subtree on
 abbrev pub IsApproach : {N : ℕ} → Arena (Node N) → ℕ → ℕ → KeyBytes → (ℕ → Bool) → (ℕ → Bool) → List ℕ → ℤ → Bool → Approach
     → Type 0
 IsApproach nodes height slot bytes p q target v clear (Leaf near) = IsFor nodes height slot bytes p q target v clear near
@@ -59,8 +61,9 @@ IsLeading nodes bytes p target (Leaf near) = IsNear nodes bytes p target near
 IsLeading nodes bytes p target Clear = Unit {0}
 IsLeading nodes bytes p target Open = Unit {0}
 
--- what the first look gives at the leaf to which a way leads
+-- what the first look gives at the leaf to which a question leads
 abbrev pub IsLooked : {N : ℕ} → Arena (Node N) → KeyBytes → List ℕ → Approach → Option ℕ → Type 0
-IsLooked nodes bytes target (Leaf near) own = IfSome (all_heads_of nodes near.leaf) (IsOwnHead bytes target near.common_prefix_len own)
-IsLooked nodes bytes target Clear own = Unit {0}
-IsLooked nodes bytes target Open own = Unit {0}
+IsLooked nodes bytes target (Leaf near) from_head =
+    IfSome (all_heads_of nodes near.leaf) (IsHeadFor bytes target near.common_prefix_len from_head)
+IsLooked nodes bytes target Clear from_head = Unit {0}
+IsLooked nodes bytes target Open from_head = Unit {0}

@@ -7,7 +7,8 @@ use Rattle.std.specs.Ordering.{nat_cmp}
 use Rattle.arena.specs.Arena.{Arena, spare_of}
 use Rattle.tree.specs.declared.node.Node.{Node}
 use Rattle.tree.specs.Item.{Item}
-use Rattle.tree.specs.Heads.{KeyHeads}
+use Rattle.tree.specs.Heads.{AllAreHeads, KeyBytes, KeyHeads}
+use Rattle.tree.specs.Path.{IsPartitioned}
 use Rattle.tree.specs.Subtree.{entries_at, items_in, slots_in, IsSubtree}
 use Rattle.tree.specs.Replace.{IsKeyless}
 
@@ -23,6 +24,13 @@ pub record Items : Type 0 where
 -- what the node at a slot knows
 abbrev pub tree_heads : Items → ℕ → Option KeyHeads
 tree_heads tree slot = find nat_cmp slot tree.all_heads
+
+-- a tree that is searched by a bound
+pub record CanSearchItems (is_below : ℕ → Bool) (bytes : KeyBytes) (tree : Items) : Type 0 where
+  -- The items below the bound come first.
+  pub partitioned : IsPartitioned (λ x. is_below x.key) tree.items
+  -- What each node knows of the bytes of its keys is right.
+  pub headed : AllAreHeads bytes (tree_heads tree)
 
 -- each key of which a node knows is that of an item
 abbrev pub KnowItems : Items → Type 0

@@ -1,12 +1,12 @@
 //! The way of a question: down a tree to the leaf that answers it, or to a subtree that tells the answer.
 
-ghost use Rattle.std.specs.Prelude.{◌≡◌, ◌≢◌, ◌≤◌, ◌<◌, ◌+◌, true, false, length, slice_get, Some, [], IsTrue};
+ghost use Rattle.std.specs.Prelude.{◌≡◌, ◌≤◌, ◌<◌, ◌+◌, true, false, length, slice_get, Some, IsTrue};
 ghost use Rattle.tree.specs.Finding.{HasHead, IsSearched};
 ghost use Rattle.tree.specs.Heads.{IsCommonPrefixAt};
 ghost use Rattle.tree.specs.Node.{entries_of, key_heads_of};
-ghost use Rattle.tree.specs.Path.{index_in, items_below};
+ghost use Rattle.tree.specs.Path.{index_in};
 ghost use Rattle.tree.specs.Question.{IsApproach, IsAsked};
-ghost use Rattle.tree.specs.Subtree.{entries_at, items_in};
+ghost use Rattle.tree.specs.Subtree.{entries_at};
 ghost use Rattle.tree.specs.Tree.{least_of};
 ghost use Rattle.tree.specs.declared.entry.Entry.{Entry};
 
@@ -66,8 +66,8 @@ pub fn descend<P: Bound, Q: Bound, const N: usize>(
     }
     let node = nodes.header_ref(slot);
     let entries = node.entries();
-    let own = node.head_for(&question.from, common_prefix_len);
-    let step = node.step_by(&question.from, common_prefix_len, own);
+    let from_head = node.head_for(&question.from, common_prefix_len);
+    let step = node.step_by(&question.from, common_prefix_len, from_head);
     let entry = entries[step.index];
     // Above the lowest inner node the entry behind is looked at only where the subtree tells the answer.
     let look = height == 1 || entry.version <= question.version;
@@ -76,7 +76,7 @@ pub fn descend<P: Bound, Q: Bound, const N: usize>(
         step.index,
         question,
         common_prefix_len,
-        own,
+        from_head,
         clear,
         look,
     );
@@ -102,19 +102,20 @@ pub fn descend<P: Bound, Q: Bound, const N: usize>(
 
 // Returns whether the items behind the child at an index, that of the last entry below the first bound, don't come before the second
 // bound. `common_prefix_len` is how many bytes the first key of the node and the target of the first bound begin with in common, and
-// `own` is the head of that target, if it is known to begin as all keys do. `clear` tells of the items behind the node's what this
-// tells of those behind the child. Unless `look` is set, the entry behind isn't looked at, and may stand before the second bound.
+// `from_head` is the head of that target, if it is known to begin as all keys do. `clear` tells of the items behind the node's what
+// this tells of those behind the child. Unless `look` is set, the entry behind isn't looked at, and may stand before the second
+// bound.
 fn is_clear<P: Bound, Q: Bound, const N: usize>(
     node: &Node<N>,
     index: usize,
     question: &Question<P, Q>,
     common_prefix_len: usize,
-    own: Option<u32>,
+    from_head: Option<u32>,
     clear: bool,
     look: bool,
 ) -> bool
     requires searched { IsSearched (P.bytes question.now.from) (P.below question.now.from) (P.target question.now.from) node.now
-        common_prefix_len own }
+        common_prefix_len from_head }
     requires within { index < length (entries_of node.now) }
     requires last_below { index ≡ index_in (P.below question.now.from) (entries_of node.now) }
     ensures next { IsTrue result → (e : Entry) → slice_get (entries_of node.now) (index + 1) ≡ Some e
@@ -129,24 +130,24 @@ fn is_clear<P: Bound, Q: Bound, const N: usize>(
     if !look {
         return false;
     }
-    let head = end_head(node, question, common_prefix_len, own);
+    let head = end_head(node, question, common_prefix_len, from_head);
     !node.is_below_at(next, &question.to, head)
 }
 
-/// Returns the head of the target of the second bound, if it is known to begin as all keys of the node do. `own` is that of the first
-/// one's.
+/// Returns the head of the target of the second bound, if it is known to begin as all keys of the node do. `from_head` is that of the
+/// first one's.
 pub fn end_head<P: Bound, Q: Bound, const N: usize>(
     node: &Node<N>,
     question: &Question<P, Q>,
     common_prefix_len: usize,
-    own: Option<u32>,
+    from_head: Option<u32>,
 ) -> Option<u32>
     requires searched { IsSearched (P.bytes question.now.from) (P.below question.now.from) (P.target question.now.from) node.now
-        common_prefix_len own }
+        common_prefix_len from_head }
     ensures head { HasHead (Q.bytes question.now.to) (Q.target question.now.to) result (key_heads_of node.now) }
 {
     let targets_prefix_len = question.targets_prefix_len;
-    let has_prefix = own.is_some() && node.prefix_len() <= targets_prefix_len;
+    let has_prefix = from_head.is_some() && node.prefix_len() <= targets_prefix_len;
     node.head_given(
         has_prefix,
         &question.to,
@@ -162,7 +163,6 @@ pub fn descend_from<P: Bound, Q: Bound, const N: usize>(
 ) -> Approach
     requires asked { IsAsked nodes.now (least_of N) root.height root.slot (P.bytes question.now.from)
         (P.below question.now.from) (Q.below question.now.to) }
-    requires some_below { items_below (P.below question.now.from) (items_in nodes.now root.height root.slot) ≢ [] }
     ensures approach { IsApproach nodes.now root.height root.slot (P.bytes question.now.from) (P.below question.now.from)
         (Q.below question.now.to) (P.target question.now.from) question.now.version true result }
 {

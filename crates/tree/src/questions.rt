@@ -1,12 +1,12 @@
-//! How questions are answered side by side. The way of each is gone down to its leaf, then each leaf is looked at for the
-//! first time, and then each question is answered. So the memory of the leaves is waited for at once.
+//! How questions are answered side by side. Each goes down to its leaf, then each leaf is looked at for the first time, and then
+//! each question is answered. So the memory of the leaves is waited for at once.
 
-ghost use Rattle.std.specs.Prelude.{◌≡◌, ◌≢◌, ◌≤◌, ◌<◌, ◌<ℤ◌, ◌↔◌, true, false, length, map, Some, [], IfSome, IsTrue};
-ghost use Rattle.std.specs.List.{All, AllZip, Any};
-ghost use Rattle.tree.specs.Finding.{IsLowerBound, IsOwnHead, IsSearched};
+ghost use Rattle.std.specs.Prelude.{◌≡◌, ◌≤◌, ◌<◌, ◌↔◌, true, false, length, map, Some, IfSome, IsTrue};
+ghost use Rattle.std.specs.List.{All, AllZip};
+ghost use Rattle.tree.specs.Finding.{IsLowerBound, IsHeadFor, IsSearched};
 ghost use Rattle.tree.specs.Heads.{AllAreHeads};
 ghost use Rattle.tree.specs.Node.{all_heads_of, entries_of};
-ghost use Rattle.tree.specs.Path.{IsPartitioned, items_below};
+ghost use Rattle.tree.specs.Path.{IsPartitioned};
 ghost use Rattle.tree.specs.Question.{Exceeds, IsApproach, IsAsked, IsLeading, IsLooked, IsNear, IsTold};
 ghost use Rattle.tree.specs.Subtree.{items_in};
 ghost use Rattle.tree.specs.Tree.{least_of};
@@ -16,76 +16,80 @@ use crate::approach::{Approach, Near, descend_from, end_head};
 use crate::bound::Bound;
 use crate::node::Node;
 use crate::question::{Question, SIDE};
-use crate::root::{Root, last_and_next};
+use crate::root::Root;
 use crate::search::greatest;
 use crate::span::any_above;
 use arena::Arena;
 use arrayvec::ArrayVec;
 
-/// Where the way of a question leads, and what the first look at the leaf gives.
+/// Where a question leads, and what the first look at the leaf gives.
 #[derive(Clone, Copy, Debug, Default)]
 pub struct Look {
-    pub way: Approach,
+    pub approach: Approach,
     /// The head there of the target of the first bound, if it is known to begin as all keys of the leaf do.
-    pub own: Option<u32>,
+    pub from_head: Option<u32>,
 }
 
-/// Looks at the leaf to which a way leads, for the first time.
-pub fn look_at<P: Bound, const N: usize>(nodes: &Arena<Node<N>>, way: &Approach, from: &P) -> Look
-    requires leading { IsLeading nodes.now (P.bytes from.now) (P.below from.now) (P.target from.now) way.now }
+/// Looks at the leaf to which a question leads, for the first time.
+pub fn look_at<P: Bound, const N: usize>(
+    nodes: &Arena<Node<N>>,
+    approach: &Approach,
+    from: &P,
+) -> Look
+    requires leading { IsLeading nodes.now (P.bytes from.now) (P.below from.now) (P.target from.now) approach.now }
     requires headed { AllAreHeads (P.bytes from.now) (all_heads_of nodes.now) }
-    ensures way { result.way ≡ way.now }
-    ensures looked { IsLooked nodes.now (P.bytes from.now) (P.target from.now) way.now result.own }
+    ensures approach { result.approach ≡ approach.now }
+    ensures looked { IsLooked nodes.now (P.bytes from.now) (P.target from.now) approach.now result.from_head }
 {
-    let Approach::Leaf(near) = way else {
+    let Approach::Leaf(near) = approach else {
         return Look {
-            way: *way,
-            own: None,
+            approach: *approach,
+            from_head: None,
         };
     };
     let leaf = nodes.header_ref(near.leaf);
     Look {
-        way: *way,
-        own: leaf.head_for(from, near.common_prefix_len),
+        approach: *approach,
+        from_head: leaf.head_for(from, near.common_prefix_len),
     }
 }
 
-// Answers a question if the leaf tells the answer. `own` is what the first look at the leaf gave.
+// Answers a question if the leaf tells the answer. `from_head` is what the first look at the leaf gave.
 fn leaf_told<P: Bound, Q: Bound, const N: usize>(
     nodes: &Arena<Node<N>>,
     near: Near,
     question: &Question<P, Q>,
-    own: Option<u32>,
+    from_head: Option<u32>,
 ) -> Option<bool>
     requires asked { IsAsked nodes.now (least_of N) 0 near.leaf (P.bytes question.now.from) (P.below question.now.from)
         (Q.below question.now.to) }
     requires near { IsNear nodes.now (P.bytes question.now.from) (P.below question.now.from) (P.target question.now.from) near }
-    requires own { IfSome (all_heads_of nodes.now near.leaf) (IsOwnHead (P.bytes question.now.from) (P.target question.now.from)
-        near.common_prefix_len own) }
+    requires from_head { IfSome (all_heads_of nodes.now near.leaf) (IsHeadFor (P.bytes question.now.from) (P.target question.now.from)
+        near.common_prefix_len from_head) }
     ensures told { IsTold (P.below question.now.from) (Q.below question.now.to) question.now.version near.clear
         (items_in nodes.now 0 near.leaf) result }
 {
     let node = nodes.header_ref(near.leaf);
     let entries = node.entries();
-    let begin = node.lower_bound_by_head(&question.from, own);
-    let end = end_in(node, begin, question, near.common_prefix_len, own);
+    let begin = node.lower_bound_by_head(&question.from, from_head);
+    let end = end_in(node, begin, question, near.common_prefix_len, from_head);
     if end == entries.len() && !near.clear {
         return None;
     }
     Some(any_above(&entries[begin - 1..end], question.version))
 }
 
-// Returns how many of the entries are below the second bound. `begin` is how many are below the first one, and `own` is the head of
-// the target of that one.
+// Returns how many of the entries are below the second bound. `begin` is how many are below the first one, and `from_head` is the
+// head of the target of that one.
 fn end_in<P: Bound, Q: Bound, const N: usize>(
     node: &Node<N>,
     begin: usize,
     question: &Question<P, Q>,
     common_prefix_len: usize,
-    own: Option<u32>,
+    from_head: Option<u32>,
 ) -> usize
     requires searched { IsSearched (P.bytes question.now.from) (P.below question.now.from) (P.target question.now.from) node.now
-        common_prefix_len own }
+        common_prefix_len from_head }
     requires to { IsPartitioned (λ e. Q.below question.now.to e.key) (entries_of node.now) }
     requires begin { IsLowerBound (P.below question.now.from) node.now begin }
     ensures count { IsLowerBound (Q.below question.now.to) node.now result }
@@ -93,11 +97,11 @@ fn end_in<P: Bound, Q: Bound, const N: usize>(
     if question.is_single {
         return begin;
     }
-    let head = end_head(node, question, common_prefix_len, own);
+    let head = end_head(node, question, common_prefix_len, from_head);
     node.lower_bound_from(begin, &question.to, head)
 }
 
-/// Answers a question. `look` is what the first look at the leaf gave to which its way leads.
+/// Answers a question. `look` is what the first look at the leaf gave to which it leads.
 pub fn answer<P: Bound, Q: Bound, const N: usize>(
     nodes: &Arena<Node<N>>,
     root: Root,
@@ -106,16 +110,18 @@ pub fn answer<P: Bound, Q: Bound, const N: usize>(
 ) -> bool
     requires asked { IsAsked nodes.now (least_of N) root.height root.slot (P.bytes question.now.from)
         (P.below question.now.from) (Q.below question.now.to) }
-    requires some_below { items_below (P.below question.now.from) (items_in nodes.now root.height root.slot) ≢ [] }
     requires approach { IsApproach nodes.now root.height root.slot (P.bytes question.now.from) (P.below question.now.from)
-        (Q.below question.now.to) (P.target question.now.from) question.now.version true look.way }
-    requires looked { IsLooked nodes.now (P.bytes question.now.from) (P.target question.now.from) look.way look.own }
+        (Q.below question.now.to) (P.target question.now.from) question.now.version true look.approach }
+    requires looked { IsLooked nodes.now (P.bytes question.now.from) (P.target question.now.from) look.approach look.from_head }
     ensures above { IsTrue result ↔ Exceeds (P.below question.now.from) (Q.below question.now.to) question.now.version
         (items_in nodes.now root.height root.slot) }
 {
-    let Look { way, own } = look;
-    match way {
-        Approach::Leaf(near) => match leaf_told(nodes, near, question, own) {
+    let Look {
+        approach,
+        from_head,
+    } = look;
+    match approach {
+        Approach::Leaf(near) => match leaf_told(nodes, near, question, from_head) {
             Some(above) => above,
             None => exceeds(nodes, root, question),
         },
@@ -124,7 +130,7 @@ pub fn answer<P: Bound, Q: Bound, const N: usize>(
     }
 }
 
-// Answers a question by a way down the tree along each of its bounds.
+// Answers a question by one walk down the tree, by both of its bounds.
 fn exceeds<P: Bound, Q: Bound, const N: usize>(
     nodes: &Arena<Node<N>>,
     root: Root,
@@ -132,18 +138,13 @@ fn exceeds<P: Bound, Q: Bound, const N: usize>(
 ) -> bool
     requires asked { IsAsked nodes.now (least_of N) root.height root.slot (P.bytes question.now.from)
         (P.below question.now.from) (Q.below question.now.to) }
-    requires some_below { items_below (P.below question.now.from) (items_in nodes.now root.height root.slot) ≢ [] }
     ensures above { IsTrue result ↔ Exceeds (P.below question.now.from) (Q.below question.now.to) question.now.version
         (items_in nodes.now root.height root.slot) }
 {
     let Root { slot, height } = root;
     let version = question.version;
-    let from = &question.from;
-    if last_and_next(nodes, root, from).0.unwrap().version > version {
-        return true;
-    }
-    let to = &question.to;
-    greatest(nodes, slot, height, Some(from), Some(to), Some(version)).unwrap() > version
+    let (from, to) = (Some(&question.from), Some(&question.to));
+    greatest(nodes, slot, height, from, to, Some(version)).unwrap() > version
 }
 
 /// Goes down a tree for each question. There are at most [`SIDE`].
@@ -155,34 +156,33 @@ pub fn descend_each<P: Bound, Q: Bound, const N: usize>(
     requires few { length questions.now ≤ SIDE }
     requires asked { All (λ q. IsAsked nodes.now (least_of N) root.now.height root.now.slot (P.bytes q.from) (P.below q.from)
         (Q.below q.to)) questions.now }
-    requires some_below { All (λ q. items_below (P.below q.from) (items_in nodes.now root.now.height root.now.slot) ≢ []) questions.now }
-    ensures ways { AllZip (λ q way. IsApproach nodes.now root.now.height root.now.slot (P.bytes q.from)
-        (P.below q.from) (Q.below q.to) (P.target q.from) q.version true way) questions.now result.items }
+    ensures approaches { AllZip (λ q approach. IsApproach nodes.now root.now.height root.now.slot (P.bytes q.from)
+        (P.below q.from) (Q.below q.to) (P.target q.from) q.version true approach) questions.now result.items }
 {
-    let mut ways = ArrayVec::new();
+    let mut approaches = ArrayVec::new();
     for question in questions {
-        ways.push(descend_from(nodes, *root, question));
+        approaches.push(descend_from(nodes, *root, question));
     }
-    ways
+    approaches
 }
 
-/// Looks at each leaf to which a way leads, for the first time. There are at most [`SIDE`].
+/// Looks at each leaf to which a question leads, for the first time. There are at most [`SIDE`].
 pub fn look_at_each<P: Bound, Q: Bound, const N: usize>(
     nodes: &Arena<Node<N>>,
     questions: &[Question<P, Q>],
-    ways: &[Approach],
+    approaches: &[Approach],
 ) -> ArrayVec<Look, SIDE>
     requires few { length questions.now ≤ SIDE }
-    requires leading { AllZip (λ q way. IsLeading nodes.now (P.bytes q.from) (P.below q.from) (P.target q.from) way)
-        questions.now ways.now }
+    requires leading { AllZip (λ q approach. IsLeading nodes.now (P.bytes q.from) (P.below q.from) (P.target q.from) approach)
+        questions.now approaches.now }
     requires headed { All (λ q. AllAreHeads (P.bytes q.from) (all_heads_of nodes.now)) questions.now }
-    ensures ways { map (λ l. l.way) result.items ≡ ways.now }
-    ensures looked { AllZip (λ q l. IsLooked nodes.now (P.bytes q.from) (P.target q.from) l.way l.own)
+    ensures approaches { map (λ l. l.approach) result.items ≡ approaches.now }
+    ensures looked { AllZip (λ q l. IsLooked nodes.now (P.bytes q.from) (P.target q.from) l.approach l.from_head)
         questions.now result.items }
 {
     let mut looks = ArrayVec::new();
-    for (question, way) in questions.iter().zip(ways) {
-        looks.push(look_at(nodes, way, &question.from));
+    for (question, approach) in questions.iter().zip(approaches) {
+        looks.push(look_at(nodes, approach, &question.from));
     }
     looks
 }
@@ -197,10 +197,9 @@ pub fn answer_each<P: Bound, Q: Bound, const N: usize>(
     requires few { length questions.now ≤ SIDE }
     requires asked { All (λ q. IsAsked nodes.now (least_of N) root.now.height root.now.slot (P.bytes q.from) (P.below q.from)
         (Q.below q.to)) questions.now }
-    requires some_below { All (λ q. items_below (P.below q.from) (items_in nodes.now root.now.height root.now.slot) ≢ []) questions.now }
     requires approach { AllZip (λ q l. IsApproach nodes.now root.now.height root.now.slot (P.bytes q.from)
-        (P.below q.from) (Q.below q.to) (P.target q.from) q.version true l.way) questions.now looks.now }
-    requires looked { AllZip (λ q l. IsLooked nodes.now (P.bytes q.from) (P.target q.from) l.way l.own) questions.now looks.now }
+        (P.below q.from) (Q.below q.to) (P.target q.from) q.version true l.approach) questions.now looks.now }
+    requires looked { AllZip (λ q l. IsLooked nodes.now (P.bytes q.from) (P.target q.from) l.approach l.from_head) questions.now looks.now }
     ensures told { AllZip (λ q above. IsTrue above ↔ Exceeds (P.below q.from) (Q.below q.to) q.version
         (items_in nodes.now root.now.height root.now.slot)) questions.now result.items }
 {

@@ -4,7 +4,8 @@ ghost use Rattle.std.specs.Prelude.{◌≡◌, ◌<◌, ◌≤◌, ℕ, true, no
 ghost use Rattle.tree.specs.Item.{item_of, IsGreatestWith};
 ghost use Rattle.tree.specs.Subtree.{items_in, IsSubtree};
 ghost use Rattle.tree.specs.Tree.{least_of};
-ghost use Rattle.tree.specs.Path.{IsPartitioned, behind as behind_partitioned, index_in, first_key, between};
+ghost use Rattle.tree.specs.Path.{IsPartitioned, behind as behind_partitioned, index_in, first_key, below_from, from_last};
+ghost use Rattle.tree.specs.Reached.{CanReach};
 
 use crate::bound::Bound;
 use crate::entry::Entry;
@@ -33,7 +34,8 @@ pub fn key_at(entries: &[Entry], index: usize, behind: Option<Slot>) -> Option<S
     }
 }
 
-/// Returns the greatest of a version, which may be missing, and those of the items from one bound to another. Subtrees that have
+/// Returns the greatest of a version, which may be missing, and those of the items before the second bound, of those before the first
+/// one the last alone. Where the first bound is missing, no item is before it; where the second one is, all are. Subtrees that have
 /// none above it are passed over.
 pub fn greatest<'a, P: Bound, Q: Bound, const N: usize>(
     nodes: &Arena<Node<N>>,
@@ -44,19 +46,20 @@ pub fn greatest<'a, P: Bound, Q: Bound, const N: usize>(
     least: Option<i64>,
 ) -> Option<i64>
     requires subtree { IsSubtree nodes.now (least_of N) height slot }
-    requires from { IfSome from (λ p. IsPartitioned (λ x. P.below p.now x.key) (items_in nodes.now height slot)) }
-    requires to { IfSome to (λ q. IsPartitioned (λ x. Q.below q.now x.key) (items_in nodes.now height slot)) }
+    requires from { IfSome from (λ p. CanReach (P.bytes p.now) (P.below p.now) nodes.now (least_of N) height slot) }
+    requires to { IfSome to (λ q. CanReach (Q.bytes q.now) (Q.below q.now) nodes.now (least_of N) height slot) }
     requires nested { IfSome from (λ p. IfSome to (λ q. (key : ℕ) → P.below p.now key ≡ true → Q.below q.now key ≡ true)) }
-    ensures greatest { IsGreatestWith least (between (option_map (λ p. P.below p.now) from.entry)
+    ensures greatest { IsGreatestWith least (from_last (below_from (option_map (λ p. P.below p.now) from.entry))
         (option_map (λ q. Q.below q.now) to.entry) (items_in nodes.now height slot)) result }
 {
-    let entries = nodes.header_ref(slot).entries();
-    let begin = begin_of(entries, from);
-    let end = end_of(entries, to);
-    if height == 0 {
-        return greater(least, greatest_of(&entries[begin..end]));
-    }
+    let node = nodes.header_ref(slot);
+    let begin = begin_of(node, from);
+    let end = end_of(node, to);
+    let entries = node.entries();
     let first = begin.saturating_sub(1);
+    if height == 0 {
+        return greater(least, greatest_of(&entries[first..end]));
+    }
     let last = end.saturating_sub(1);
     let (left, right) = (entries[first], entries[last]);
     if first == last {

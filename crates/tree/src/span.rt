@@ -1,35 +1,34 @@
 //! The entries from one bound to another.
 
-ghost use Rattle.std.specs.Prelude.{◌≡◌, ◌≤◌, ◌<ℤ◌, ◌↔◌, [], length, filter, option_map, IfSome, IsTrue, MatchOption};
+ghost use Rattle.std.specs.Prelude.{◌≡◌, ◌<ℤ◌, ◌↔◌, [], option_map, IfSome, IsTrue, MatchOption};
 ghost use Rattle.std.specs.List.{Any};
+ghost use Rattle.tree.specs.Finding.{CanFind, IsLowerBound};
 ghost use Rattle.tree.specs.Item.{IsGreatest, version_of, greater_of};
-ghost use Rattle.tree.specs.Path.{IsPartitioned, below_from, below_to};
+ghost use Rattle.tree.specs.Path.{below_from, below_to};
 
 use crate::bound::Bound;
 use crate::entry::Entry;
-use crate::search::lower_bound;
+use crate::node::Node;
 
-/// Returns how many of the entries stand before the first bound: none where it is missing.
-pub fn begin_of<P: Bound>(entries: &[Entry], from: Option<&P>) -> usize
-    requires partitioned { IsPartitioned (λ e. below_from (option_map (λ p. P.below p.now) from) e.key) entries.now }
-    ensures within { result ≤ length entries.now }
-    ensures count { result ≡ length (filter (λ e. below_from (option_map (λ p. P.below p.now) from.entry) e.key) entries.now) }
+/// Returns how many of the entries of a node stand before the first bound: none where it is missing.
+pub fn begin_of<P: Bound, const N: usize>(node: &Node<N>, from: Option<&P>) -> usize
+    requires can_find { IfSome from (λ p. CanFind (P.bytes p.now) (P.below p.now) node.now) }
+    ensures count { IsLowerBound (below_from (option_map (λ p. P.below p.now) from.entry)) node.now result }
 {
     match from {
-        Some(bound) => lower_bound(entries, bound),
+        Some(bound) => node.lower_bound(bound, node.first_common_prefix_len(bound)),
         None => 0,
     }
 }
 
-/// Returns how many of the entries stand before the last bound: all where it is missing.
-pub fn end_of<P: Bound>(entries: &[Entry], to: Option<&P>) -> usize
-    requires partitioned { IsPartitioned (λ e. below_to (option_map (λ p. P.below p.now) to) e.key) entries.now }
-    ensures within { result ≤ length entries.now }
-    ensures count { result ≡ length (filter (λ e. below_to (option_map (λ p. P.below p.now) to.entry) e.key) entries.now) }
+/// Returns how many of the entries of a node stand before the second bound: all where it is missing.
+pub fn end_of<Q: Bound, const N: usize>(node: &Node<N>, to: Option<&Q>) -> usize
+    requires can_find { IfSome to (λ q. CanFind (Q.bytes q.now) (Q.below q.now) node.now) }
+    ensures count { IsLowerBound (below_to (option_map (λ q. Q.below q.now) to.entry)) node.now result }
 {
     match to {
-        Some(bound) => lower_bound(entries, bound),
-        None => entries.len(),
+        Some(bound) => node.lower_bound(bound, node.first_common_prefix_len(bound)),
+        None => node.len(),
     }
 }
 

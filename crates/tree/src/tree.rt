@@ -1,15 +1,15 @@
 //! The tree.
 
-ghost use Rattle.std.specs.Prelude.{◌≡◌, ◌≢◌, ◌<◌, ◌≤◌, ◌<ℤ◌, ◌↔◌, ◌+◌, ◌-◌, ◌∷◌, ℕ, [], true, length, map, OnErr, OnOk, IfOk, IsOkUnless, IsTrue, MatchOption};
-ghost use Rattle.std.specs.List.{All, AllZip, Any};
+ghost use Rattle.std.specs.Prelude.{◌≡◌, ◌≢◌, ◌<◌, ◌≤◌, ◌↔◌, ◌+◌, ◌-◌, ◌∷◌, ℕ, [], true, length, map, OnErr, OnOk, IfOk, IsOkUnless, IsTrue, MatchOption};
+ghost use Rattle.std.specs.List.{All, AllZip};
 ghost use Rattle.tree.specs.Item.{item_of, IsGreatest};
 ghost use Rattle.tree.specs.Heads.{AllAreHeads, KeyBytes};
 ghost use Rattle.tree.specs.Overwrite.{CanOverwrite, Overwrites};
 ghost use Rattle.tree.specs.Expire.{CanRemoveExpired, RemovesExpired};
-ghost use Rattle.tree.specs.Path.{IsPartitioned, items_below, behind, first_key, between};
+ghost use Rattle.tree.specs.Path.{IsPartitioned, items_below, behind, first_key, from_last};
 ghost use Rattle.tree.specs.Question.{Exceeds};
 ghost use Rattle.tree.specs.declared.question.TheConstants.{SIDE};
-ghost use Rattle.tree.specs.Tree.{IsLast, tree_heads, KnowItems};
+ghost use Rattle.tree.specs.Tree.{CanSearchItems, IsLast, tree_heads, KnowItems};
 
 use crate::bound::Bound;
 use crate::entry::Entry;
@@ -131,8 +131,7 @@ impl<const N: usize> Tree<N> {
 
     /// Returns the last item below the bound, and the key of the first one that isn't.
     pub fn last_and_next<P: Bound>(&self, bound: &P) -> (Option<Entry>, Option<Slot>)
-        requires partitioned { IsPartitioned (λ x. P.below bound.now x.key) self.now.items }
-        requires headed { AllAreHeads (P.bytes bound.now) (tree_heads self.now) }
+        requires can_search { CanSearchItems (P.below bound.now) (P.bytes bound.now) self.now }
         ensures last { MatchOption result.0 (items_below (P.below bound.now) self.now.items ≡ [])
             (λ e. IsLast (item_of e) (items_below (P.below bound.now) self.now.items)) }
         ensures next { result.1 ≡ first_key None (behind (P.below bound.now) self.now.items) }
@@ -147,34 +146,29 @@ impl<const N: usize> Tree<N> {
         questions: &[Question<P, Q>],
     ) -> ArrayVec<bool, SIDE>
         requires few { length questions.now ≤ SIDE }
-        requires from { All (λ q. IsPartitioned (λ x. P.below q.from x.key) self.now.items) questions.now }
+        requires from { All (λ q. CanSearchItems (P.below q.from) (P.bytes q.from) self.now) questions.now }
         requires to { All (λ q. IsPartitioned (λ x. Q.below q.to x.key) self.now.items) questions.now }
         requires some { All (λ q. items_below (P.below q.from) self.now.items ≢ []) questions.now }
-        requires headed { All (λ q. AllAreHeads (P.bytes q.from) (tree_heads self.now)) questions.now }
         ensures told { AllZip (λ q above. IsTrue above ↔ Exceeds (P.below q.from) (Q.below q.to) q.version self.now.items)
             questions.now result.items }
     {
-        let ways = descend_each(&self.nodes, &self.root, questions);
-        let looks = look_at_each(&self.nodes, questions, ways.as_slice());
+        let approaches = descend_each(&self.nodes, &self.root, questions);
+        let looks = look_at_each(&self.nodes, questions, approaches.as_slice());
         answer_each(&self.nodes, &self.root, questions, looks.as_slice())
     }
 
-    /// Returns the greatest version of the items from one bound to another, or none if there is no item.
-    pub fn greatest<'a, P: Bound, Q: Bound>(&self, from: &'a P, to: &'a Q) -> Option<i64>
-        requires from { IsPartitioned (λ x. P.below from.now x.key) self.now.items }
-        requires to { IsPartitioned (λ x. Q.below to.now x.key) self.now.items }
+    /// Returns the greatest version of the items before the second bound, of those before the first one the last alone, of which
+    /// there is one.
+    pub fn greatest<'a, P: Bound, Q: Bound>(&self, from: &'a P, to: &'a Q) -> i64
+        requires from { CanSearchItems (P.below from.now) (P.bytes from.now) self.now }
+        requires to { CanSearchItems (Q.below to.now) (Q.bytes to.now) self.now }
         requires nested { (key : ℕ) → P.below from.now key ≡ true → Q.below to.now key ≡ true }
-        ensures greatest { let items = between (Some (P.below from.now)) (Some (Q.below to.now)) self.now.items in
-            MatchOption result (items ≡ []) (λ version. IsGreatest (λ x. x.version) version items) }
+        requires some { items_below (P.below from.now) self.now.items ≢ [] }
+        ensures greatest { IsGreatest (λ x. x.version) result
+            (from_last (P.below from.now) (Some (Q.below to.now)) self.now.items) }
     {
-        greatest(
-            &self.nodes,
-            self.root.slot,
-            self.root.height,
-            Some(from),
-            Some(to),
-            None,
-        )
+        let Root { slot, height } = self.root;
+        greatest(&self.nodes, slot, height, Some(from), Some(to), None).unwrap()
     }
 
     /// Puts an item in place of those from one bound to another. Puts a second one behind it, with the version of the last item

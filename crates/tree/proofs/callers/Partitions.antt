@@ -1,5 +1,5 @@
 -- Lemmas for callers: lists in which those below the bound come first.
-use Rattle.std.proofs.Common.{◌≡◌, ℕ, zero, suc, ◌+◌, ◌<◌, ◌≤◌, ◌⊎◌, Bool, true, false, not, List, [], ◌∷◌, ◌++◌, length, get_or, take, drop, filter, All, refl, ap, subst, ◌∙◌, inl, inr, arith, take_at, drop_at, flat_map}
+use Rattle.std.proofs.Common.{◌≡◌, ℕ, zero, suc, ◌+◌, ◌<◌, ◌≤◌, ◌⊎◌, Bool, true, false, not, List, [], ◌∷◌, ◌++◌, length, get_or, take, drop, filter, All, refl, ap, subst, ◌∙◌, inl, inr, arith, drop_at, flat_map}
 use Rattle.std.specs.List.Sorted.{IsPartitionedBy, IsPartitionPoint}
 use Rattle.std.proofs.lemmas.Bool.{cases_Bool}
 use Rattle.std.proofs.lemmas.List.{append-nil, get_or-drop, get_or-take, get_or_append_left, length-append, length-drop, length-take, take-append-drop}
@@ -66,11 +66,7 @@ module _ {X : Type 0} (p : X → Bool) where
   pub failed : (xs : List X) → All (λ x. p x ≡ false) (filter (λ x. not (p x)) xs)
   failed xs = All-weaker (λ x. not (p x) ≡ true) (λ x. p x ≡ false) (λ x. not_true (p x)) _ (filter_passes (λ x. not (p x)) xs)
 
-  -- what stands before and behind a bound
-  pub before_partitioned : (xs : List X) → IsPartitioned p xs → All (λ x. p x ≡ true) (take (length (filter p xs)) xs)
-  before_partitioned xs c =
-      rw (ap (take (length (filter p xs))) c ∙ take_at (filter p xs) (filter (λ x. not (p x)) xs) _ refl) (filter_passes p xs)
-
+  -- what stands behind a bound
   pub behind_partitioned : (xs : List X) → IsPartitioned p xs → All (λ x. p x ≡ false) (drop (length (filter p xs)) xs)
   behind_partitioned xs c =
       rw (ap (drop (length (filter p xs))) c ∙ drop_at (filter p xs) (filter (λ x. not (p x)) xs) _ refl) (failed xs)
@@ -126,6 +122,12 @@ module _ {X : Type 0} (p : X → Bool) where
         | inl h ↦ absurd (not_both (p x) h.0 f)
         | inr h ↦ All-cons (λ y. p y ≡ false) x xs h.0 h.1
       ]
+
+  -- those that pass, where all before a part and none behind it does
+  pub filter_around : (a c b : List X) → All (λ x. p x ≡ true) a → All (λ x. p x ≡ false) b
+      → filter p (a ++ (c ++ b)) ≡ a ++ filter p c
+  filter_around a c b t f =
+      rw (filter-append p a (c ++ b), (none_fail a t).0, filter-append p c b, (none_pass b f).0, append-nil (filter p c)) refl
 
   -- what a binary search asks
   pub partitioned : (xs : List X) → IsPartitioned p xs → IsPartitionedBy p xs

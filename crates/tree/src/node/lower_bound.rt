@@ -1,7 +1,7 @@
 //! The search in a node: by the heads of its keys, and by their bytes where heads are the same.
 
 ghost use Rattle.std.specs.Prelude.{◌≡◌, ◌≢◌, ◌<◌, ◌≤◌, ◌+◌, ℕ, ◌-◌, List, length, filter, get_or, slice_get, None, Some, IsTrue};
-ghost use Rattle.tree.specs.Finding.{AreTied, CanFind, CanStep, CanStepBy, HasHead, IsLowerBound, IsOwnHead};
+ghost use Rattle.tree.specs.Finding.{AreTied, CanFind, CanStep, CanStepBy, HasHead, IsLowerBound, IsHeadFor};
 ghost use Rattle.tree.specs.Heads.{HasPrefix, HaveCommonPrefix, AreHeads};
 ghost use Rattle.tree.specs.Node.{entries_of, key_heads_of};
 ghost use Rattle.tree.specs.declared.node.TheConstants.{PADDING};
@@ -82,7 +82,7 @@ impl<const N: usize> Node<N> {
         requires some { 0 < length (entries_of self.now) }
         requires common_prefix_len { (e : Entry) (text : List ℕ) → slice_get (entries_of self.now) 0 ≡ Some e
             → P.bytes bound.now e.key ≡ Some text → HaveCommonPrefix common_prefix_len text (P.target bound.now) }
-        ensures head { IsOwnHead (P.bytes bound.now) (P.target bound.now) common_prefix_len result (key_heads_of self.now) }
+        ensures head { IsHeadFor (P.bytes bound.now) (P.target bound.now) common_prefix_len result (key_heads_of self.now) }
     {
         let has_prefix = if self.heads[0] == 0 && self.prefix_len > 0 {
             self.has_prefix_of(self.len() - 1, bound)

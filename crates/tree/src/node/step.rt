@@ -1,7 +1,7 @@
 //! A step down from a node: to which child the search goes on, and what is known of its first key.
 
 ghost use Rattle.std.specs.Prelude.{◌≡◌, ◌<◌, ◌+◌, ◌-◌, length, get_or, slice_get, None, Some, IsTrue};
-ghost use Rattle.tree.specs.Finding.{CanStep, CanStepBy, IsOwnHead, IsStep};
+ghost use Rattle.tree.specs.Finding.{CanStep, CanStepBy, IsHeadFor, IsStep};
 ghost use Rattle.tree.specs.Heads.{AreHeads, IsCommonPrefixAt};
 ghost use Rattle.tree.specs.Node.{entries_of, key_heads_of};
 
@@ -134,7 +134,7 @@ impl<const N: usize> Node<N> {
         requires known { IsCommonPrefixAt (P.bytes bound.now) (P.below bound.now) (P.target bound.now) (Some common_prefix_len)
             (entries_of self.now) 0 }
         requires is_below { (e : Entry) → slice_get (entries_of self.now) index ≡ Some e → IsTrue (P.below bound.now e.key) }
-        requires head { IsOwnHead (P.bytes bound.now) (P.target bound.now) common_prefix_len head (key_heads_of self.now) }
+        requires head { IsHeadFor (P.bytes bound.now) (P.target bound.now) common_prefix_len head (key_heads_of self.now) }
         ensures known { IsCommonPrefixAt (P.bytes bound.now) (P.below bound.now) (P.target bound.now) (Some result)
             (entries_of self.now) index }
     {

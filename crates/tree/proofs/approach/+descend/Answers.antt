@@ -1,14 +1,14 @@
 use Rattle.std.proofs.Common.{rules, ◌≡◌, ◌≤◌, ℕ, ◌+◌, ◌-◌, Bool, false, List, length, filter, get_or, Option, Some, refl, arith}
 use Rattle.std.proofs.lemmas.Option.{slice_get_read}
-use Rattle.tree.proofs.Words.{Entry, CanStep, IsTold, entries_of, entries_at, items_in, least_of}
+use Rattle.tree.proofs.Words.{Entry, CanStep, IsTold, entries_of, items_in, least_of}
 use Rattle.tree.proofs.Approaches.{approach_wider}
 use Rattle.tree.proofs.Above.{at_most_tested}
 use Rattle.tree.proofs.FirstKeys.{knows_child}
 use Rattle.tree.proofs.Frames.{IsRight}
-use Rattle.tree.proofs.Looks.{IsLook, can_step_at, look_tell, child_is, child_from, child_to}
+use Rattle.tree.proofs.Looks.{IsLook, can_step_at, look_tell, child_is, child_partitioned, child_reached}
 use Rattle.tree.proofs.Placing.{entries_from_header}
 use Rattle.tree.proofs.Told.{clears_behind, told_by_child, told_by_entry}
-use Rattle.tree.proofs.ToldKeys.{some_pass, last_passes}
+use Rattle.tree.proofs.ToldKeys.{known_some_below, last_passes, some_pass}
 use Rattle.tree.proofs.approach.+descend.Given.{Over}
 use Rattle.tree.proofs.approach.+descend.Goals as goal
 use Rattle.tree.proofs.approach.+descend.Goals.{After-entries-entries, After-is_clear-clear}
@@ -17,10 +17,10 @@ use Rattle.tree.proofs.approach.+descend.Goals.{After-entries-entries, After-is_
 asked : (g : Over) (t : ℕ) (c : After-entries-entries g t)
     → CanStep (g.P.Bound.bytes c.args.question.now.from) (g.P.Bound.below c.args.question.now.from)
     (g.P.Bound.target c.args.question.now.from) c.header_ref-node.result.now (Some c.args.common_prefix_len)
-asked g t c = can_step_at c.requires.asked.can_reach c.requires.known c.header_ref-node.ensures.header
+asked g t c = can_step_at c.requires.asked.can_reach c.header_ref-node.ensures.header c.requires.known
 
-pub head_for-own-requires : goal.head_for-own-requires
-head_for-own-requires g t c = search (rules, asked g t (goal.at.head_for-own-requires g t c).After-entries-entries)
+pub head_for-from_head-requires : goal.head_for-from_head-requires
+head_for-from_head-requires g t c = search (rules, asked g t (goal.at.head_for-from_head-requires g t c).After-entries-entries)
 
 pub step_by-step-requires : goal.step_by-step-requires
 step_by-step-requires g t c = search (rules, asked g t (goal.at.step_by-step-requires g t c).After-entries-entries)
@@ -66,12 +66,16 @@ descend-requires g t c κs within_lives =
     let k = look g t at in
     let node = child g t at in
     let step = c.step_by-step.ensures.step in
-    let some : 1 ≤ length (entries_at c.args.nodes.now c.index-entries-step.result.child) = omega (arith, node.filled) in
-    let from = child_from _ _ _ _ _ _ _ _ _ k c.if-height-eq0.false _ _ step.within (is g t at) in
-    let to = child_to _ _ _ _ _ _ _ _ _ k c.if-height-eq0.false _ _ step.within (is g t at) in
+    let least_some : 1 ≤ least_of g.row.N = omega arith in
+    let can_reach = child_reached _ _ _ _ _ _ _ _ _ k c.if-height-eq0.false _ _ step.within (is g t at) c.requires.asked.can_reach
+    least_some in
+    let to = child_partitioned _ _ _ _ _ _ _ _ _ k c.if-height-eq0.false _ _ step.within (is g t at) _ c.requires.asked.to in
     let there = slice_get_read (es g t at) _ _ c.index-entries-step.result refl step.within (is g t at) in
-    let knows = knows_child _ _ _ _ _ (g.P.Bound.bytes c.args.question.now.from) (g.P.Bound.below c.args.question.now.from)
-    (g.P.Bound.target c.args.question.now.from) c.step_by-step.result.common_prefix_len node refl (step.knows _ there) in
+    let bytes = g.P.Bound.bytes c.args.question.now.from in
+    let below = g.P.Bound.below c.args.question.now.from in
+    let target = g.P.Bound.target c.args.question.now.from in
+    let some_below = known_some_below bytes below target _ _ node.tells c.in-Some.is (step.knows _ there) in
+    let knows = knows_child _ _ _ _ _ bytes below target c.step_by-step.result.common_prefix_len node refl (step.knows _ there) in
     (search rules, (search rules, (search rules, (search rules, (search rules, (search rules, rw c.in-Some.is at knows))))))
 
 pub returns-then-height-eq0 : goal.returns-then-height-eq0

@@ -5,5 +5,5 @@ use Rattle.tree.proofs.approach.descend_from.Goals as goal
 pub descend-requires : goal.descend-requires
 descend-requires g c =
     let known = known_where_some (g.P.Bound.target c.args.question.now.from) c.common_prefix_len_at.result
-    c.requires.asked.can_reach c.requires.some_below c.common_prefix_len_at.ensures.known in
+    c.requires.asked.can_reach c.requires.asked.some_below c.common_prefix_len_at.ensures.known in
     (search rules, (c.requires.asked, rw c.unwrap_or-common_prefix_len.ensures known))

@@ -18,7 +18,7 @@ head_given-requires g c =
       | goal.then-is_some w ↦
           λ yes.
           let short = leb-true w.prefix_len.result question.targets_prefix_len (sym w.has_prefix-is ∙ yes) in
-          has_prefix_too near bytes key_heads other _ _ c.args.own question.bytes c.requires.searched.own_head
+          has_prefix_too near bytes key_heads other _ _ c.args.from_head question.bytes c.requires.searched.head
           (sym c.is_some.ensures ∙ w.if-is_some.true) (omega (arith, short, w.prefix_len.ensures.prefix_len)) question.common_prefix
       | goal.else-is_some w ↦ λ yes. absurd (not_both _ yes (w.has_prefix-is ∙ w.if-is_some.false))
     ] in

@@ -9,7 +9,7 @@ use Rattle.tree.proofs.descent.+find.Goals as goal
 use Rattle.tree.proofs.descent.+find.Goals.{After-index-entries-step}
 
 pub step-step-requires : goal.step-step-requires
-step-step-requires g t c = search (rules, can_step_at c.requires.can_reach c.requires.known c.header_ref-node.ensures.header)
+step-step-requires g t c = search (rules, can_step_at c.requires.can_reach c.header_ref-node.ensures.header c.requires.known)
 
 -- the child at which the search goes on
 child_found : (g : Over) (t : ℕ) (c : After-index-entries-step g t)

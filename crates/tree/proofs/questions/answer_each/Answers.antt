@@ -9,9 +9,9 @@ answer-requires g c =
     let t = zip_turn c.args.questions.now c.args.looks.now _ _ _ c.next.new.self _ (search rules) (search rules)
     c.loop-question.yielded_by (c.in-Some.question, c.in-Some.look) refl c.in-Some.ensures.steps in
     let is = t.2 c.in-Some.question.now in
-    let way = AllZip-at _ _ _ _ _ _ t.0 is (t.3 _) c.requires.approach in
+    let approach = AllZip-at _ _ _ _ _ _ t.0 is (t.3 _) c.requires.approach in
     let looked = AllZip-at _ _ _ _ _ _ t.0 is (t.3 _) c.requires.looked in
-    (search rules, (rw is (c.requires.asked _ _ t.0), (rw is (c.requires.some_below _ _ t.0), (way, looked))))
+    (search rules, (rw is (c.requires.asked _ _ t.0), (approach, looked)))
 
 pub loop-question-preserved : goal.loop-question-preserved
 loop-question-preserved g c =

@@ -5,9 +5,7 @@ use Rattle.tree.proofs.questions.descend_each.Goals as goal
 
 pub descend_from-requires : goal.descend_from-requires
 descend_from-requires g c =
-    let inside = c.loop-question-test.true in
-    let is = c.question-item.is in
-    (search rules, (rw is (c.requires.asked _ _ inside), rw is (c.requires.some_below _ _ inside)))
+    (search rules, rw c.question-item.is (c.requires.asked _ _ c.loop-question-test.true))
 
 pub loop-question-preserved : goal.loop-question-preserved
 loop-question-preserved g c =
@@ -17,5 +15,5 @@ loop-question-preserved g c =
 pub push-requires : goal.push-requires
 push-requires g c =
     let i = c.loop-question.question-index in
-    let long = AllZip-long _ (take i c.args.questions.now) c.loop-question.ways.items c.loop-question.invariant in
+    let long = AllZip-long _ (take i c.args.questions.now) c.loop-question.approaches.items c.loop-question.invariant in
     (search rules, omega (arith, long, length-take i c.args.questions.now, c.loop-question-test.true, c.requires.few))

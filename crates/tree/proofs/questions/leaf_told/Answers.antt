@@ -15,21 +15,21 @@ use Rattle.tree.proofs.questions.leaf_told.Goals.{After-entries-entries, After-e
 asked : (g : Over) (c : After-entries-entries g)
     → CanStep (g.P.Bound.bytes c.args.question.now.from) (g.P.Bound.below c.args.question.now.from)
     (g.P.Bound.target c.args.question.now.from) c.header_ref-node.result.now (Some c.args.near.common_prefix_len)
-asked g c = can_step_at c.requires.asked.can_reach c.requires.near.known c.header_ref-node.ensures.header
+asked g c = can_step_at c.requires.asked.can_reach c.header_ref-node.ensures.header c.requires.near.known
 
 pub lower_bound_by_head-begin-requires : goal.lower_bound_by_head-begin-requires
 lower_bound_by_head-begin-requires g c =
     let a = asked g (goal.at.lower_bound_by_head-begin-requires g c).After-entries-entries in
-    let own = rw c.header_ref-node.ensures.header at c.requires.own in
+    let from_head = rw c.header_ref-node.ensures.header at c.requires.from_head in
     let bound = c.args.question.now.from in
     let known = all_known (g.P.Bound.bytes bound) c.header_ref-node.result.now a.can_find.headed (g.P.Bound.target bound)
     (g.P.Bound.below bound) (g.met.P.Bound.order bound) c.args.near.common_prefix_len a.can_find.some a.known in
-    (search rules, (a.can_find, (own.head, (λ none. known (own.none none)))))
+    (search rules, (a.can_find, (from_head.head, (λ none. known (from_head.none none)))))
 
 pub end_in-end-requires : goal.end_in-end-requires
 end_in-end-requires g c =
     let a = asked g (goal.at.end_in-end-requires g c).After-entries-entries in
-    let own = rw c.header_ref-node.ensures.header at c.requires.own in
+    let from_head = rw c.header_ref-node.ensures.header at c.requires.from_head in
     let to = look_bound c.args.nodes.now (least_of g.row.N) 0 c.args.near.leaf (g.Q.Bound.below c.args.question.now.to)
     c.header_ref-node.result.now _ c.requires.near.live c.requires.asked.to c.header_ref-node.ensures.header refl in
     search rules

@@ -5,6 +5,6 @@ use Rattle.tree.proofs.questions.look_at_each.Given as goal
 
 abbrev pub invariant-loop-question : goal.invariant-loop-question
 invariant-loop-question g l =
-    (map (λ k. k.way) l.looks.items ≡ take (length l.yielded) l.ways)
-    × AllZip (λ q k. IsLooked l.nodes (g.P.Bound.bytes q.from) (g.P.Bound.target q.from) k.way k.own)
+    (map (λ k. k.approach) l.looks.items ≡ take (length l.yielded) l.approaches)
+    × AllZip (λ q k. IsLooked l.nodes (g.P.Bound.bytes q.from) (g.P.Bound.target q.from) k.approach k.from_head)
     (take (length l.yielded) l.questions) l.looks.items

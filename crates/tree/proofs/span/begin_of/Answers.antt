@@ -1,9 +1,9 @@
-use Rattle.std.proofs.Common.{refl, false}
+use Rattle.std.proofs.Common.{refl, false, length, sym, ap, arith}
+use Rattle.tree.specs.Node.{entries_of}
 use Rattle.tree.proofs.callers.Partitions.{none_pass}
 use Rattle.tree.proofs.span.begin_of.Goals as goal
 
-pub lower_bound-requires : goal.lower_bound-requires
-lower_bound-requires g c = record { partitioned = rw c.in-Some.is at c.requires.partitioned }
-
-pub returns-in-None-clause-count : goal.returns-in-None-clause-count
-returns-in-None-clause-count g c = rw (c.in-None.is, (none_pass (λ _. false) c.args.entries.now (λ i d inside. refl)).0) refl
+pub returns-in-None : goal.returns-in-None
+returns-in-None g c =
+    let none = (none_pass (λ _. false) (entries_of c.args.node.now) (λ i d inside. refl)).0 in
+    rw c.in-None.is (record { count = record { within = omega arith; count_is = sym (ap length none) } })

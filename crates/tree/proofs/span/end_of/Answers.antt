@@ -1,9 +1,10 @@
-use Rattle.std.proofs.Common.{refl, true}
+use Rattle.std.proofs.Common.{refl, true, length, sym, ap, arith, ◌∙◌}
+use Rattle.tree.specs.Node.{entries_of}
 use Rattle.tree.proofs.callers.Partitions.{none_fail}
 use Rattle.tree.proofs.span.end_of.Goals as goal
 
-pub lower_bound-requires : goal.lower_bound-requires
-lower_bound-requires g c = record { partitioned = rw c.in-Some.is at c.requires.partitioned }
-
-pub returns-in-None-clause-count : goal.returns-in-None-clause-count
-returns-in-None-clause-count g c = rw (c.in-None.is, (none_fail (λ _. true) c.args.entries.now (λ i d inside. refl)).0) refl
+pub returns-in-None : goal.returns-in-None
+returns-in-None g c =
+    let all = (none_fail (λ _. true) (entries_of c.args.node.now) (λ i d inside. refl)).0 in
+    let len = c.len.ensures.len in
+    rw c.in-None.is (record { count = record { within = omega (arith, len); count_is = len ∙ sym (ap length all) } })

@@ -4,14 +4,13 @@ use Rattle.std.specs.List.{All, AllZip}
 use Rattle.std.proofs.lemmas.List.{length-take}
 use Rattle.arena.specs.Arena.{key_at}
 use Rattle.keys.specs.declared.range.Range.{Range}
-use Rattle.tree.specs.Heads.{AllAreHeads}
 use Rattle.tree.specs.Item.{Item}
 use Rattle.tree.specs.Path.{IsPartitioned, items_below}
-use Rattle.tree.specs.Tree.{tree_heads}
+use Rattle.tree.specs.Tree.{CanSearchItems}
 use Rattle.stepmap.specs.Asking.{Exceeds}
 use Rattle.stepmap.specs.Boundary.{Boundary, AreBoundaries}
 use Rattle.stepmap.specs.Stored.{Stored, boundaries_of}
-use Rattle.stepmap.proofs.Asking.{BoundQuestion, Asks, Told, is_below, is_partitioned, some_pass, are_headed, told_above, query_gives, from_query}
+use Rattle.stepmap.proofs.Asking.{BoundQuestion, Asks, Told, is_below, can_search_at, some_pass, told_above, query_gives, from_query}
 use Rattle.stepmap.proofs.InTurn.{AllZip-second, AllZip-through}
 use Rattle.stepmap.proofs.boundaries.Boundaries.are_above.Goals as goal
 
@@ -33,17 +32,13 @@ exceeds_each-requires g c =
       (
         few,
         (
-          each (λ q. IsPartitioned (λ (x : Item). is_below q.from x.key) b.tree.items)
-              (λ a q asks. is_partitioned b.keys b.tree indexed true a.0.begin q.from asks.0.begin),
+          each (λ q. CanSearchItems (is_below q.from) (key_at q.from.keys.now) b.tree)
+              (λ a q asks. can_search_at b.keys b.tree indexed true a.0.begin q.from asks.0.begin),
           (
             each (λ q. IsPartitioned (λ (x : Item). is_below q.to x.key) b.tree.items)
-                (λ a q asks. is_partitioned b.keys b.tree indexed false a.0.end q.to asks.0.end),
-            (
-              each (λ q. items_below (is_below q.from) b.tree.items ≢ [])
-                  (λ a q asks. some_pass b.keys b.tree indexed a.0.begin q.from asks.0.begin),
-              each (λ q. AllAreHeads (key_at q.from.keys.now) (tree_heads b.tree))
-                  (λ a q asks. are_headed b.keys b.tree indexed true a.0.begin q.from asks.0.begin),
-            ),
+                (λ a q asks. (can_search_at b.keys b.tree indexed false a.0.end q.to asks.0.end).partitioned),
+            each (λ q. items_below (is_below q.from) b.tree.items ≢ [])
+                (λ a q asks. some_pass b.keys b.tree indexed a.0.begin q.from asks.0.begin),
           ),
         ),
       ),

@@ -18,7 +18,7 @@ pub last_and_next-last-requires : goal.last_and_next-last-requires
 last_and_next-last-requires g c =
     let p = are_passed c.self.inside.keys c.self.inside.tree c.self.invariant.stored c.is_empty.result c.deref.result.now
     c.args.cursor.now.items _ c.deref.ensures.value c.deref.ensures.len c.is_empty.ensures in
-    (omega arith, (p.partitioned, c.self.invariant.headed))
+    (search rules, record { partitioned = p.partitioned; headed = c.self.invariant.headed })
 
 pub unwrap-requires : goal.unwrap-requires
 unwrap-requires g c =

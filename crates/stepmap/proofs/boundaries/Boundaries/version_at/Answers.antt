@@ -1,4 +1,4 @@
-use Rattle.std.proofs.Common.{arith, rules, true, ◌∙◌, ap, sym, w64}
+use Rattle.std.proofs.Common.{rules, true, ◌∙◌, ap, sym, w64}
 use Rattle.std.specs.Prelude.{FitsSigned}
 use Rattle.std.proofs.lemmas.Bool.{some_since}
 use Rattle.std.proofs.lemmas.Int.{to_z-of_z}
@@ -9,16 +9,13 @@ use Rattle.tree.specs.Tree.{IsLast}
 use Rattle.stepmap.specs.Boundary.{value_at}
 use Rattle.stepmap.specs.KeyBound.{slot_is_below}
 use Rattle.stepmap.specs.Stored.{Stored, boundaries_of}
-use Rattle.stepmap.proofs.Partitioning.{stored_partitioned}
+use Rattle.stepmap.proofs.Asking.{can_search}
 use Rattle.stepmap.proofs.LastFound.{some_is_below, last_boundary, value_of_last}
 use Rattle.stepmap.proofs.boundaries.Boundaries.version_at.Goals as goal
 
 pub last_and_next-last-requires : goal.last_and_next-last-requires
 last_and_next-last-requires g c =
-    let b = c.self.inside in (
-      omega arith,
-      ((stored_partitioned b.keys b.tree c.self.invariant.stored true c.args.key.now).partitioned, c.self.invariant.headed),
-    )
+    let b = c.self.inside in (search rules, can_search b.keys b.tree c.self.invariant true c.args.key.now)
 
 pub unwrap-requires : goal.unwrap-requires
 unwrap-requires g c =

@@ -4,9 +4,8 @@ use Rattle.tree.specs.Question.{IsAsked}
 use Rattle.tree.specs.Tree.{least_of}
 use Rattle.std.proofs.lemmas.List.{map-id}
 use Rattle.tree.proofs.Approaches.{leading_of}
-use Rattle.tree.proofs.HeadList.{headed_from_list}
 use Rattle.tree.proofs.InTurn.{AllZip-through}
-use Rattle.tree.proofs.LeafChange.{root_some}
+use Rattle.tree.proofs.LeafChange.{can_reach_root}
 use Rattle.tree.proofs.tree.Tree.exceeds_each.Given.{Over}
 use Rattle.tree.proofs.tree.Tree.exceeds_each.Goals as goal
 use Rattle.tree.proofs.tree.Tree.exceeds_each.Goals.{After-self}
@@ -16,32 +15,29 @@ asked : (g : Over) (c : After-self g)
     → All (λ q. IsAsked c.self.inside.nodes (least_of g.row.N) c.self.inside.root.height c.self.inside.root.slot
     (g.P.Bound.bytes q.from) (g.P.Bound.below q.from) (g.Q.Bound.below q.to)) c.args.questions.now
 asked g c i q within =
-    let some = root_some _ _ _ _ _ c.self.invariant.0 in
-    let from = (rw (← c.self.view_is) at c.requires.from) i q within in
+    let can_reach = can_reach_root c.self.invariant.0 ((rw (← c.self.view_is) at c.requires.from) i q within) in
     let to = (rw (← c.self.view_is) at c.requires.to) i q within in
-    let heads = headed_from_list _ c.self.inside.nodes ((rw (← c.self.view_is) at c.requires.headed) i q within) in
+    let some = (rw (← c.self.view_is) at c.requires.some) i q within in
     search rules
 
-pub descend_each-ways-requires : goal.descend_each-ways-requires
-descend_each-ways-requires g c =
-    let a = asked g (goal.at.descend_each-ways-requires g c).After-self in
-    (search rules, (c.requires.few, (a, rw (← c.self.view_is) at c.requires.some)))
+pub descend_each-approaches-requires : goal.descend_each-approaches-requires
+descend_each-approaches-requires g c =
+    (search rules, (c.requires.few, asked g (goal.at.descend_each-approaches-requires g c).After-self))
 
 pub look_at_each-looks-requires : goal.look_at_each-looks-requires
 look_at_each-looks-requires g c =
     let a = asked g (goal.at.look_at_each-looks-requires g c).After-self in
-    let ways = rw (← map-id c.descend_each-ways.result.items) at c.descend_each-ways.ensures.ways in
-    let leading = AllZip-through _ _ (λ way. way) (λ q way. leading_of _ _ _ _ _ _ _ _ _ way) _ _ ways in
+    let approaches = rw (← map-id c.descend_each-approaches.result.items) at c.descend_each-approaches.ensures.approaches in
+    let leading = AllZip-through _ _ (λ approach. approach) (λ q approach. leading_of _ _ _ _ _ _ _ _ _ approach) _ _ approaches in
     (search rules, (c.requires.few, (rw c.as_slice.ensures.value leading, (λ i q within. (a i q within).can_reach.headed))))
 
 pub answer_each-requires : goal.answer_each-requires
 answer_each-requires g c =
     let a = asked g (goal.at.answer_each-requires g c).After-self in
-    let some = rw (← c.self.view_is) at c.requires.some in
     let looks = c.look_at_each-looks.ensures in
-    let ways = rw (← c.as_slice.ensures.value, ← looks.ways) at c.descend_each-ways.ensures.ways in
-    let approach = AllZip-through _ _ (λ (l : Look). l.way) (λ q l way. way) _ _ ways in
-    (search rules, (c.requires.few, (a, (some, rw c.as_slice-2.ensures.value (approach, looks.looked)))))
+    let approaches = rw (← c.as_slice.ensures.value, ← looks.approaches) at c.descend_each-approaches.ensures.approaches in
+    let approach = AllZip-through _ _ (λ (l : Look). l.approach) (λ q l approach. approach) _ _ approaches in
+    (search rules, (c.requires.few, (a, rw c.as_slice-2.ensures.value (approach, looks.looked))))
 
 pub returns : goal.returns
 returns g c = record { told = rw (← c.self.view_is) c.answer_each.ensures.told }

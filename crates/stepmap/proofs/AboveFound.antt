@@ -1,51 +1,10 @@
--- The greatest value in a range.
-use Rattle.std.proofs.Common.{
-  ◌≡◌,
-  ℕ,
-  zero,
-  suc,
-  ◌+◌,
-  ◌-◌,
-  ◌<◌,
-  ◌≤◌,
-  true,
-  false,
-  not,
-  List,
-  [],
-  ◌∷◌,
-  ◌++◌,
-  length,
-  get_or,
-  take,
-  drop,
-  map,
-  fold,
-  sym,
-  ◌∙◌,
-  ap,
-  subst,
-  inl,
-  inr,
-  ◌⊎◌,
-  arith,
-  take-append-drop,
-}
+-- Where the function is above a number in a range.
+use Rattle.std.proofs.Common.{◌≡◌, ℕ, zero, suc, ◌+◌, ◌-◌, ◌<◌, ◌≤◌, true, false, not, List, [], ◌∷◌, ◌++◌, length, get_or, take, drop, sym, ◌∙◌, ap, subst, inl, inr, ◌⊎◌, arith, take-append-drop}
 use Rattle.std.specs.Prelude.{ℤ, negsuc, ◌≤ℤ◌, ◌<ℤ◌, All, Any, slice_range}
-use Rattle.std.specs.Int.{int_max}
-use Rattle.std.proofs.lemmas.Int.{ints, fold-int_max_bounds, fold-int_max_reached}
-use Rattle.std.proofs.lemmas.List.{drop-take, get_or-map, length-map, length-take-le}
+use Rattle.std.proofs.lemmas.Int.{ints}
+use Rattle.std.proofs.lemmas.List.{drop-take, length-take-le}
 use Rattle.std.proofs.lemmas.List.Folds.{drop_split}
-use Rattle.std.proofs.lemmas.List.Elements.{
-  All-head,
-  All-tail,
-  All-cons,
-  All-nil,
-  All-take,
-  All-drop,
-  filter_passes,
-  All-weaker,
-}
+use Rattle.std.proofs.lemmas.List.Elements.{All-head, All-take, All-drop, filter_passes, All-weaker}
 use Rattle.keys.specs.Key.{IsBytes, IsKey, is_before, IsBefore}
 use Rattle.keys.specs.Range.{Holds, IsEmpty}
 use Rattle.keys.specs.declared.range.Range.{Range}
@@ -70,14 +29,7 @@ use Rattle.stepmap.specs.Boundary.{
 use Rattle.stepmap.proofs.Indexes.{up_to, after}
 use Rattle.keys.proofs.callers.KeyOrder.{not_before_if}
 use Rattle.stepmap.proofs.Order.{Rising, rising_from, rising_in_order, rising_filter, rise_above}
-use Rattle.stepmap.proofs.Values.{
-  FirstAfter,
-  first_after_all,
-  value_after,
-  value_front,
-  value_back,
-  value_has,
-}
+use Rattle.stepmap.proofs.Values.{FirstAfter, first_after_all, value_after, value_front, value_back}
 use Rattle.stepmap.proofs.WritingValues.{begins_before_end}
 use Rattle.keys.proofs.callers.SomeElement.{Any-first, Any-later}
 use Rattle.stepmap.proofs.Looking.{filter_shorter}
@@ -100,13 +52,6 @@ value_own v (b ∷ bs) (suc k) d r lt =
     not_before_if b.key (get_or bs k d).key
     (before_at_most_same b.key (get_or bs k d).key (rise_above b.key bs r k d (omega arith))) in
     rw later (value_own b.version bs k d (rising_from b.key bs r) (omega arith))
-
-all_map_back : (P : ℤ → Type 0) (bs : List Boundary) → All P (map (λ b. b.version) bs)
-    → All (λ b. P b.version) bs
-all_map_back P [] a = All-nil (λ b. P b.version)
-all_map_back P (b ∷ bs) a =
-    All-cons (λ b. P b.version) b bs (All-head P b.version (map (λ b. b.version) bs) a)
-    (all_map_back P bs (All-tail P b.version (map (λ b. b.version) bs) a))
 
 take_rising : (n : ℕ) (bs : List Boundary) → Rising bs → Rising (take n bs)
 take_rising zero bs r = tt
@@ -185,7 +130,7 @@ module _ (range : Range) (filled : ¬ IsEmpty range) (bs : List Boundary) (h : A
       ∙ ap (λ xs. take from bs ++ xs) (drop_split bs from to inside_ordered)
 
   -- a value in the range
-  pub value_inside : (key : List ℕ) → Holds range key
+  value_inside : (key : List ℕ) → Holds range key
       → value_at bs key ≡ value_from (last_version (negsuc 0) (take from bs)) (slice_range bs from to) key
   value_inside key held =
       let ahead : All (λ b. is_before key b.key ≡ false) (take from bs) =
@@ -200,50 +145,6 @@ module _ (range : Range) (filled : ¬ IsEmpty range) (bs : List Boundary) (h : A
       ap (λ xs. value_at xs key) parts
       ∙ value_back (negsuc 0) (take from bs) (slice_range bs from to ++ drop to bs) key ahead
       ∙ value_front (last_version (negsuc 0) (take from bs)) (slice_range bs from to) (drop to bs) key past
-
-  module _ (v r : ℤ) (first : v ≡ last_version (negsuc 0) (take from bs))
-      (is : r ≡ fold int_max v (map (λ b. b.version) (slice_range bs from to))) where
-    pub greatest_bound : (key : List ℕ) → Holds range key → value_at bs key ≤ℤ r
-    greatest_bound key held =
-        let bounds = fold-int_max_bounds v (map (λ b. b.version) (slice_range bs from to)) r is in
-        subst (λ x. x ≤ℤ r) (sym (value_inside key held
-        ∙ ap (λ x. value_from x (slice_range bs from to) key) (sym first)))
-        (value_has (λ x. x ≤ℤ r) v (slice_range bs from to) key bounds.0
-        (all_map_back (λ x. x ≤ℤ r) (slice_range bs from to) bounds.1))
-
-    pub greatest_reached : (key : List ℕ) × IsBytes key × Holds range key × (value_at bs key ≡ r)
-    greatest_reached =
-        let s = slice_range bs from to in
-        elim (fold-int_max_reached v (map (λ b. b.version) s) r is) [
-          | inl own ↦
-              let held : Holds range range.begin =
-              (at_most_itself range.begin, begins_before_end range filled) in (
-                range.begin,
-                range.begin_is_key.bytes,
-                held,
-                value_inside range.begin held
-                    ∙ value_after (last_version (negsuc 0) (take from bs)) s range.begin
-                    (first_of s inside_later) ∙ sym first ∙ sym own,
-              )
-          | inr at ↦
-              let k = at.0 in
-              let lt : k < length s = omega (arith, at.1, length-map s (λ b. b.version)) in
-              let d : Boundary = record { key = []; version = r } in
-              let b = get_or s k d in
-              let version : b.version ≡ r = sym (get_or-map (λ b. b.version) s k d r lt) ∙ at.2 in
-              let held : Holds range b.key =
-              (before_at_most_same range.begin b.key (inside_later k d lt), inside_sooner k d lt) in (
-                b.key,
-                (inside_keys k d lt).bytes,
-                held,
-                value_inside b.key held
-                    ∙ value_own (last_version (negsuc 0) (take from bs)) s k d inside_rising lt ∙ version,
-              )
-        ]
-      where
-        first_of : (ys : List Boundary) → All (λ b. IsBefore range.begin b.key) ys → FirstAfter range.begin ys
-        first_of [] a = tt
-        first_of (y ∷ ys) a = All-head (λ b. IsBefore range.begin b.key) y ys a
 
   -- the function is above the number at the range's begin, or at some boundary inside, or nowhere in the range
   module _ (v s : ℤ) (first : v ≡ last_version (negsuc 0) (take from bs)) where
@@ -276,13 +177,13 @@ module _ (range : Range) (filled : ¬ IsEmpty range) (bs : List Boundary) (h : A
         let own : b.version ≡ a.1.version = ap (λ (x : Boundary). x.version) a.3 in
         (b.key, (inside_keys k a.1 lt).bytes, held, subst (λ (x : ℤ). s <ℤ x) (sym (is ∙ own)) a.4)
 
-    pub above_found : (key : List ℕ) × IsBytes key × Holds range key × (s <ℤ value_at bs key) → v ≤ℤ s
+    pub above_found : (key : List ℕ) → Holds range key → s <ℤ value_at bs key → v ≤ℤ s
         → Any (λ b. s <ℤ b.version) (slice_range bs from to)
-    above_found a le =
+    above_found key held lt le =
         let above =
-        subst (λ (x : ℤ). s <ℤ x) (value_inside a.0 a.2
-        ∙ ap (λ x. value_from x (slice_range bs from to) a.0) (sym first)) a.3 in
-        elim (value_some s v (slice_range bs from to) a.0 above) [
+        subst (λ (x : ℤ). s <ℤ x) (value_inside key held
+        ∙ ap (λ x. value_from x (slice_range bs from to) key) (sym first)) lt in
+        elim (value_some s v (slice_range bs from to) key above) [
           | inl l ↦ absurd
               (omega (arith, ints))
           | inr b ↦ b
