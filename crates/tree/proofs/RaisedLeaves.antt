@@ -108,7 +108,7 @@ module _ {N : ℕ} {a : Arena (Node N)} {height lower slot i x : ℕ} (at : IsAt
     );
     items = refl;
     changes = changes_if_moves b b _ _ (moves_same b (slots_in b (suc lower) slot) _ put.changes.keyless
-        (family_apart b (least_of N) lower slot i (family at put refl)) (λ s. refl) refl);
+        (family_apart b (least_of N) lower slot i (i + 1) (family at put refl)) (λ s. refl) refl);
   }
 
   there : IsRaisedIn b leaf (suc lower) slot

@@ -1,4 +1,4 @@
--- A node above two neighbours that are merged or merge_or_redistribute their entries.
+-- A node above two neighbours that are merged or share their entries.
 use Rattle.std.proofs.Common.{◌≡◌, ◌≢◌, inl, inr, ℕ, ◌+◌, ◌-◌, ◌<◌, ◌≤◌, List, [], ◌∷◌, ◌++◌, length, get_or, take, drop, sym, ap, subst, ◌∙◌, arith}
 use Rattle.std.proofs.lemmas.List.Elements.{All-nil, All-cons, All-take, All-drop}
 use Rattle.std.proofs.lemmas.List.{take-take, drop-drop, get_or-take, get_or-drop, length-take, length-drop}
@@ -7,7 +7,7 @@ use Rattle.tree.specs.declared.entry.Entry.{Entry}
 use Rattle.tree.specs.declared.node.Node.{Node}
 use Rattle.tree.specs.Item.{Tells}
 use Rattle.tree.specs.Subtree.{entries_at, items_in, slots_in, IsSubtree}
-use Rattle.tree.specs.Replace.{child_at, slots_of, AreChildren, IsFamily, IsKeyless, IsRebalanced}
+use Rattle.tree.specs.Replace.{child_at, slots_of, AreChildren, IsFamily, IsFamilyAt, IsKeyless, IsRebalanced}
 use Rattle.tree.proofs.callers.Times.{none_or_some, times, times-append}
 use Rattle.tree.proofs.Frames.{IsRight, live_in, own_slot}
 use Rattle.tree.proofs.Changing.{moves_same}
@@ -51,30 +51,37 @@ module _ {N : ℕ} where
       (moves_same a _ _ keyless (middle_once a least height i (i + 1) was (A ∷ []) family around)
       (λ s. ap (times s) same) (ap length same))
 
-  module _ (a : Arena (Node N)) (least height : ℕ) (es : List Entry) (i j : ℕ)
-      (family : IsFamily a least height es i (i + 1)) where
+  module _ (a : Arena (Node N)) (least height slot i j : ℕ) (at : IsFamilyAt a least height slot i (i + 1)) (j_is : j ≡ i - 1) where
+    abbrev es : List Entry
+    es = entries_at a slot
+
     -- a child and a neighbour
-    pub widened : j ≤ i → i ≤ j + 1 → IsFamily a least height es j (j + 2)
-    widened from to = record {
-      distinct = family.distinct;
-      below = family.below;
-      before = rw (take-take j i es from) at (All-take (IsRight a least height) j (take i es) family.before);
-      behind = subst (AreChildren a least height) (drop-drop (j + 2 - (i + 1)) (i + 1) es ∙ ap (λ n. drop n es) (omega arith))
-          (All-drop (IsRight a least height) (j + 2 - (i + 1)) (drop (i + 1) es) family.behind);
-    }
+    pub widened : IsFamilyAt a least height slot j (j + 2)
+    widened =
+        let behind = All-drop (IsRight a least height) (j + 2 - (i + 1)) (drop (i + 1) es) at.family.behind in
+        record {
+          family = record {
+            distinct = at.family.distinct;
+            below = at.family.below;
+            before = rw (take-take j i es (omega (arith, j_is))) at (All-take (IsRight a least height) j (take i es) at.family.before);
+            behind = subst (AreChildren a least height)
+                (drop-drop (j + 2 - (i + 1)) (i + 1) es ∙ ap (λ n. drop n es) (omega (arith, j_is))) behind;
+          };
+          apart = at.apart;
+        }
 
     -- one of the two is filled
-    pub filled_pair : (d : Entry) → i < length es → 2 ≤ length es → j ≡ i - 1
+    pub filled_pair : (d : Entry) → i < length es → 2 ≤ length es
         → least ≤ length (entries_at a (child_at es j)) + length (entries_at a (child_at es (j + 1)))
-    filled_pair d within several j_is =
+    filled_pair d within several =
         let count : ℕ → ℕ = λ z. length (entries_at a z) in elim (none_or_some i) [
           | inl first ↦
               let sum : i + 1 + 0 ≡ j + 1 = omega arith in
               let same : (get_or (drop (i + 1) es) 0 d).child ≡ child_at es (j + 1) =
               cc (sum, get_or-drop (i + 1) es 0 d, child_is es (j + 1) d (omega arith)) in
-              omega (arith, ap count same, (family.behind 0 d (omega (arith, length-drop (i + 1) es))).filled)
+              omega (arith, ap count same, (at.family.behind 0 d (omega (arith, length-drop (i + 1) es))).filled)
           | inr later ↦
               let same : (get_or (take i es) j d).child ≡ child_at es j =
               cc (get_or-take i es j d (omega arith), child_is es j d (omega arith)) in
-              omega (arith, ap count same, (family.before j d (omega (arith, length-take i es))).filled)
+              omega (arith, ap count same, (at.family.before j d (omega (arith, length-take i es))).filled)
         ]

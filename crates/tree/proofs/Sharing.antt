@@ -1,4 +1,4 @@
--- Two neighbours that are merged or merge_or_redistribute their entries, and the entries of the node above.
+-- Two neighbours that are merged or share their entries, and the entries of the node above.
 use Rattle.std.proofs.Common.{◌≡◌, ℕ, zero, suc, ◌+◌, add-one, ◌<◌, ◌≤◌, List, [], ◌∷◌, ◌++◌, length, length-append, get_or, set, take, drop, map, option_map, unwrap_or, refl, sym, ap, ap₂, subst, ◌∙◌, arith, append_assoc, All, flat_map}
 use Rattle.std.proofs.lemmas.List.{map-append, take-append-drop, drop_more, set_split, take_more_set, drop-set-lt, length-set}
 use Rattle.std.proofs.lemmas.Option.{slice_get-get_or}
@@ -104,27 +104,39 @@ module _ {N : ℕ} where
             (rw same at (count_below b height length refl length-append new)) few live;
       }
 
-  -- an entry of a child that has entries
-  pub record IsMade (a : Arena (Node N)) (least height : ℕ) (e : Entry) : Type 0 where
-    pub some : 1 ≤ length (entries_at a e.child)
-    pub filled : least ≤ length (entries_at a e.child)
-    pub tells : IsSubtree a least height e.child → Tells e (items_in a height e.child)
+  -- what an entry of this child tells
+  abbrev TellsOf : Arena (Node N) → Entry → ℕ → Type 0
+  TellsOf a e child = (height least : ℕ) → IsSubtree a least height child → Tells e (items_in a height child)
 
-  pub made : (a : Arena (Node N)) (least height x : ℕ) (e : Entry) → e.child ≡ x → 1 ≤ length (entries_at a x)
-      → least ≤ length (entries_at a x) → (IsSubtree a least height x → Tells e (items_in a height x)) → IsMade a least height e
-  made a least height x e child some filled tells =
-      let told = subst (λ z. IsSubtree a least height z → Tells e (items_in a height z)) (sym child) tells in
-      record { some = rw child some; filled = rw child filled; tells = told }
+  -- an entry of a child that has enough entries
+  pub record IsMade (a : Arena (Node N)) (enough : ℕ) (e : Entry) : Type 0 where
+    pub filled : enough ≤ length (entries_at a e.child)
+    pub tells : TellsOf a e e.child
+
+  pub made : (a : Arena (Node N)) (enough x : ℕ) (e : Entry) → e.child ≡ x → enough ≤ length (entries_at a x) → TellsOf a e x
+      → IsMade a enough e
+  made a enough x e child filled tells = record { filled = rw child filled; tells = subst (TellsOf a e) (sym child) tells }
+
+  -- The slots below some entries in the middle are a part of those below all, and so are their children's own.
+  pub middle_part : (a : Arena (Node N)) (height from to : ℕ) (was middle : List Entry)
+      → was ≡ take from was ++ (middle ++ drop to was) → (s : ℕ)
+      → times s (slots_of a height middle) ≤ times s (slots_of a height was)
+  middle_part a height from to was middle was_is s =
+      let all = ap (λ l. times s (slots_of a height l)) was_is in
+      let parts = times-slots_of a height s (take from was) (middle ++ drop to was) in
+      omega (arith, times-slots_of a height s middle (drop to was))
+
+  pub own_part : (a : Arena (Node N)) (height : ℕ) (es : List Entry) (s : ℕ)
+      → times s (slots_of a 0 es) ≤ times s (slots_of a height es)
+  own_part a zero es s = omega arith
+  own_part a (suc height) es s = omega (arith, count_below a height (times s) refl (times-append s) es)
 
   -- entries of which some in the middle are replaced
   module _ (a : Arena (Node N)) (least height from to : ℕ) (was middle : List Entry)
       (family : IsFamily a least height was from to) (was_is : was ≡ take from was ++ (middle ++ drop to was)) where
     pub middle_once : (s : ℕ) → times s (slots_of a height middle) ≤ 1
     middle_once s =
-        let all = ap (λ l. times s (slots_of a height l)) was_is in
-        let parts = times-slots_of a height s (take from was) (middle ++ drop to was) in
-        let more = times-slots_of a height s middle (drop to was) in
-        omega (arith, once_if_distinct (slots_of a height was) family.distinct s)
+        omega (arith, middle_part a height from to was middle was_is s, once_if_distinct (slots_of a height was) family.distinct s)
 
     -- They are rebalanced.
     pub rebalanced : (b : Arena (Node N)) (now new : List Entry) → now ≡ take from was ++ (new ++ drop to was)
@@ -144,15 +156,16 @@ module _ {N : ℕ} where
 
     -- So they are where the new ones' children have the entries of the others.
     pub rebalanced_by : (b : Arena (Node N)) (now new : List Entry) → now ≡ take from was ++ (new ++ drop to was)
-        → All (IsMade b least height) new → entries_below b new ≡ entries_below a middle
+        → 1 ≤ least → All (IsMade b least) new → entries_below b new ≡ entries_below a middle
         → Moves a b (slots_of a 0 middle) (slots_of b 0 new) → IsRebalanced a b least height was now
-    rebalanced_by b now new now_is made here moves =
+    rebalanced_by b now new now_is some all_made here moves =
         let P : Entry → Type 0 = λ e. IsSubtree a least height e.child in
         let all = subst (All P) was_is family.below in
         let below = All-front P middle (drop to was) (All-back P (take from was) (middle ++ drop to was) all) in
-        let r = regrouped a b least height middle new moves here (λ i d inside. (made i d inside).some) below middle_once in
+        let r = regrouped a b least height middle new moves here
+        (λ i d inside. omega (arith, some, (all_made i d inside).filled)) below middle_once in
         rebalanced b now new now_is (λ i d inside. record {
-          filled = (made i d inside).filled;
+          filled = (all_made i d inside).filled;
           subtree = r.subtrees i d inside;
-          tells = (made i d inside).tells (r.subtrees i d inside);
+          tells = (all_made i d inside).tells height least (r.subtrees i d inside);
         }) r.items r.moves

@@ -1,25 +1,26 @@
 -- A node above a changed leaf, once it is stored.
-use Rattle.std.proofs.Common.{◌≡◌, inl, inr, ℕ, suc, ◌+◌, ◌≤◌, List, [], ◌∷◌, ◌++◌, length, length-append, get_or, Option, Some, None, refl, sym, ap, ap₂, subst, ◌∙◌, arith}
+use Rattle.std.proofs.Common.{◌≡◌, inl, inr, ℕ, suc, ◌+◌, ◌≤◌, List, [], ◌∷◌, ◌++◌, length, length-append, length-drop, length-take, append-nil, get_or, take, drop, Option, Some, None, refl, sym, ap, ap₂, subst, ◌∙◌, arith}
 use Rattle.std.specs.Prelude.{IfSome, slice_set}
 use Rattle.std.proofs.lemmas.List.{length-set}
-use Rattle.std.specs.List.{Contains}
-use Rattle.arena.specs.Arena.{Arena, IsLive, with_header}
+use Rattle.std.specs.List.{All, Contains}
+use Rattle.arena.specs.Arena.{Arena, IsLive, header_at, record_at, with_header}
 use Rattle.tree.specs.declared.entry.Entry.{Entry}
 use Rattle.tree.specs.declared.node.Node.{Node}
-use Rattle.tree.specs.Heads.{KeyBytes}
+use Rattle.tree.specs.Heads.{AllAreHeads, AreHeads, KeyBytes}
 use Rattle.tree.specs.Item.{Item, Tells}
-use Rattle.tree.specs.Node.{entries_of}
-use Rattle.tree.specs.Rebalancing.{CanRebalance}
+use Rattle.tree.specs.Node.{all_heads_of, entries_of, key_heads_of}
+use Rattle.tree.specs.Rebalancing.{AreTwo, CanMerge, CanRebalance, LosesOneAtMost}
 use Rattle.tree.specs.Tree.{least_of}
 use Rattle.tree.specs.Subtree.{entries_at, items_in, slots_in, IsSubtree}
 use Rattle.tree.specs.Replace.{entries_at_both, items_with, slots_with, slot_taken, Changes, items_of, slots_of, AreChildren, IsFamilyAt, IsRebalanced, IsRebalancedAt}
 use Rattle.tree.proofs.callers.Times.{times, once_same, once_cases, once_if_distinct, times-append, times_unless_contains}
-use Rattle.tree.proofs.Frames.{Agree, IsRight, live_same}
+use Rattle.tree.proofs.Frames.{Agree, IsRight, entries_same, live_same}
 use Rattle.tree.proofs.Changing.{Moves, moves_beside, moves_agree, moves_trans, moves_if_changes, changes_if_moves}
 use Rattle.tree.proofs.Families.{items_of-append, times-slots_of, length-slots_of, live_children, holds}
-use Rattle.tree.proofs.Placing.{live_one, put_entries, put_live, put_moves}
-use Rattle.tree.proofs.Sharing.{set_one}
-use Rattle.tree.proofs.Rebalancing.{live_subtree, rebalanced_by_entry}
+use Rattle.tree.proofs.KnownKeys.{headed_header}
+use Rattle.tree.proofs.Placing.{entries_from_header, live_one, put_entries, put_live, put_moves}
+use Rattle.tree.proofs.Sharing.{middle_part, own_part, IsMade, around_two, child_is, entries_below, rebalanced_by, set_one}
+use Rattle.tree.proofs.Rebalancing.{apart_pair, live_subtree, rebalanced_by_entry}
 use Rattle.tree.proofs.callers.Partitions.{All-front, All-back}
 
 module _ {N : ℕ} where
@@ -91,9 +92,9 @@ module _ {N : ℕ} where
       }
 
   -- the slots below a node and its own stand there once
-  pub family_apart : (a : Arena (Node N)) (least height slot index : ℕ) → IsFamilyAt a least height slot index
+  pub family_apart : (a : Arena (Node N)) (least height slot from to : ℕ) → IsFamilyAt a least height slot from to
       → (s : ℕ) → times s (slots_in a (suc height) slot) ≤ 1
-  family_apart a least height slot index at s =
+  family_apart a least height slot from to at s =
       let zs = slots_of a height (entries_at a slot) in
       let below : times s zs ≤ 1 = once_if_distinct zs at.family.distinct s in
       elim (once_cases s slot) [
@@ -102,11 +103,11 @@ module _ {N : ℕ} where
       ]
 
   -- a family's entries are made right, and the node with them put in its place
-  pub rebalanced_at : {a b w : Arena (Node N)} {least height slot index : ℕ} (node : Node N) → IsLive a slot
-      → IsFamilyAt a least height slot index → IsRebalanced a b least height (entries_at a slot) (entries_of node)
+  pub rebalanced_at : {a b w : Arena (Node N)} {least height slot from to : ℕ} (node : Node N) → IsLive a slot
+      → IsFamilyAt a least height slot from to → IsRebalanced a b least height (entries_at a slot) (entries_of node)
       → 1 ≤ length (entries_of node) → w ≡ with_header b slot node → IsRebalancedAt a w least height slot
-  rebalanced_at {a} {b} {w} {least} {height} {slot} {index} node live at rebalanced some put =
-      let few = family_apart a least height slot index at in
+  rebalanced_at {a} {b} {w} {least} {height} {slot} {from} {to} node live at rebalanced some put =
+      let few = family_apart a least height slot from to at in
       let here : entries_at w slot ≡ entries_of node = put_entries b w slot node put in
       let then = rw (← here) at rebalanced in
       let moves = moves_if_changes a b _ _ then.changes in
@@ -127,7 +128,7 @@ module _ {N : ℕ} where
 
   -- The entry at the index is made right where it lies.
   pub entry_put : {bytes : KeyBytes} {a : Arena (Node N)} {height slot i x : ℕ} (d t : Entry) (node : Node N)
-      → CanRebalance bytes a slot i → IsFamilyAt a (least_of N) height slot i → x ≡ (get_or (entries_at a slot) i d).child
+      → CanRebalance bytes a slot i → IsFamilyAt a (least_of N) height slot i (i + 1) → x ≡ (get_or (entries_at a slot) i d).child
       → t.child ≡ x → (IsSubtree a (least_of N) height x → Tells t (items_in a height x))
       → least_of N ≤ length (entries_at a x) → entries_of node ≡ slice_set (entries_at a slot) i t
       → IsRebalancedAt a (with_header a slot node) (least_of N) height slot
@@ -136,3 +137,69 @@ module _ {N : ℕ} where
       rebalanced_at node can.live family (rebalanced_by_entry a (least_of N) height es (entries_of node) i x d t can.within x_is
       family.family can.keyless child tells filled (now_is ∙ set_one es i t can.within))
       (omega (arith, ap length now_is, length-set es i t, can.within)) refl
+
+  -- Two children of a node, whose entries were read, are merged, or share their entries, while its own record stays as it is.
+  module _ {bytes : KeyBytes} {a : Arena (Node N)} {slot i : ℕ} {l : List Entry} (d e : Entry) (can : CanMerge bytes a slot i)
+      (read : l ≡ entries_at a slot) where
+    abbrev es : List Entry
+    es = entries_at a slot
+
+    abbrev pair : List Entry
+    pair = get_or es i d ∷ get_or es (i + 1) e ∷ []
+
+    abbrev x : ℕ
+    x = (get_or l i d).child
+
+    abbrev y : ℕ
+    y = (get_or l (i + 1) e).child
+
+    pub both : AreTwo bytes a x y
+    both =
+        let f = can.family in
+        let live = live_subtree a (least_of N) f.0 in
+        rw read record {
+          live_first = live (get_or es i d).child (f.1.family.below i d (omega (arith, can.within)));
+          live_second = live (get_or es (i + 1) e).child (f.1.family.below (i + 1) e can.within);
+          apart = apart_pair a (least_of N) f.0 es i d e can.within f.1.family;
+          keyless = can.keyless;
+          headed = can.headed;
+        }
+
+    pub enough : least_of N ≤ length (entries_at a x) + length (entries_at a y)
+    enough = rw (read, ← child_is es i d (omega (arith, can.within)), ← child_is es (i + 1) e can.within) can.filled
+
+    kept : {b : Arena (Node N)} {now : List ℕ} → Changes a b (x ∷ y ∷ []) now → record_at b slot ≡ record_at a slot
+    kept {b} {now} changes =
+        let none = times_unless_contains slot _ can.family.1.apart in
+        let part = middle_part a 0 i (i + 2) es pair (around_two es i d e can.within) slot in
+        (moves_if_changes a b _ _ changes).others slot (rw read (omega (arith, none, part, own_part a can.family.0 es slot))) can.live
+
+    pub still_live : {b : Arena (Node N)} {now : List ℕ} → Changes a b (x ∷ y ∷ []) now → IsLive b slot
+    still_live {b} {now} changes = live_same a b slot (kept changes) can.live
+
+    pub read_again : {b : Arena (Node N)} {now : List ℕ} {node : Node N} → Changes a b (x ∷ y ∷ []) now
+        → header_at b slot ≡ Some node → entries_of node ≡ es
+    read_again {b} {now} {node} changes header =
+        sym (entries_from_header b slot node header) ∙ entries_same a b slot (kept changes)
+
+    -- The entries of the node are made right.
+    pub remade : {b : Arena (Node N)} (new : List Entry) (node : Node N) → 1 ≤ length new → length (slots_of b 0 new) ≤ 2
+        → Changes a b (x ∷ y ∷ []) (slots_of b 0 new) → AllAreHeads bytes (all_heads_of b) → All (IsMade b (least_of N)) new
+        → entries_below b new ≡ entries_at a x ++ entries_at a y → entries_of node ≡ take i es ++ (new ++ drop (i + 2) es)
+        → AreHeads bytes (key_heads_of node)
+        → ((height : ℕ) → IsFamilyAt a (least_of N) height slot i (i + 2)
+        → IsRebalancedAt a (with_header b slot node) (least_of N) height slot)
+        × LosesOneAtMost bytes a (with_header b slot node) es (entries_at (with_header b slot node) slot)
+    remade {b} new node some few changes headed made here now_is own_headed =
+        let few_less : length es ≤ length (entries_of node) + 1 =
+        simp (now_is, length-append, length-take, length-drop) (omega (arith, can.within)) in
+        let below : entries_below b new ≡ entries_below a pair = cc (append-nil (entries_at a (get_or es (i + 1) e).child)) in
+        let moves = rw read at (moves_if_changes a b _ _ changes) in (
+          λ height family. rebalanced_at node can.live family (rebalanced_by a (least_of N) height i (i + 2) es pair family.family
+              (around_two es i d e can.within) b _ new now_is (omega arith) made below moves) (omega (arith, few_less, can.within)) refl,
+          record {
+            few_less = omega (arith, few_less, ap length (put_entries b (with_header b slot node) slot node refl));
+            spare = omega (arith, few, changes.live, changes.spare);
+            headed = headed_header bytes b (with_header b slot node) slot node refl headed own_headed;
+          },
+        )

@@ -69,7 +69,7 @@ module _ {N : ℕ} {a : Arena (Node N)} {height lower slot i x : ℕ} (at : IsAt
     own : Moves a b (slots_in a (suc lower) slot) (slot ∷ slots_of b lower es)
     own = moves_own lower slot es at.few at.subtree.0 (rw (split at) loosened.moves)
 
-    pub family : IsFamilyAt b (least_of N) lower slot i
+    pub family : IsFamilyAt b (least_of N) lower slot i (i + 1)
     family =
         let Below = λ (e : Entry). IsSubtree b (least_of N) lower e.child in
         let all = All-append Below (take i es) (here at ∷ [] ++ drop (i + 1) es) (below_of b _ lower _ loosened.front)

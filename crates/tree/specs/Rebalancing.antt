@@ -7,7 +7,7 @@ use Rattle.tree.specs.declared.entry.Entry.{Entry}
 use Rattle.tree.specs.declared.node.Node.{Node}
 use Rattle.tree.specs.Heads.{AllAreHeads, AreHeads, AreHeadsBeside, IsKnown, KeyBytes}
 use Rattle.tree.specs.Node.{all_heads_of, entries_of, key_heads_of, keys_of}
-use Rattle.tree.specs.Replace.{child_at, slot_taken, slots_with, Changes, IsFamily, IsFamilyAt, IsKeyless}
+use Rattle.tree.specs.Replace.{child_at, slot_taken, slots_with, Changes, IsFamilyAt, IsKeyless}
 use Rattle.tree.specs.Splice.{AreHalfFull}
 use Rattle.tree.specs.Subtree.{entries_at, slots_in, IsSubtree}
 use Rattle.tree.specs.Tree.{least_of}
@@ -65,7 +65,7 @@ module _ {N : ℕ} where
     pub within : index < length (entries_at nodes slot)
     pub several : 2 ≤ length (entries_at nodes slot)
     pub keyless : IsKeyless nodes
-    pub family : (height : ℕ) × IsFamilyAt nodes (least_of N) height slot index
+    pub family : (height : ℕ) × IsFamilyAt nodes (least_of N) height slot index (index + 1)
     pub headed : AllAreHeads bytes (all_heads_of nodes)
 
   -- likewise where that child has enough entries
@@ -73,23 +73,15 @@ module _ {N : ℕ} where
     pub rebalance : CanRebalance bytes nodes slot index
     pub filled : least_of N ≤ length (entries_at nodes (child_at (entries_at nodes slot) index))
 
-  -- likewise the entries of a node
-  pub record CanRebalanceIn (bytes : KeyBytes) (nodes : Arena (Node N)) (entries : List Entry) (index : ℕ) : Type 0 where
+  -- the node at a slot, of which the child at an index and the one behind it are merged, or share their entries evenly
+  pub record CanMerge (bytes : KeyBytes) (nodes : Arena (Node N)) (slot index : ℕ) : Type 0 where
     pub fan_out : 4 ≤ N
-    pub within : index < length entries
-    pub several : 2 ≤ length entries
+    pub live : IsLive nodes slot
+    pub within : index + 1 < length (entries_at nodes slot)
+    pub filled : least_of N ≤ length (entries_at nodes (child_at (entries_at nodes slot) index))
+        + length (entries_at nodes (child_at (entries_at nodes slot) (index + 1)))
     pub keyless : IsKeyless nodes
-    pub family : (height : ℕ) × IsFamily nodes (least_of N) height entries index (index + 1)
-    pub headed : AllAreHeads bytes (all_heads_of nodes)
-
-  -- the entries of a node, of which the child at an index and the one behind it are merged, or share their entries evenly
-  pub record CanMerge (bytes : KeyBytes) (nodes : Arena (Node N)) (entries : List Entry) (index : ℕ) : Type 0 where
-    pub fan_out : 4 ≤ N
-    pub within : index + 1 < length entries
-    pub filled : least_of N
-        ≤ length (entries_at nodes (child_at entries index)) + length (entries_at nodes (child_at entries (index + 1)))
-    pub keyless : IsKeyless nodes
-    pub family : (height : ℕ) × IsFamily nodes (least_of N) height entries index (index + 2)
+    pub family : (height : ℕ) × IsFamilyAt nodes (least_of N) height slot index (index + 2)
     pub headed : AllAreHeads bytes (all_heads_of nodes)
 
   -- the nodes of two slots

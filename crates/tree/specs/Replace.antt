@@ -81,10 +81,10 @@ module _ {N : ℕ} where
   entries_at_both nodes slot None = entries_at nodes slot
   entries_at_both nodes slot (Some added) = entries_at nodes slot ++ entries_at nodes added
 
-  -- The node at a slot leads to subtrees of this height, of which the one at an index is changed. Its other entries are
-  -- right.
-  pub record IsFamilyAt (nodes : Arena (Node N)) (least height slot index : ℕ) : Type 0 where
-    pub family : IsFamily nodes least height (entries_at nodes slot) index (index + 1)
+  -- The node at a slot leads to subtrees of this height, of which those from one index up to another are changed. Its other
+  -- entries are right.
+  pub record IsFamilyAt (nodes : Arena (Node N)) (least height slot from to : ℕ) : Type 0 where
+    pub family : IsFamily nodes least height (entries_at nodes slot) from to
     pub apart : ¬ Contains (slots_of nodes height (entries_at nodes slot)) slot
 
   -- the node at a slot, made right

@@ -3,13 +3,13 @@
 ghost use Rattle.std.specs.Prelude.{◌≡◌, ◌≤◌, ◌<◌, ◌+◌, ◌++◌, ◌∷◌, ℕ, [], length};
 ghost use Rattle.arena.specs.Arena.{IsLive};
 ghost use Rattle.tree.specs.Item.{Tells};
-ghost use Rattle.tree.specs.Heads.{AllAreHeads, AreHeads, IsKnown, KeyBytes};
-ghost use Rattle.tree.specs.Rebalancing.{AreTwo, CanRebalanceIn, CanMerge, LosesOneAtMost};
-ghost use Rattle.tree.specs.Node.{entries_of, key_heads_of, all_heads_of};
+ghost use Rattle.tree.specs.Heads.{AllAreHeads, IsKnown, KeyBytes};
+ghost use Rattle.tree.specs.Rebalancing.{AreTwo, CanMerge, LosesOneAtMost};
+ghost use Rattle.tree.specs.Node.{all_heads_of};
 ghost use Rattle.tree.specs.Splice.{AreHalfFull};
 ghost use Rattle.tree.specs.Subtree.{entries_at, items_in, IsSubtree};
 ghost use Rattle.tree.specs.Tree.{least_of};
-ghost use Rattle.tree.specs.Replace.{Changes, IsFamily, IsRebalanced};
+ghost use Rattle.tree.specs.Replace.{Changes, IsFamilyAt, IsRebalancedAt};
 
 use crate::bound::Bound;
 use crate::entry::Entry;
@@ -39,55 +39,37 @@ pub fn entry_for<const N: usize>(nodes: &Arena<Node<N>>, child: Slot) -> Entry
     }
 }
 
-/// Makes the entry for a changed child right. A child with too few entries is merged with a neighbour, or takes some of
-/// its entries.
-pub fn rebalance<P: Bound, const N: usize>(
+/// Merges the children at an index and behind it of the node at a slot, or shares their entries evenly where there are too many
+/// for one node.
+pub fn merge_or_redistribute<P: Bound, const N: usize>(
     nodes: &mut Arena<Node<N>>,
-    node: &mut Node<N>,
+    slot: Slot,
     index: usize,
     bound: &P,
 )
-    requires can_rebalance { CanRebalanceIn (P.bytes bound.now) nodes.old (entries_of node.old) index }
-    requires headed { AreHeads (P.bytes bound.now) (key_heads_of node.old) }
-    ensures rebalanced { (height : ℕ) → IsFamily nodes.old (least_of N) height (entries_of node.old) index (index + 1)
-        → IsRebalanced nodes.old nodes.new (least_of N) height (entries_of node.old) (entries_of node.new) }
-    ensures rest { LosesOneAtMost (P.bytes bound.now) nodes.old nodes.new (entries_of node.old) (entries_of node.new) }
-    ensures headed { AreHeads (P.bytes bound.now) (key_heads_of node.new) }
+    requires can_merge { CanMerge (P.bytes bound.now) nodes.old slot index }
+    ensures rebalanced { (height : ℕ) → IsFamilyAt nodes.old (least_of N) height slot index (index + 2)
+        → IsRebalancedAt nodes.old nodes.new (least_of N) height slot }
+    ensures rest { LosesOneAtMost (P.bytes bound.now) nodes.old nodes.new (entries_at nodes.old slot) (entries_at nodes.new slot) }
 {
-    let child = node.entries()[index].child;
-    if nodes.header_ref(child).len() >= least(N) {
-        node.set_with_head(index, entry_for(nodes, child), bound);
-        return;
-    }
-    merge_or_redistribute(nodes, node, index.saturating_sub(1), bound);
-}
-
-// Merges the children at an index and behind it, or shares their entries evenly where there are too many for one node.
-fn merge_or_redistribute<P: Bound, const N: usize>(
-    nodes: &mut Arena<Node<N>>,
-    node: &mut Node<N>,
-    index: usize,
-    bound: &P,
-)
-    requires can_merge { CanMerge (P.bytes bound.now) nodes.old (entries_of node.old) index }
-    requires headed { AreHeads (P.bytes bound.now) (key_heads_of node.old) }
-    ensures rebalanced { (height : ℕ) → IsFamily nodes.old (least_of N) height (entries_of node.old) index (index + 2)
-        → IsRebalanced nodes.old nodes.new (least_of N) height (entries_of node.old) (entries_of node.new) }
-    ensures rest { LosesOneAtMost (P.bytes bound.now) nodes.old nodes.new (entries_of node.old) (entries_of node.new) }
-    ensures headed { AreHeads (P.bytes bound.now) (key_heads_of node.new) }
-{
-    let first = node.entries()[index].child;
-    let second = node.entries()[index + 1].child;
+    let entries = nodes.header_ref(slot).entries();
+    let first = entries[index].child;
+    let second = entries[index + 1].child;
     let count = nodes.header_ref(first).len() + nodes.header_ref(second).len();
     if count <= N {
         merge(nodes, first, second, bound);
-        node.set_with_head(index, entry_for(nodes, first), bound);
+        let entry = entry_for(nodes, first);
+        let node = nodes.header_mut(slot);
+        node.set_with_head(index, entry, bound);
         node.remove(index + 1, index + 2);
-        return;
+        return node.lengthen_prefix(bound);
     }
     redistribute(nodes, first, second, bound);
-    node.set_with_head(index, entry_for(nodes, first), bound);
-    node.set_with_head(index + 1, entry_for(nodes, second), bound);
+    let new = [entry_for(nodes, first), entry_for(nodes, second)];
+    let node = nodes.header_mut(slot);
+    node.set_with_head(index, new[0], bound);
+    node.set_with_head(index + 1, new[1], bound);
+    node.lengthen_prefix(bound);
 }
 
 // Puts the entries of the second node behind those of the first one, and releases the second.

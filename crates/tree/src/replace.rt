@@ -10,7 +10,7 @@ ghost use Rattle.tree.specs.Replace.{child_at, entries_at_both, HasRaisedEntry, 
 use crate::bound::Bound;
 use crate::entry::Entry;
 use crate::node::Node;
-use crate::rebalance::{entry_for, least, rebalance};
+use crate::rebalance::{entry_for, least, merge_or_redistribute};
 use crate::walk::{Outcome, RaisedLeaf};
 use arena::{Arena, Slot};
 
@@ -38,7 +38,16 @@ pub fn insert_child<P: Bound, const N: usize>(
     let heads = [head.unwrap_or(0), added_head.unwrap_or(0)];
     let have_prefix = head.is_some() && added_head.is_some();
     if node.len() == N {
-        return Some(split(nodes, slot, index, index + 1, &new, &heads, have_prefix, bound));
+        return Some(split(
+            nodes,
+            slot,
+            index,
+            index + 1,
+            &new,
+            &heads,
+            have_prefix,
+            bound,
+        ));
     }
     nodes
         .header_mut(slot)
@@ -78,7 +87,7 @@ pub fn rebalance_child<P: Bound, const N: usize>(
     bound: &P,
 )
     requires can_rebalance { CanRebalance (P.bytes bound.now) nodes.old slot index }
-    ensures rebalanced { (height : ℕ) → IsFamilyAt nodes.old (least_of N) height slot index
+    ensures rebalanced { (height : ℕ) → IsFamilyAt nodes.old (least_of N) height slot index (index + 1)
         → IsRebalancedAt nodes.old nodes.new (least_of N) height slot }
     ensures rest { LosesOneAtMost (P.bytes bound.now) nodes.old nodes.new (entries_at nodes.old slot) (entries_at nodes.new slot) }
 {
@@ -88,10 +97,7 @@ pub fn rebalance_child<P: Bound, const N: usize>(
         nodes.header_mut(slot).set_with_head(index, entry, bound);
         return;
     }
-    let mut node = nodes.header(slot);
-    rebalance(nodes, &mut node, index, bound);
-    node.lengthen_prefix(bound);
-    nodes.set_header(slot, node);
+    merge_or_redistribute(nodes, slot, index.saturating_sub(1), bound);
 }
 
 /// Makes the entry at an index right in the node at a slot, where an item came into this leaf of the entry's child, which has enough
@@ -105,7 +111,7 @@ pub fn raise_entry<P: Bound, const N: usize>(
     bound: &P,
 ) -> Outcome
     requires can_raise { CanRaise (P.bytes bound.now) nodes.old slot index }
-    ensures rebalanced { (height : ℕ) → IsFamilyAt nodes.old (least_of N) height slot index
+    ensures rebalanced { (height : ℕ) → IsFamilyAt nodes.old (least_of N) height slot index (index + 1)
         → TellsWritten nodes.old height slot index leaf.version → IsRebalancedAt nodes.old nodes.new (least_of N) height slot }
     ensures rest { LosesOneAtMost (P.bytes bound.now) nodes.old nodes.new (entries_at nodes.old slot) (entries_at nodes.new slot) }
     ensures outcome { (result ≡ Outcome.Changed)

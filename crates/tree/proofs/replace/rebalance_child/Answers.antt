@@ -1,13 +1,13 @@
-use Rattle.std.proofs.Common.{◌≡◌, ◌≤◌, ◌+◌, length, get_or, refl, sym, ap, subst, ◌∙◌, arith, rules}
+use Rattle.std.proofs.Common.{◌≡◌, ◌≤◌, ◌-◌, length, get_or, refl, sym, ap, ◌∙◌, arith, rules}
 use Rattle.std.proofs.lemmas.List.{length-set}
 use Rattle.arena.specs.Arena.{with_header}
 use Rattle.tree.specs.declared.entry.Entry.{Entry}
 use Rattle.tree.specs.Subtree.{entries_at}
 use Rattle.tree.specs.Tree.{least_of}
-use Rattle.tree.specs.Replace.{IsFamily}
 use Rattle.tree.proofs.KnownKeys.{headed_header}
 use Rattle.tree.proofs.Placing.{entries_from_header, put_entries}
-use Rattle.tree.proofs.Storing.{child_live, entry_put, rebalanced_at}
+use Rattle.tree.proofs.Rebalancing.{filled_pair, widened}
+use Rattle.tree.proofs.Storing.{child_live, entry_put}
 use Rattle.tree.proofs.replace.rebalance_child.Given.{Over}
 use Rattle.tree.proofs.replace.rebalance_child.Goals as goal
 use Rattle.tree.proofs.replace.rebalance_child.Goals.{After-index-entries-index}
@@ -52,27 +52,27 @@ returns-then-len-least g c =
       };
     }
 
+pub merge_or_redistribute-requires : goal.merge_or_redistribute-requires
+merge_or_redistribute-requires g c =
+    let L = least_of g.row.N in
+    let j_is : j ≡ i - 1 = c.saturating_sub.ensures in (
+      search rules,
+      record {
+        fan_out = can.fan_out;
+        live = can.live;
+        within = omega (arith, can.within, can.several, j_is);
+        filled = filled_pair a L can.family.0 slot i j can.family.1 j_is c.index-entries-index.result can.within can.several;
+        keyless = can.keyless;
+        family = (can.family.0, widened a L can.family.0 slot i j can.family.1 j_is);
+        headed = can.headed;
+      },
+    )
+  where
+    open c use {args.{nodes.{now as a}, slot, index as i}, requires.{can_rebalance as can}, saturating_sub.{result as j}}
+
 pub returns : goal.returns
-returns g c =
-    let a = c.args.nodes.now in
-    let b = c.rebalance.new.nodes in
-    let slot = c.args.slot in
-    let can = c.requires.can_rebalance in
-    let read = entries_from_header a slot c.header-node.result c.header-node.ensures.header in
-    let node = c.lengthen_prefix.new.self in
-    let same = c.lengthen_prefix.ensures.entries in
-    let few_less = c.rebalance.ensures.rest.few_less in
-    let w = c.set_header.new.self in
-    let put = c.set_header.ensures.replaced in
-    record {
-      rebalanced = λ height family. (
-          let loose = subst (λ l. IsFamily a (least_of g.row.N) height l c.args.index (c.args.index + 1)) read family.family in
-          let made = rw (← read, ← same) at (c.rebalance.ensures.rebalanced height loose) in
-          rebalanced_at node can.live family made (omega (arith, few_less, can.several, ap length read, ap length same)) put
-          );
-      rest = record {
-        few_less = omega (arith, few_less, ap length read, ap length (put_entries b w slot node put), ap length same);
-        spare = search rules;
-        headed = headed_header _ b w slot node put c.rebalance.ensures.rest.headed c.lengthen_prefix.ensures.headed;
-      };
-    }
+returns g c = record {
+  rebalanced = λ height family.
+      c.merge_or_redistribute.ensures.rebalanced height (widened _ _ height _ _ _ family c.saturating_sub.ensures);
+  rest = c.merge_or_redistribute.ensures.rest;
+}
