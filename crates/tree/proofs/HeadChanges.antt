@@ -260,19 +260,10 @@ module _ (bytes : KeyBytes) where
         let begins = prefix_begins one h k.text (has_prefix k.text k.known) in
         grind (arith, length-take (length h.beginning) k.text, begins_if_long others.beginning k.text k.begins)
 
-    -- Those of the second are put behind those of the first one, with their heads.
-    pub headed_joined : (now : KeyHeads) → now.keys ≡ one.keys ++ other.keys → now.prefix_len ≡ one.prefix_len
-        → now.heads ≡ one.heads ++ other.heads → AreHeads bytes now
-    headed_joined now keys prefix_len heads =
+    -- Those of the second are put before the one at an index of the first, with their heads.
+    pub headed_joined : (now : KeyHeads) (at : ℕ) → now.keys ≡ take at one.keys ++ (other.keys ++ drop at one.keys)
+        → now.prefix_len ≡ one.prefix_len → now.heads ≡ take at one.heads ++ (other.heads ++ drop at one.heads) → AreHeads bytes now
+    headed_joined now at keys prefix_len heads =
         headed_alike one h now prefix_len
-        (rw keys (All-append (Begins bytes h.beginning) one.keys other.keys h.begins (rw same_beginning at others.begins)))
-        (cc (h.heads, others.heads, map-append (head_at bytes one.prefix_len) one.keys other.keys))
-
-    -- Two neighbours whose keys all begin alike share them, with their heads.
-    pub headed_shared : (left right : KeyHeads) → left.keys ++ right.keys ≡ one.keys ++ other.keys
-        → left.heads ++ right.heads ≡ one.heads ++ other.heads → length left.heads ≡ length left.keys
-        → left.prefix_len ≡ one.prefix_len → right.prefix_len ≡ other.prefix_len → AreHeads bytes left × AreHeads bytes right
-    headed_shared left right keys heads count left_len right_len =
-        let all : KeyHeads =
-        record { keys = one.keys ++ other.keys; prefix_len = one.prefix_len; heads = one.heads ++ other.heads } in
-        headed_apart all left right (headed_joined all refl refl refl) keys heads count left_len (right_len ∙ sym as_many)
+        (rw keys (All-spliced (Begins bytes h.beginning) one.keys other.keys at at h.begins (rw same_beginning at others.begins)))
+        (cc (h.heads, others.heads, map_spliced (head_at bytes one.prefix_len) one.keys other.keys now.keys at at keys))

@@ -65,10 +65,10 @@ pub fn merge_or_redistribute<P: Bound, const N: usize>(
         return node.lengthen_prefix(bound);
     }
     redistribute(nodes, first, second, bound);
-    let entries = [entry_for(nodes, first), entry_for(nodes, second)];
+    let new = [entry_for(nodes, first), entry_for(nodes, second)];
     let node = nodes.header_mut(slot);
-    node.set_with_head(index, entries[0], bound);
-    node.set_with_head(index + 1, entries[1], bound);
+    node.set_with_head(index, new[0], bound);
+    node.set_with_head(index + 1, new[1], bound);
     node.lengthen_prefix(bound);
 }
 
@@ -81,7 +81,8 @@ fn merge<P: Bound, const N: usize>(nodes: &mut Arena<Node<N>>, first: Slot, seco
     ensures headed { AllAreHeads (P.bytes bound.now) (all_heads_of nodes.new) }
 {
     let right = nodes.header(second);
-    nodes.header_mut(first).append_with_heads(&right, bound);
+    let left = nodes.header_mut(first);
+    left.insert_with_heads(left.len(), &right, bound);
     nodes.release(second);
 }
 
@@ -100,8 +101,14 @@ fn redistribute<P: Bound, const N: usize>(
     ensures changes { Changes nodes.old nodes.new (first ∷ second ∷ []) (first ∷ second ∷ []) }
     ensures headed { AllAreHeads (P.bytes bound.now) (all_heads_of nodes.new) }
 {
-    let mut right = nodes.header(second);
-    let left = nodes.header_mut(first);
-    left.redistribute_with_heads(&mut right, bound);
-    nodes.set_header(second, right);
+    let left = nodes.header_ref(first).len();
+    let half = (left + nodes.header_ref(second).len()) / 2;
+    if left > half {
+        let moved = nodes.header_mut(first).take_out(half, left, bound);
+        return nodes.header_mut(second).insert_with_heads(0, &moved, bound);
+    }
+    let moved = nodes.header_mut(second).take_out(0, half - left, bound);
+    nodes
+        .header_mut(first)
+        .insert_with_heads(left, &moved, bound);
 }

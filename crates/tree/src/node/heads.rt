@@ -142,44 +142,42 @@ impl<const N: usize> Node<N> {
         right
     }
 
-    /// Puts the entries of another node behind these, with their heads where all keys begin alike, or else all heads are computed
-    /// anew.
-    pub fn append_with_heads<P: Bound>(&mut self, other: &Node<N>, bound: &P)
+    /// Puts the entries of another node before the one at an index, with their heads where all keys begin alike, or else all heads
+    /// are computed anew.
+    pub fn insert_with_heads<P: Bound>(&mut self, index: usize, other: &Node<N>, bound: &P)
+        requires within { index ≤ length (entries_of self.old) }
         requires room { length (entries_of self.old) + length (entries_of other.now) ≤ N }
-        requires headed { AreHeads (P.bytes bound.now) (key_heads_of self.old) }
-        requires other_headed { AreHeads (P.bytes bound.now) (key_heads_of other.now) }
-        ensures entries { entries_of self.new ≡ entries_of self.old ++ entries_of other.now }
+        requires headed { AreBothHeaded (P.bytes bound.now) self.old other.now }
+        ensures entries { entries_of self.new
+            ≡ take index (entries_of self.old) ++ (entries_of other.now ++ drop index (entries_of self.old)) }
         ensures headed { AreHeads (P.bytes bound.now) (key_heads_of self.new) }
     {
         let Some(first) = other.entries().first() else {
             return;
         };
         let have_prefix = self.prefix_len == other.prefix_len && self.begins(first.key, bound);
-        self.append(other.entries(), other.heads());
+        self.splice(index, index, other.entries(), other.heads());
         if !have_prefix {
             return self.compute_heads(bound);
         }
         self.lengthen_prefix(bound);
     }
 
-    /// Moves entries, with their heads, between two neighbours, of which this is the left one, so that their numbers differ by one at
-    /// most. Where not all keys begin alike, all heads are computed anew.
-    pub fn redistribute_with_heads<P: Bound>(&mut self, right: &mut Node<N>, bound: &P)
-        requires many { N < length (entries_of self.old) + length (entries_of right.old) }
-        requires headed { AreBothHeaded (P.bytes bound.now) self.old right.old }
-        ensures entries { (entries_of self.new) ++ (entries_of right.new) ≡ (entries_of self.old) ++ (entries_of right.old) }
-        ensures filled { AreHalfFull N (entries_of self.new) (entries_of right.new) }
-        ensures headed { AreBothHeaded (P.bytes bound.now) self.new right.new }
+    /// Takes the entries from one index up to another out, and returns them, with their heads.
+    pub fn take_out<P: Bound>(&mut self, from: usize, to: usize, bound: &P) -> Node<N>
+        requires ordered { from ≤ to }
+        requires within { to ≤ length (entries_of self.old) }
+        requires headed { AreHeads (P.bytes bound.now) (key_heads_of self.old) }
+        ensures entries { entries_of self.new ≡ take from (entries_of self.old) ++ drop to (entries_of self.old) }
+        ensures taken { entries_of result ≡ drop from (take to (entries_of self.old)) }
+        ensures headed { AreBothHeaded (P.bytes bound.now) self.new result }
     {
-        let first = right.entries[0].key;
-        let have_prefix = self.prefix_len == right.prefix_len && self.begins(first, bound);
-        self.redistribute(right);
-        if !have_prefix {
-            self.compute_heads(bound);
-            return right.compute_heads(bound);
-        }
+        let mut taken = *self;
+        taken.remove(to, taken.len());
+        taken.remove(0, from);
+        self.remove(from, to);
         self.lengthen_prefix(bound);
-        right.lengthen_prefix(bound);
+        taken
     }
 
     /// Computes the heads anew where heads behind more bytes tell more.

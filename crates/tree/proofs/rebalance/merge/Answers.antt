@@ -1,4 +1,6 @@
-use Rattle.std.proofs.Common.{[], length, refl, sym, ap, arith, rules}
+use Rattle.std.proofs.Common.{[], append-nil, refl, sym, ◌∙◌, take_all, arith, rules}
+use Rattle.std.proofs.lemmas.List.{drop_all}
+use Rattle.tree.proofs.Words.{entries_of}
 use Rattle.arena.specs.Arena.{with_header}
 use Rattle.tree.proofs.Frames.{entries_same, live_same}
 use Rattle.tree.proofs.Changing.{changes_if_moves, moves_trans, moves_released}
@@ -13,36 +15,40 @@ release-requires g c =
     let kept = put_others a b c.args.first merged refl c.args.second (λ same. two.apart (sym same)) in
     record { live = live_same a b c.args.second kept two.live_second }
   where
-    open c use {args.{nodes.{now as a}}, append_with_heads.{new.{self as merged}}, requires.{two}}
+    open c use {args.{nodes.{now as a}}, insert_with_heads.{new.{self as merged}}, requires.{two}}
 
-pub append_with_heads-requires : goal.append_with_heads-requires
-append_with_heads-requires g c =
+pub insert_with_heads-requires : goal.insert_with_heads-requires
+insert_with_heads-requires g c =
     let a = c.args.nodes.now in
     let two = c.requires.two in
-    let first_was = ap length (entries_from_header a c.args.first _ c.header_mut.ensures.header) in
-    let second_was = ap length (entries_from_header a c.args.second _ c.header-right.ensures.header) in
-    let first = headed_at _ a c.args.first _ two.headed c.header_mut.ensures.header in
+    let first_was = entries_from_header a c.args.first _ c.header_mut-left.ensures.header in
+    let second_was = entries_from_header a c.args.second _ c.header-right.ensures.header in
+    let first = headed_at _ a c.args.first _ two.headed c.header_mut-left.ensures.header in
     let second = headed_at _ a c.args.second _ two.headed c.header-right.ensures.header in
-    (search rules, (omega (arith, c.requires.room, first_was, second_was), (first, second)))
+    let room = rw (first_was, second_was) at c.requires.room in
+    (search rules, (omega (arith, c.len.ensures.len), (room, record { left = first; right = second })))
 
 pub returns : goal.returns
 returns g c =
     let b = with_header a c.args.first merged in
-    let first_was = entries_from_header a x _ c.header_mut.ensures.header in
+    let first_was = entries_from_header a x _ c.header_mut-left.ensures.header in
     let second_was = entries_from_header a y _ c.header-right.ensures.header in
     let first_is = put_entries a b x merged refl in
     let kept = entries_same b d x (release.others x two.apart) in
+    let all = take_all c.len.result (entries_of c.header_mut-left.result.now) (omega (arith, c.len.ensures.len)) in
+    let none = drop_all c.len.result (entries_of c.header_mut-left.result.now) (omega (arith, c.len.ensures.len)) in
+    let nil = append-nil (entries_of c.header-right.result) in
     let put = put_moves a b x merged refl two.live_first two.keyless in
     let live_y = live_same a b y (put_others a b x merged refl y (λ same. two.apart (sym same))) two.live_second in
     let expired = moves_released b d y put.keyless live_y release.released release.others
     (released_spare b d y live_y put.keyless release.spare) in
-    let headed = headed_header _ a b x merged refl two.headed c.append_with_heads.ensures.headed in
+    let headed = headed_header _ a b x merged refl two.headed c.insert_with_heads.ensures.headed in
     record {
-      entries = cc;
+      entries = kept ∙ first_is ∙ rw (all, none, nil, ← first_was, ← second_was) at c.insert_with_heads.ensures.entries;
       changes = changes_if_moves a d _ _ (moves_trans a b d _ _ _ (moves_first a b x y two.apart two.live_second put)
           (moves_second b d x y [] two.apart (put_live a b x merged refl) expired));
       headed = headed_released _ b d y headed release.released release.others;
     }
   where
-    open c use {args.{nodes.{now as a}, first as x, second as y}, append_with_heads.{new.{self as merged}}}
+    open c use {args.{nodes.{now as a}, first as x, second as y}, insert_with_heads.{new.{self as merged}}}
     open c use {release.{new.{self as d}, ensures as release}, requires.{two}}

@@ -85,12 +85,11 @@ set_with_head-requires-3 g c =
 
 pub remove-requires : goal.remove-requires
 remove-requires g c =
-    let s = (goal.at.remove-requires g c).After-index-entries-index-2 in
-    let count = ap length (read_again _ _ can (read g s) c.merge.ensures.changes c.header_mut-node.ensures.header) in
+    let can = c.requires.can_merge in
+    let seen = read g (goal.at.remove-requires g c).After-index-entries-index-2 in
+    let count = ap length (read_again _ _ can seen c.merge.ensures.changes c.header_mut-node.ensures.header) in
     let set = simp length-set at (ap length c.set_with_head.ensures.entries) in
     (search rules, (omega arith, omega (arith, count, set, can.within)))
-  where
-    open c use {requires.{can_merge as can}}
 
 pub returns-then-count : goal.returns-then-count
 returns-then-count g c =

@@ -1,49 +1,174 @@
-use Rattle.std.proofs.Common.{[], ◌∷◌, refl, sym, ◌∙◌, rules}
-use Rattle.arena.specs.Arena.{with_header}
+use Rattle.std.proofs.Common.{◌≡◌, ◌≢◌, ℕ, ◌+◌, ◌-◌, ◌/◌, ◌<◌, ◌≤◌, List, [], ◌∷◌, ◌++◌, Some, append-nil, append_assoc, length, length-append, length-drop, length-take, take, drop, take-append-drop, take_all, refl, sym, ap, ◌∙◌, arith, rules}
+use Rattle.std.proofs.lemmas.List.{drop_all}
+use Rattle.tree.specs.Splice.{AreHalfFull}
+use Rattle.tree.specs.Rebalancing.{AreTwo}
+use Rattle.tree.proofs.Words.{Arena, AllAreHeads, AreHeads, Entry, IsLive, KeyBytes, Node, all_heads_of, entries_at, entries_of, header_at, key_heads_of, record_at, with_header}
 use Rattle.tree.proofs.Frames.{entries_same, live_same}
-use Rattle.tree.proofs.Changing.{changes_if_moves, moves_trans}
-use Rattle.tree.proofs.Placing.{entries_from_header, put_entries, put_live, put_others, put_moves, moves_first, moves_second}
+use Rattle.tree.proofs.Changing.{Moves, changes_if_moves, moves_trans}
+use Rattle.tree.proofs.Placing.{entries_from_header, moves_first, moves_second, put_entries, put_live, put_others, put_moves}
 use Rattle.tree.proofs.Headed.{headed_at}
 use Rattle.tree.proofs.KnownKeys.{headed_header}
+use Rattle.tree.proofs.rebalance.redistribute.Given as given
 use Rattle.tree.proofs.rebalance.redistribute.Goals as goal
+use Rattle.tree.proofs.rebalance.redistribute.Goals.{After-len}
 
-pub set_header-requires : goal.set_header-requires
-set_header-requires g c =
-    let left = c.redistribute_with_heads.new.self in
-    let a = c.args.nodes.now in
-    let b = with_header a c.args.first left in
-    let kept = put_others a b c.args.first left refl c.args.second (λ same. c.requires.two.apart (sym same)) in
-    record { live = live_same a b c.args.second kept c.requires.two.live_second }
+-- entries that are shared evenly
+record AreShared (N : ℕ) (l r u v : List Entry) : Type 0 where
+  pub entries : u ++ v ≡ l ++ r
+  pub filled : AreHalfFull N u v
 
-pub redistribute_with_heads-requires : goal.redistribute_with_heads-requires
-redistribute_with_heads-requires g c =
-    let a = c.args.nodes.now in
-    let two = c.requires.two in
-    let left_was = entries_from_header a c.args.first _ c.header_mut-left.ensures.header in
-    let right_was = entries_from_header a c.args.second _ c.header-right.ensures.header in
-    let left = headed_at _ a c.args.first _ two.headed c.header_mut-left.ensures.header in
-    let right = headed_at _ a c.args.second _ two.headed c.header-right.ensures.header in
-    (search rules, (rw (← left_was, ← right_was) c.requires.many, record { left = left; right = right }))
+shared : (N half : ℕ) (l r u v : List Entry) → N < length l + length r → half ≡ (length l + length r) / 2 → u ++ v ≡ l ++ r
+    → length u ≡ half → AreShared N l r u v
+shared N half l r u v many half_is entries count =
+    let all = simp length-append at (ap length entries) in
+    record { entries = entries; filled = record { left = omega (arith, all); right = omega (arith, all) } }
+
+-- The end of the left ones goes to the right, or the beginning of the right ones to the left.
+moved_right : (N n half : ℕ) (l r u v : List Entry) → N < n + length r → n ≡ length l → half ≡ (n + length r) / 2 → half < n
+    → u ≡ take half l ++ drop n l → v ≡ take 0 r ++ (drop half (take n l) ++ drop 0 r) → AreShared N l r u v
+moved_right N n half l r u v many count half_is above u_is v_is =
+    let all = take_all n l (omega arith) in
+    let none = drop_all n l (omega arith) in
+    shared N half l r u v (omega arith) (omega arith)
+    (cc (all, none, append-nil (take half l), append_assoc (take half l) (drop half l) r, take-append-drop half l))
+    (simp (u_is, none, append-nil, length-take) (omega arith))
+
+moved_left : (N n half : ℕ) (l r u v : List Entry) → N < n + length r → n ≡ length l → half ≡ (n + length r) / 2 → n ≤ half
+    → u ≡ take n l ++ (drop 0 (take (half - n) r) ++ drop n l) → v ≡ take 0 r ++ drop (half - n) r → AreShared N l r u v
+moved_left N n half l r u v many count half_is below u_is v_is =
+    let all = take_all n l (omega arith) in
+    let none = drop_all n l (omega arith) in
+    let m = half - n in
+    shared N half l r u v (omega arith) (omega arith)
+    (cc (all, none, append-nil (take m r), append_assoc l (take m r) (drop m r), take-append-drop m r))
+    (simp (u_is, all, none, append-nil, length-append, length-take) (omega arith))
+
+-- A node is put in its place, and then another one.
+module _ {N : ℕ} {bytes : KeyBytes} {a : Arena (Node N)} {x y : ℕ} (two : AreTwo bytes a x y) (u : Node N) where
+  abbrev b : Arena (Node N)
+  b = with_header a x u
+
+  kept : record_at b y ≡ record_at a y
+  kept = put_others a b x u refl y (λ same. two.apart (sym same))
+
+  live : IsLive b y
+  live = live_same a b y kept two.live_second
+
+  read : {node : Node N} → header_at b y ≡ Some node → entries_of node ≡ entries_at a y
+  read {node} header = sym (entries_from_header b y node header) ∙ entries_same a b y kept
+
+  headed : AreHeads bytes (key_heads_of u) → AllAreHeads bytes (all_heads_of b)
+  headed = headed_header bytes a b x u refl two.headed
+
+  headed_still : {node : Node N} → header_at b y ≡ Some node → AreHeads bytes (key_heads_of u) → AreHeads bytes (key_heads_of node)
+  headed_still {node} header own = headed_at bytes b y node (headed own) header
+
+  first_is : (v : Node N) → entries_at (with_header b y v) x ≡ entries_of u
+  first_is v = entries_same b (with_header b y v) x (put_others b _ y v refl x two.apart) ∙ put_entries a b x u refl
+
+  put_first : Moves a b (x ∷ []) (x ∷ [])
+  put_first = put_moves a b x u refl two.live_first two.keyless
+
+  put_second : (v : Node N) → Moves b (with_header b y v) (y ∷ []) (y ∷ [])
+  put_second v = put_moves b _ y v refl live put_first.keyless
+
+swapped : {N : ℕ} {bytes : KeyBytes} {a : Arena (Node N)} {x y : ℕ} → AreTwo bytes a x y → AreTwo bytes a y x
+swapped {N} {bytes} {a} {x} {y} two =
+    let apart : y ≢ x = λ same. two.apart (sym same) in
+    search (rules, two.live_first, two.live_second, two.keyless, two.headed)
+
+-- how many entries both have
+module _ (g : given.Over) (c : After-len g) where
+  left_is : c.len-left.result ≡ length (entries_at c.args.nodes.now c.args.first)
+  left_is = c.len-left.ensures.len ∙ ap length (sym (entries_from_header c.args.nodes.now c.args.first _ c.header_ref.ensures.header))
+
+  right_is : c.len.result ≡ length (entries_at c.args.nodes.now c.args.second)
+  right_is = c.len.ensures.len ∙ ap length (sym (entries_from_header c.args.nodes.now c.args.second _ c.header_ref-2.ensures.header))
+
+pub header_mut-requires-then-left-half : goal.header_mut-requires-then-left-half
+header_mut-requires-then-left-half g c = record { live = live c.requires.two c.take_out-moved.new.self }
+
+pub header_mut-requires-3 : goal.header_mut-requires-3
+header_mut-requires-3 g c = record { live = live (swapped c.requires.two) c.take_out-moved-2.new.self }
+
+pub insert_with_heads-requires : goal.insert_with_heads-requires
+insert_with_heads-requires g c =
+    let s = (goal.at.insert_with_heads-requires g c).After-len in
+    let own = headed_still c.requires.two _ header given.headed.left in (
+      search rules,
+      (
+        omega arith,
+        (
+          rw (read c.requires.two _ header, given.taken) (simp (length-drop, length-take)
+              (omega (arith, right_is g s, left.len, left.most, right.len, right.most))),
+          record { left = own; right = given.headed.right },
+        ),
+      ),
+    )
+  where
+    open c use {len-left.{ensures as left}, len.{ensures as right}, take_out-moved.{ensures as given}}
+    open c use {header_mut-then-left-half.{ensures.{header}}}
+
+pub insert_with_heads-requires-2 : goal.insert_with_heads-requires-2
+insert_with_heads-requires-2 g c =
+    let two = swapped c.requires.two in
+    let seen = read two _ header in
+    let left_is = left_is g (goal.at.insert_with_heads-requires-2 g c).After-len in
+    let own = headed_still two _ header given.headed.left in (
+      search rules,
+      (
+        omega (arith, ap length seen, left_is),
+        (
+          rw (seen, given.taken) (simp (length-drop, length-take)
+              (omega (arith, left_is, left.len, left.most, right.len, right.most))),
+          record { left = own; right = given.headed.right },
+        ),
+      ),
+    )
+  where
+    open c use {len-left.{ensures as left}, len.{ensures as right}, take_out-moved-2.{ensures as given}, header_mut-3.{ensures.{header}}}
+
+pub returns-then-left-half : goal.returns-then-left-half
+returns-then-left-half g c =
+    let s = (goal.at.returns-then-left-half g c).After-len in
+    let b = with_header a x u in
+    let here = entries_from_header a x _ c.header_mut.ensures.header in
+    let there = read two u c.header_mut-then-left-half.ensures.header in
+    let done = moved_right g.row.N c.len-left.result _ (entries_at a x) (entries_at a y) _ _
+    (rw (← left_is g s) at many) (left_is g s) (ap (λ n. (c.len-left.result + n) / 2) (right_is g s)) c.if-left-half.true
+    (first_is two u v ∙ rw (← here) at given.entries)
+    (put_entries b (with_header b y v) y v refl ∙ rw (there, given.taken, ← here) at put.entries) in
+    record {
+      entries = done.entries;
+      filled = done.filled;
+      changes = changes_if_moves a _ _ _ (moves_trans a b _ _ _ _
+          (moves_first a b x y two.apart two.live_second (put_first two u))
+          (moves_second b _ x y (y ∷ []) two.apart (put_live a b x u refl) (put_second two u v)));
+      headed = headed_header _ b (with_header b y v) y v refl (headed two u given.headed.left) put.headed;
+    }
+  where
+    open c use {args.{nodes.{now as a}, first as x, second as y}, requires.{two, many}, take_out-moved.{new.{self as u}, ensures as given}}
+    open c use {insert_with_heads.{new.{self as v}, ensures as put}}
 
 pub returns : goal.returns
 returns g c =
-    let b = with_header a c.args.first left in
-    let left_was = entries_from_header a x _ c.header_mut-left.ensures.header in
-    let right_was = entries_from_header a y _ c.header-right.ensures.header in
-    let left_is = entries_same b d x (put_others b d y right replaced x two.apart) ∙ put_entries a b x left refl in
-    let right_is = put_entries b d y right replaced in
-    let put = put_moves a b x left refl two.live_first two.keyless in
-    let live_y = live_same a b y (put_others a b x left refl y (λ same. two.apart (sym same))) two.live_second in
-    let then = put_moves b d y right replaced live_y put.keyless in
-    let headed = headed_header _ a b x left refl two.headed given.headed.left in
+    let s = (goal.at.returns g c).After-len in
+    let two = swapped given_two in
+    let b = with_header a y u in
+    let here = entries_from_header a y _ c.header_mut-2.ensures.header in
+    let there = read two u c.header_mut-3.ensures.header in
+    let done = moved_left g.row.N c.len-left.result _ (entries_at a x) (entries_at a y) _ _
+    (rw (← left_is g s) at many) (left_is g s) (ap (λ n. (c.len-left.result + n) / 2) (right_is g s)) c.if-left-half.false
+    (put_entries b (with_header b x v) x v refl ∙ rw (there, given.taken, ← here) at put.entries)
+    (first_is two u v ∙ rw (← here) at given.entries) in
     record {
-      entries = cc;
-      filled = record { left = rw left_is given.filled.left; right = rw right_is given.filled.right };
-      changes = changes_if_moves a d _ _ (moves_trans a b d _ _ _ (moves_first a b x y two.apart two.live_second put)
-          (moves_second b d x y (y ∷ []) two.apart (put_live a b x left refl) then));
-      headed = headed_header _ b d y right replaced headed given.headed.right;
+      entries = done.entries;
+      filled = done.filled;
+      changes = changes_if_moves a _ _ _ (moves_trans a b _ _ _ _
+          (moves_second a b x y (y ∷ []) given_two.apart two.live_second (put_first two u))
+          (moves_first b _ x y given_two.apart (put_live a b y u refl) (put_second two u v)));
+      headed = headed_header _ b (with_header b x v) x v refl (headed two u given.headed.left) put.headed;
     }
   where
-    open c use {redistribute_with_heads.{new.{self as left, right}, ensures as given}}
-    open c use {args.{nodes.{now as a}, first as x, second as y}, set_header.{new.{self as d}, ensures.{replaced}}}
-    open c use {requires.{two}}
+    open c use {args.{nodes.{now as a}, first as x, second as y}, take_out-moved-2.{new.{self as u}, ensures as given}}
+    open c use {requires.{two as given_two, many}, insert_with_heads-2.{new.{self as v}, ensures as put}}
