@@ -48,9 +48,9 @@ module _ {N : ℕ} where
   headed_at bytes nodes slot node all is = rw is at (all slot)
 
   -- the keys of the entries of a node are known
-  pub common_prefix_len_at : (bytes : KeyBytes) (nodes : Arena (Node N)) (slot : ℕ) → AllAreHeads bytes (all_heads_of nodes)
+  pub known_at : (bytes : KeyBytes) (nodes : Arena (Node N)) (slot : ℕ) → AllAreHeads bytes (all_heads_of nodes)
       → All (IsKnown bytes) (keys_of (entries_at nodes slot))
-  common_prefix_len_at bytes nodes slot all = by_header (header_at nodes slot) (all slot)
+  known_at bytes nodes slot all = by_header (header_at nodes slot) (all slot)
     where
       by_header : (o : Option (Node N)) → IfSome (option_map key_heads_of o) (AreHeads bytes)
           → All (IsKnown bytes) (keys_of (unwrap_or (option_map entries_of o) []))

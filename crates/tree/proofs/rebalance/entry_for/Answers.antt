@@ -3,7 +3,7 @@ use Rattle.std.proofs.lemmas.Int.{to_z-of_z}
 use Rattle.tree.proofs.Words.{entries_at}
 use Rattle.tree.proofs.Placing.{entries_from_header}
 use Rattle.tree.proofs.Telling.{tells_items}
-use Rattle.tree.proofs.Headed.{common_prefix_len_at}
+use Rattle.tree.proofs.Headed.{known_at}
 use Rattle.tree.proofs.rebalance.entry_for.Goals as goal
 
 pub returns : goal.returns
@@ -19,7 +19,7 @@ returns g c =
       tells = λ height least h. tells_items a least height c.args.child _ e (drop 1 xs) (same ∙ parts) (cc)
           (rw (to_z-of_z w64 c.greatest.result (search rules)) greatest) h;
       known = λ bytes headed. rw (← c.index-entries-0.is)
-          ((rw (same ∙ parts) at (common_prefix_len_at bytes a c.args.child headed)) 0 e.key (omega arith));
+          ((rw (same ∙ parts) at (known_at bytes a c.args.child headed)) 0 e.key (omega arith));
     }
   where
     open c use {args.{nodes.{now as a}}, index-entries-0.{result as e}, entries.{result.{now as xs}}}
