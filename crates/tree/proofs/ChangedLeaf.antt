@@ -13,7 +13,7 @@ use Rattle.tree.specs.Node.{key_heads_of, all_heads_of}
 use Rattle.tree.specs.Item.{Item}
 use Rattle.tree.specs.Overwrite.{IsPartOfPartitioned}
 use Rattle.tree.specs.Rebalancing.{IsStored}
-use Rattle.tree.specs.Replace.{slot_taken, slots_with, Changes, IsKeyless}
+use Rattle.tree.specs.Children.{slot_taken, slots_with, Changes, IsKeyless}
 use Rattle.tree.specs.Subtree.{entries_at, items_in, slots_in}
 use Rattle.tree.specs.Walk.{CanChange, CanChangeLeaf, IsChanged, IsRaisedAt, added_by}
 use Rattle.tree.proofs.callers.Times.{once_if_distinct}

@@ -8,7 +8,7 @@ use Rattle.tree.specs.declared.node.Node.{Node}
 use Rattle.tree.specs.declared.walk.RaisedLeaf.{RaisedLeaf}
 use Rattle.tree.specs.Item.{item_of}
 use Rattle.tree.specs.Subtree.{entries_at, items_in, slots_in, IsChild, IsSubtree}
-use Rattle.tree.specs.Replace.{AreChildren, items_of, slots_of}
+use Rattle.tree.specs.Children.{AreChildren, items_of, slots_of}
 use Rattle.tree.specs.Walk.{IsRaisedIn}
 use Rattle.tree.proofs.callers.Times.{none_or_some, once_cases, times, once_same, times-append}
 

@@ -6,7 +6,7 @@ use Rattle.arena.specs.Arena.{Arena, Record, IsLive, record_at, header_at, key_a
 use Rattle.tree.specs.declared.node.Node.{Node}
 use Rattle.tree.specs.Node.{entries_of}
 use Rattle.tree.specs.Subtree.{entries_at}
-use Rattle.tree.specs.Replace.{IsKeyless}
+use Rattle.tree.specs.Children.{IsKeyless}
 use Rattle.tree.proofs.callers.Times.{times, once_cases}
 use Rattle.tree.proofs.Changing.{Moves, moves_beside, moves_header, record_put, record_kept}
 

@@ -15,7 +15,7 @@ use Rattle.tree.specs.Heads.{KeyBytes}
 use Rattle.tree.specs.Item.{Item, Tells}
 use Rattle.tree.specs.Overwrite.{IsPartOfPartitioned, part_of_part}
 use Rattle.tree.specs.Path.{IsPartitioned, items_below, behind, first_key}
-use Rattle.tree.specs.Replace.{child_at, items_of, AreChildren, IsRebalancedAt}
+use Rattle.tree.specs.Children.{child_at, items_of, AreChildren, IsRebalancedAt}
 use Rattle.tree.specs.Subtree.{entries_at, items_in, slots_in}
 use Rattle.tree.specs.Tree.{IsRooted, least_of}
 use Rattle.tree.specs.Walk.{CanChange, CanChangeTree, IsChanged, IsChangedWithin, IsNewTree, IsRaisedIn}

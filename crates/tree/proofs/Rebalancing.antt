@@ -7,7 +7,7 @@ use Rattle.tree.specs.declared.entry.Entry.{Entry}
 use Rattle.tree.specs.declared.node.Node.{Node}
 use Rattle.tree.specs.Item.{Tells}
 use Rattle.tree.specs.Subtree.{entries_at, items_in, slots_in, IsSubtree}
-use Rattle.tree.specs.Replace.{child_at, slots_of, AreChildren, IsFamily, IsFamilyAt, IsKeyless, IsRebalanced}
+use Rattle.tree.specs.Children.{child_at, slots_of, AreChildren, IsFamily, IsFamilyAt, IsKeyless, IsRebalanced}
 use Rattle.tree.proofs.callers.Times.{none_or_some, times, times-append}
 use Rattle.tree.proofs.Frames.{IsRight, live_in, own_slot}
 use Rattle.tree.proofs.Changing.{moves_same}

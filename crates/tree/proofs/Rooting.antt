@@ -9,7 +9,7 @@ use Rattle.arena.specs.Arena.{Arena, IsLive}
 use Rattle.tree.specs.declared.entry.Entry.{Entry}
 use Rattle.tree.specs.declared.node.Node.{Node}
 use Rattle.tree.specs.Subtree.{entries_at, items_in, slots_in, IsSubtree}
-use Rattle.tree.specs.Replace.{AreChildren, items_of, slots_of}
+use Rattle.tree.specs.Children.{AreChildren, items_of, slots_of}
 use Rattle.tree.specs.Tree.{IsRooted, least_of}
 use Rattle.tree.proofs.callers.Times.{once_if_distinct, distinct_if_once}
 use Rattle.tree.proofs.Frames.{IsRight, agree_own, items_same, slots_same, subtree_same, live_in}

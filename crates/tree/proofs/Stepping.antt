@@ -7,7 +7,7 @@ use Rattle.tree.specs.Item.{Item}
 use Rattle.tree.specs.Subtree.{entries_at, items_in, slots_in, IsSubtree}
 use Rattle.tree.specs.Tree.{least_of}
 use Rattle.tree.specs.Walk.{CanChange}
-use Rattle.tree.specs.Replace.{child_at, items_of, slots_of}
+use Rattle.tree.specs.Children.{child_at, items_of, slots_of}
 use Rattle.tree.proofs.callers.Times.{times, once, once_same, distinct_if_once}
 use Rattle.tree.proofs.Frames.{IsRight, entries_same, live_same}
 use Rattle.tree.proofs.Changing.{Moves}

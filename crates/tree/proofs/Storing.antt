@@ -12,7 +12,7 @@ use Rattle.tree.specs.Node.{all_heads_of, entries_of, key_heads_of}
 use Rattle.tree.specs.Rebalancing.{AreTwo, CanMerge, CanRebalance, LosesOneAtMost}
 use Rattle.tree.specs.Tree.{least_of}
 use Rattle.tree.specs.Subtree.{entries_at, items_in, slots_in, IsSubtree}
-use Rattle.tree.specs.Replace.{entries_at_both, items_with, slots_with, slot_taken, Changes, items_of, slots_of, AreChildren, IsFamilyAt, IsRebalanced, IsRebalancedAt}
+use Rattle.tree.specs.Children.{entries_at_both, items_with, slots_with, slot_taken, Changes, items_of, slots_of, AreChildren, IsFamilyAt, IsRebalanced, IsRebalancedAt}
 use Rattle.tree.proofs.callers.Times.{times, once_same, once_cases, once_if_distinct, times-append, times_unless_contains}
 use Rattle.tree.proofs.Frames.{Agree, IsRight, entries_same, live_same}
 use Rattle.tree.proofs.Changing.{Moves, moves_beside, moves_agree, moves_trans, moves_if_changes, changes_if_moves}

@@ -12,7 +12,7 @@ use Rattle.tree.specs.declared.walk.Outcome.TheVariants.{Same, Raised, Split}
 use Rattle.tree.specs.declared.walk.RaisedLeaf.{RaisedLeaf}
 use Rattle.tree.specs.Heads.{KeyBytes}
 use Rattle.tree.specs.Item.{Item}
-use Rattle.tree.specs.Replace.{child_at, entries_at_both, items_of, slots_of, slots_with, Changes, HasRaisedEntry, IsFamily, IsFamilyAt, IsLinked, IsRebalancedAt, TellsWritten}
+use Rattle.tree.specs.Children.{child_at, entries_at_both, items_of, slots_of, slots_with, Changes, HasRaisedEntry, IsFamily, IsFamilyAt, IsLinked, IsRebalancedAt, TellsWritten}
 use Rattle.tree.specs.Splice.{AreHalfFull}
 use Rattle.tree.specs.Subtree.{entries_at, items_in, slots_in, IsSubtree}
 use Rattle.tree.specs.Tree.{least_of}

@@ -12,7 +12,7 @@ use Rattle.tree.specs.declared.entry.Entry.{Entry}
 use Rattle.tree.specs.declared.node.Node.{Node}
 use Rattle.tree.specs.Item.{Item, Tells, item_of}
 use Rattle.tree.specs.Path.{IsPartitioned, first_key, index_in}
-use Rattle.tree.specs.Replace.{child_at, items_of, AreChildren, TellsWritten}
+use Rattle.tree.specs.Children.{child_at, items_of, AreChildren, TellsWritten}
 use Rattle.tree.specs.Subtree.{entries_at, items_in}
 use Rattle.tree.specs.Tree.{least_of}
 use Rattle.tree.specs.Walk.{IsChangedWithin, IsFoundAmong, IsRaised}

@@ -17,7 +17,7 @@ pub use Rattle.tree.specs.Overwrite.{Overwrites, first_is_below, put_of}
 pub use Rattle.tree.specs.Path.{IsPartitioned, between, from_last, items_below, index_in, leaf_in, behind, behind_leaf, first_key, child_in, before_leaf, below_from, below_to}
 pub use Rattle.tree.specs.Question.{IsApproach, IsLeading, IsTold}
 pub use Rattle.tree.specs.Reached.{CanReach}
-pub use Rattle.tree.specs.Replace.{Changes, IsKeyless, AreChildren, items_of, slots_of, child_at, IsFamily, IsRebalanced}
+pub use Rattle.tree.specs.Children.{Changes, IsKeyless, AreChildren, items_of, slots_of, child_at, IsFamily, IsRebalanced}
 pub use Rattle.tree.specs.Subtree.{items_in, entries_at, slots_in, IsSubtree, IsChild}
 pub use Rattle.tree.specs.Tree.{IsTree, least_of, IsLast, KnowItems, IsRooted, unexpired, expired, ended_by}
 pub use Rattle.tree.specs.Walk.{IsChangedWithin}

@@ -8,8 +8,8 @@ pub mod Path
 pub mod Finding
 pub mod Reached
 pub mod Question
+pub mod Children
 pub mod Tree
-pub mod Replace
 pub mod Rebalancing
 pub mod Walk
 pub mod Overwrite

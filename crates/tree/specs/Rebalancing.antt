@@ -7,7 +7,7 @@ use Rattle.tree.specs.declared.entry.Entry.{Entry}
 use Rattle.tree.specs.declared.node.Node.{Node}
 use Rattle.tree.specs.Heads.{AllAreHeads, AreHeads, AreHeadsBeside, IsKnown, KeyBytes}
 use Rattle.tree.specs.Node.{all_heads_of, entries_of, key_heads_of, keys_of}
-use Rattle.tree.specs.Replace.{child_at, slot_taken, slots_with, Changes, IsFamilyAt, IsKeyless}
+use Rattle.tree.specs.Children.{child_at, slot_taken, slots_with, Changes, IsFamilyAt, IsKeyless}
 use Rattle.tree.specs.Splice.{AreHalfFull}
 use Rattle.tree.specs.Subtree.{entries_at, slots_in, IsSubtree}
 use Rattle.tree.specs.Tree.{least_of}

@@ -11,7 +11,7 @@ use Rattle.tree.specs.Node.{all_heads_of, entries_of, key_heads_of}
 use Rattle.tree.specs.Overwrite.{GivesWhole}
 use Rattle.tree.specs.Path.{IsPartitioned, items_below, behind}
 use Rattle.tree.specs.Rebalancing.{IsStored}
-use Rattle.tree.specs.Replace.{IsKeyless}
+use Rattle.tree.specs.Children.{IsKeyless}
 use Rattle.tree.specs.Subtree.{entries_at, items_in}
 use Rattle.tree.specs.Tree.{least_of}
 

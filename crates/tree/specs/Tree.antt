@@ -10,7 +10,7 @@ use Rattle.tree.specs.Item.{Item}
 use Rattle.tree.specs.Heads.{AllAreHeads, KeyBytes, KeyHeads}
 use Rattle.tree.specs.Path.{IsPartitioned}
 use Rattle.tree.specs.Subtree.{entries_at, items_in, slots_in, IsSubtree}
-use Rattle.tree.specs.Replace.{IsKeyless}
+use Rattle.tree.specs.Children.{IsKeyless}
 
 -- a tree
 pub record Items : Type 0 where

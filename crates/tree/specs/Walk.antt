@@ -12,7 +12,7 @@ use Rattle.tree.specs.Heads.{KeyBytes, AllAreHeads, IsCommonPrefixAt}
 use Rattle.tree.specs.Item.{Item}
 use Rattle.tree.specs.Node.{all_heads_of}
 use Rattle.tree.specs.Path.{IsPartitioned, first_key}
-use Rattle.tree.specs.Replace.{slots_with, Changes, IsKeyless}
+use Rattle.tree.specs.Children.{slots_with, Changes, IsKeyless}
 use Rattle.tree.specs.Subtree.{entries_at, items_in, slots_in, IsSubtree}
 use Rattle.tree.specs.Tree.{least_of, IsRooted}
 

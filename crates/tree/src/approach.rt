@@ -39,10 +39,10 @@ pub enum Approach {
     Open,
 }
 
-/// Goes down a subtree to the leaf that answers a question. `common_prefix_len` is how many bytes the first key of the subtree and
-/// the target of the first bound begin with in common. `clear` tells that the items behind the subtree don't come before the second
-/// bound.
-pub fn descend<P: Bound, Q: Bound, const N: usize>(
+// Goes down a subtree to the leaf that answers a question. `common_prefix_len` is how many bytes the first key of the subtree and
+// the target of the first bound begin with in common. `clear` tells that the items behind the subtree don't come before the second
+// bound.
+fn descend<P: Bound, Q: Bound, const N: usize>(
     nodes: &Arena<Node<N>>,
     slot: Slot,
     height: usize,

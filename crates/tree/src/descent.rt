@@ -10,8 +10,8 @@ ghost use Rattle.tree.specs.Tree.{least_of};
 ghost use Rattle.tree.specs.Path.{leaf_in, behind_leaf, first_key};
 
 use crate::bound::Bound;
+use crate::entry::key_at;
 use crate::node::Node;
-use crate::search::key_at;
 use arena::{Arena, Slot};
 
 /// Where a search has come to.

@@ -1,5 +1,9 @@
 //! An entry of a node.
 
+ghost use Rattle.std.specs.Prelude.{◌≡◌, drop, map};
+ghost use Rattle.tree.specs.Item.{item_of};
+ghost use Rattle.tree.specs.Path.{first_key};
+
 use arena::Slot;
 
 /// What a node knows of an item, or of the subtree of a child.
@@ -11,4 +15,14 @@ pub struct Entry {
     pub child: Slot,
     /// The version of the item, or the greatest one of the subtree.
     pub version: i64,
+}
+
+/// Returns the key of the entry at an index, or `behind` if there is none.
+pub fn key_at(entries: &[Entry], index: usize, behind: Option<Slot>) -> Option<Slot>
+    ensures key { result ≡ first_key behind (map item_of (drop index entries.now)) }
+{
+    match entries.get(index) {
+        Some(entry) => Some(entry.key),
+        None => behind,
+    }
 }

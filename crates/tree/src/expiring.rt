@@ -9,9 +9,8 @@ ghost use Rattle.tree.specs.Expire.{GivesUnexpired};
 ghost use Rattle.tree.specs.Tree.{IsLast, unexpired, expired};
 
 use crate::bound::Bound;
-use crate::entry::Entry;
+use crate::entry::{Entry, key_at};
 use crate::node::Node;
-use crate::search::key_at;
 use crate::walk::{LeafChange, Outcome, Place};
 use arena::{Arena, Slot};
 use arrayvec::ArrayVec;

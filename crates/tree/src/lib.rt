@@ -7,20 +7,19 @@
 
 mod approach;
 mod bound;
+mod children;
 mod descent;
 mod entry;
 mod expiring;
+mod greatest_version;
 mod node;
 mod overwrite;
 mod question;
 mod questions;
 mod rebalance;
 mod remembered;
-mod replace;
 mod root;
 mod run;
-mod search;
-mod span;
 mod tree;
 mod walk;
 mod way;

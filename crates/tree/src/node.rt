@@ -148,8 +148,8 @@ impl<const N: usize> Node<N> {
         copy_few(heads, &mut own[from..end]);
     }
 
-    /// Puts entries of another node, with their heads, behind these.
-    pub fn append(&mut self, more: &[Entry], heads: &[u32])
+    // Puts entries of another node, with their heads, behind these.
+    fn append(&mut self, more: &[Entry], heads: &[u32])
         requires same_len { length heads.now ≡ length more.now }
         requires room { length (entries_of self.old) + length more.now ≤ N }
         ensures entries { (entries_of self.new) ≡ (entries_of self.old) ++ more.now }
@@ -164,8 +164,8 @@ impl<const N: usize> Node<N> {
         own[from..to].copy_from_slice(heads);
     }
 
-    /// Puts entries of another node, with their heads, before these.
-    pub fn prepend(&mut self, more: &[Entry], heads: &[u32])
+    // Puts entries of another node, with their heads, before these.
+    fn prepend(&mut self, more: &[Entry], heads: &[u32])
         requires same_len { length heads.now ≡ length more.now }
         requires room { length (entries_of self.old) + length more.now ≤ N }
         ensures entries { (entries_of self.new) ≡ more.now ++ (entries_of self.old) }
@@ -179,8 +179,8 @@ impl<const N: usize> Node<N> {
         own[0..count].copy_from_slice(heads);
     }
 
-    /// Takes the entries from an index on out, and returns them, with their heads.
-    pub fn split_off(&mut self, at: usize) -> Node<N>
+    // Takes the entries from an index on out, and returns them, with their heads.
+    fn split_off(&mut self, at: usize) -> Node<N>
         requires within { at ≤ length (entries_of self.old) }
         ensures left { (entries_of self.new) ≡ take at (entries_of self.old) }
         ensures right { entries_of result ≡ drop at (entries_of self.old) }
@@ -193,9 +193,9 @@ impl<const N: usize> Node<N> {
         right
     }
 
-    /// Moves entries, with their heads, between two neighbours, of which this is the left one, so that their numbers differ by one at
-    /// most.
-    pub fn redistribute(&mut self, right: &mut Node<N>)
+    // Moves entries, with their heads, between two neighbours, of which this is the left one, so that their numbers differ by one at
+    // most.
+    fn redistribute(&mut self, right: &mut Node<N>)
         requires many { N < length (entries_of self.old) + length (entries_of right.old) }
         ensures entries { (entries_of self.new) ++ (entries_of right.new) ≡ (entries_of self.old) ++ (entries_of right.old) }
         ensures heads { ShareHeads self.old right.old self.new right.new }

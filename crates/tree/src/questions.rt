@@ -14,11 +14,10 @@ ghost use Rattle.tree.specs.declared.question.TheConstants.{SIDE};
 
 use crate::approach::{Approach, Near, descend_from, end_head};
 use crate::bound::Bound;
+use crate::greatest_version::{any_above, greatest};
 use crate::node::Node;
 use crate::question::{Question, SIDE};
 use crate::root::Root;
-use crate::search::greatest;
-use crate::span::any_above;
 use arena::Arena;
 use arrayvec::ArrayVec;
 
@@ -30,12 +29,8 @@ pub struct Look {
     pub from_head: Option<u32>,
 }
 
-/// Looks at the leaf to which a question leads, for the first time.
-pub fn look_at<P: Bound, const N: usize>(
-    nodes: &Arena<Node<N>>,
-    approach: &Approach,
-    from: &P,
-) -> Look
+// Looks at the leaf to which a question leads, for the first time.
+fn look_at<P: Bound, const N: usize>(nodes: &Arena<Node<N>>, approach: &Approach, from: &P) -> Look
     requires leading { IsLeading nodes.now (P.bytes from.now) (P.below from.now) (P.target from.now) approach.now }
     requires headed { AllAreHeads (P.bytes from.now) (all_heads_of nodes.now) }
     ensures approach { result.approach ≡ approach.now }
@@ -101,8 +96,8 @@ fn end_in<P: Bound, Q: Bound, const N: usize>(
     node.lower_bound_from(begin, &question.to, head)
 }
 
-/// Answers a question. `look` is what the first look at the leaf gave to which it leads.
-pub fn answer<P: Bound, Q: Bound, const N: usize>(
+// Answers a question. `look` is what the first look at the leaf gave to which it leads.
+fn answer<P: Bound, Q: Bound, const N: usize>(
     nodes: &Arena<Node<N>>,
     root: Root,
     question: &Question<P, Q>,

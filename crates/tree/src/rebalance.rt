@@ -1,4 +1,4 @@
-//! The entries of a node, made right where a child has changed.
+//! Neighbours that are merged, or share their entries evenly, where one of them has too few.
 
 ghost use Rattle.std.specs.Prelude.{◌≡◌, ◌≤◌, ◌<◌, ◌+◌, ◌++◌, ◌∷◌, ℕ, [], length};
 ghost use Rattle.arena.specs.Arena.{IsLive};
@@ -9,7 +9,7 @@ ghost use Rattle.tree.specs.Node.{all_heads_of};
 ghost use Rattle.tree.specs.Splice.{AreHalfFull};
 ghost use Rattle.tree.specs.Subtree.{entries_at, items_in, IsSubtree};
 ghost use Rattle.tree.specs.Tree.{least_of};
-ghost use Rattle.tree.specs.Replace.{Changes, IsFamilyAt, IsRebalancedAt};
+ghost use Rattle.tree.specs.Children.{Changes, IsFamilyAt, IsRebalancedAt};
 
 use crate::bound::Bound;
 use crate::entry::Entry;

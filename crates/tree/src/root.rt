@@ -9,19 +9,18 @@ ghost use Rattle.tree.specs.Node.{all_heads_of};
 ghost use Rattle.tree.specs.Subtree.{items_in};
 ghost use Rattle.tree.specs.Path.{items_below, behind, first_key};
 ghost use Rattle.tree.specs.Reached.{CanReach, IsReached};
-ghost use Rattle.tree.specs.Replace.{items_with};
+ghost use Rattle.tree.specs.Children.{items_with};
 ghost use Rattle.tree.specs.Tree.{least_of, IsLast};
 ghost use Rattle.tree.specs.Walk.{CanChangeBy, IsChangedWithin, IsNewTree, IsRaisedInTree};
 
 use crate::bound::Bound;
+use crate::children::place;
 use crate::descent::{Reached, common_prefix_len_at, find};
-use crate::entry::Entry;
+use crate::entry::{Entry, key_at};
 use crate::node::Node;
 use crate::overwrite::{Overwrite, Overwriting, Written};
 use crate::rebalance::entry_for;
 use crate::remembered::write_in_leaf;
-use crate::replace::place;
-use crate::search::key_at;
 use crate::walk::{LeafChange, Outcome, Place, RaisedLeaf, change_leaf};
 use crate::way::Way;
 use arena::{Arena, Slot};
@@ -35,8 +34,8 @@ pub struct Root {
     pub height: usize,
 }
 
-/// Finds the leaf that has the last item below the bound, or else the first leaf.
-pub fn reach<P: Bound, const N: usize>(nodes: &Arena<Node<N>>, root: Root, bound: &P) -> Reached
+// Finds the leaf that has the last item below the bound, or else the first leaf.
+fn reach<P: Bound, const N: usize>(nodes: &Arena<Node<N>>, root: Root, bound: &P) -> Reached
     requires can_reach { CanReach (P.bytes bound.now) (P.below bound.now) nodes.now (least_of N) root.height root.slot }
     ensures reached { IsReached (P.bytes bound.now) (P.below bound.now) (P.target bound.now) nodes.now root.height root.slot result }
 {

@@ -3,16 +3,16 @@
 ghost use Rattle.std.specs.Prelude.{◌≡◌, ◌≤◌, ◌+◌, ◌-◌, ◌++◌, ◌∷◌, length, take, drop, map, None, unwrap_or};
 ghost use Rattle.tree.specs.Item.{item_of};
 ghost use Rattle.tree.specs.Rebalancing.{IsStored};
-ghost use Rattle.tree.specs.Replace.{items_with};
+ghost use Rattle.tree.specs.Children.{items_with};
 ghost use Rattle.tree.specs.Run.{CanWriteRun};
 ghost use Rattle.tree.specs.Subtree.{entries_at};
 ghost use Rattle.tree.specs.Tree.{ended_by};
 
 use crate::bound::Bound;
+use crate::children::split;
 use crate::entry::Entry;
 use crate::node::Node;
 use crate::overwrite::Overwrite;
-use crate::replace::split;
 use crate::tree::item;
 use arena::{Arena, Slot};
 use arrayvec::ArrayVec;

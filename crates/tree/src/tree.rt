@@ -14,13 +14,13 @@ ghost use Rattle.tree.specs.Tree.{CanSearchItems, IsLast, tree_heads, KnowItems}
 use crate::bound::Bound;
 use crate::entry::Entry;
 use crate::expiring::{Expiring, Removal};
+use crate::greatest_version::greatest;
 use crate::node::Node;
 use crate::overwrite::{Overwrite, Written};
 use crate::question::{Question, SIDE};
 use crate::questions::{answer_each, descend_each, look_at_each};
 use crate::rebalance::least;
 use crate::root::{Root, change, last_and_next, overwrite};
-use crate::search::greatest;
 use crate::walk::RaisedLeaf;
 use crate::way::Way;
 use arena::{Arena, ArenaError, Slot};

@@ -2,15 +2,14 @@
 
 ghost use Rattle.std.specs.Prelude.{◌≡◌, ◌++◌, ℕ, Bool, List, Option, map};
 ghost use Rattle.tree.specs.Item.{Item, item_of};
-ghost use Rattle.tree.specs.Replace.{items_with};
+ghost use Rattle.tree.specs.Children.{items_with};
 ghost use Rattle.tree.specs.Subtree.{items_in};
 ghost use Rattle.tree.specs.Walk.{added_by, CanChangeLeaf, IsChanged, IsChangedWithin};
 
 use crate::bound::Bound;
-use crate::entry::Entry;
+use crate::children::{insert_child, raise_entry, rebalance_child};
+use crate::entry::{Entry, key_at};
 use crate::node::Node;
-use crate::replace::{insert_child, raise_entry, rebalance_child};
-use crate::search::key_at;
 use crate::way::Way;
 use arena::{Arena, Slot};
 use arrayvec::ArrayVec;

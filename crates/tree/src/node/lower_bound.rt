@@ -4,12 +4,12 @@ ghost use Rattle.std.specs.Prelude.{◌≡◌, ◌≢◌, ◌<◌, ◌≤◌, �
 ghost use Rattle.tree.specs.Finding.{AreTied, CanFind, CanStep, CanStepBy, HasHead, IsLowerBound, IsHeadFor};
 ghost use Rattle.tree.specs.Heads.{HasPrefix, HaveCommonPrefix, AreHeads};
 ghost use Rattle.tree.specs.Node.{entries_of, key_heads_of};
+ghost use Rattle.tree.specs.Path.{IsPartitioned};
 ghost use Rattle.tree.specs.declared.node.TheConstants.{PADDING};
 
 use super::Node;
 use crate::bound::Bound;
 use crate::entry::Entry;
-use crate::search::lower_bound;
 
 // How many heads a search looks at side by side.
 const BLOCK: usize = 8;
@@ -231,4 +231,13 @@ fn heads_below<const N: usize>(heads: &[u32; N], head: u32) -> usize
         }
     }
     below
+}
+
+// Returns how many of the entries are below the bound, which come first.
+fn lower_bound<P: Bound>(entries: &[Entry], bound: &P) -> usize
+    requires partitioned { IsPartitioned (λ e. P.below bound.now e.key) entries.now }
+    ensures within { result ≤ length entries.now }
+    ensures count { result ≡ length (filter (λ e. P.below bound.now e.key) entries.now) }
+{
+    entries.partition_point(|entry| bound.is_below(entry.key))
 }

@@ -6,7 +6,7 @@ use Rattle.tree.specs.declared.entry.Entry.{Entry}
 use Rattle.tree.specs.Heads.{IsKnown}
 use Rattle.tree.specs.Node.{entries_of, keys_of}
 use Rattle.tree.specs.Subtree.{slots_in}
-use Rattle.tree.specs.Replace.{slots_of}
+use Rattle.tree.specs.Children.{slots_of}
 use Rattle.tree.specs.Tree.{least_of}
 use Rattle.tree.proofs.Changing.{moves_if_changes}
 use Rattle.tree.proofs.Replacing.{both_right}

@@ -7,7 +7,7 @@ use Rattle.tree.specs.Subtree.{entries_at, items_in}
 use Rattle.tree.specs.declared.walk.Outcome.TheVariants.{Same, Raised, Changed, Split}
 use Rattle.tree.specs.declared.walk.RaisedLeaf.{RaisedLeaf}
 use Rattle.tree.specs.Tree.{least_of}
-use Rattle.tree.specs.Replace.{items_of}
+use Rattle.tree.specs.Children.{items_of}
 use Rattle.tree.specs.Walk.{CanChangeLeaf, IsChangedWithin, added_by}
 use Rattle.tree.proofs.callers.Times.{once_if_distinct}
 use Rattle.tree.proofs.ChangedLeaf.{unchanged}

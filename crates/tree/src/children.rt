@@ -1,11 +1,11 @@
-//! A node above a changed child, rebalanced.
+//! A node whose child has changed: its entry for the child is made right, and the node is split or rebalanced where that is due.
 
 ghost use Rattle.std.specs.Prelude.{◌≡◌, ◌<◌, ◌+◌, ◌⊎◌, ◌++◌, ℕ, [], take, drop, Some};
 ghost use Rattle.arena.specs.Arena.{spare_of};
 ghost use Rattle.tree.specs.Rebalancing.{CanInsertChild, CanRaise, CanRebalance, CanSplit, IsPlaced, IsStored, LosesOneAtMost};
 ghost use Rattle.tree.specs.Subtree.{entries_at};
 ghost use Rattle.tree.specs.Tree.{least_of};
-ghost use Rattle.tree.specs.Replace.{child_at, entries_at_both, HasRaisedEntry, IsFamilyAt, IsKeyless, IsLinked, IsRebalancedAt, TellsWritten};
+ghost use Rattle.tree.specs.Children.{child_at, entries_at_both, HasRaisedEntry, IsFamilyAt, IsKeyless, IsLinked, IsRebalancedAt, TellsWritten};
 
 use crate::bound::Bound;
 use crate::entry::Entry;

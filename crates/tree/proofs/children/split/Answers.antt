@@ -4,7 +4,7 @@ use Rattle.tree.proofs.Headed.{headed_at}
 use Rattle.tree.proofs.KnownKeys.{headed_header}
 use Rattle.tree.proofs.Neighbours.{left_entries, left_live, both_changes}
 use Rattle.tree.proofs.Placing.{entries_from_header, put_moves}
-use Rattle.tree.proofs.replace.split.Goals as goal
+use Rattle.tree.proofs.children.split.Goals as goal
 
 pub splice_apart-right-requires : goal.splice_apart-right-requires
 splice_apart-right-requires g c =

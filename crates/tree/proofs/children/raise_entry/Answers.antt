@@ -14,9 +14,9 @@ use Rattle.tree.proofs.LeafChange.{key_heads_stays}
 use Rattle.tree.proofs.Placing.{entries_from_header, put_entries, put_others}
 use Rattle.tree.proofs.Sharing.{child_is}
 use Rattle.tree.proofs.Storing.{entry_put}
-use Rattle.tree.proofs.replace.raise_entry.Given.{Over}
-use Rattle.tree.proofs.replace.raise_entry.Goals as goal
-use Rattle.tree.proofs.replace.raise_entry.Goals.{After-index-entries-index}
+use Rattle.tree.proofs.children.raise_entry.Given.{Over}
+use Rattle.tree.proofs.children.raise_entry.Goals as goal
+use Rattle.tree.proofs.children.raise_entry.Goals.{After-index-entries-index}
 
 -- the entry that was read
 read_is : (g : Over) (c : After-index-entries-index g) → c.index-entries-index.result

@@ -6,9 +6,9 @@ use Rattle.tree.proofs.Looks.{IsLook, can_find_at, look_of, ask_any, look_ordere
 use Rattle.tree.proofs.Halves.{AreHalves, left_items, right_items, middle_items, left_from_last, right_before, left_is, right_is, middle_tells, left_reached, right_reached, apart, in_one, in_two}
 use Rattle.tree.proofs.GreatestParts.{IsPeak-leaf}
 use Rattle.tree.proofs.Most.{most_with, most_between, most_of_parts, most_passed}
-use Rattle.tree.proofs.search.+greatest.Given.{Over}
-use Rattle.tree.proofs.search.+greatest.Goals as goal
-use Rattle.tree.proofs.search.+greatest.Goals.{After-saturating_sub-first, After-index-entries-last, After-is_above-3, then-is_above, else-is_above}
+use Rattle.tree.proofs.greatest_version.+greatest.Given.{Over}
+use Rattle.tree.proofs.greatest_version.+greatest.Goals as goal
+use Rattle.tree.proofs.greatest_version.+greatest.Goals.{After-saturating_sub-first, After-index-entries-last, After-is_above-3, then-is_above, else-is_above}
 
 look : (g : Over) (t : ℕ) (c : After-saturating_sub-first g t)
     → IsLook c.args.nodes.now (least_of g.row.N) c.args.height c.args.slot

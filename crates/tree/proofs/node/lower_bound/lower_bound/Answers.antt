@@ -2,7 +2,7 @@ use Rattle.std.proofs.Common.{length, sym, ◌∙◌, ap, length-take-le, rules}
 use Rattle.std.proofs.lemmas.List.Sorted.{IsPartitionPoint-from_clause}
 use Rattle.tree.specs.declared.entry.Entry.{Entry}
 use Rattle.tree.proofs.callers.Partitions.{partitioned, parted_at}
-use Rattle.tree.proofs.search.lower_bound.Goals as goal
+use Rattle.tree.proofs.node.lower_bound.lower_bound.Goals as goal
 
 pub returns : goal.returns
 returns g c =
@@ -12,4 +12,4 @@ returns g c =
     (partitioned p es c.requires.partitioned) (λ a r q k. search rules) in
     let parts = parted_at p es _ c.partition_point.ensures.bound point in
     let count = sym (length-take-le _ es c.partition_point.ensures.bound) ∙ ap length parts.0 in
-    search (rules, c.partition_point.ensures.bound, parts.0, parts.1, count)
+    search (rules, c.partition_point.ensures.bound, count)

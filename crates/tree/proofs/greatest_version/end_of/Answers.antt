@@ -1,7 +1,7 @@
 use Rattle.std.proofs.Common.{refl, true, length, sym, ap, arith, ◌∙◌}
 use Rattle.tree.specs.Node.{entries_of}
 use Rattle.tree.proofs.callers.Partitions.{none_fail}
-use Rattle.tree.proofs.span.end_of.Goals as goal
+use Rattle.tree.proofs.greatest_version.end_of.Goals as goal
 
 pub returns-in-None : goal.returns-in-None
 returns-in-None g c =

@@ -1,4 +1,4 @@
--- The replacement of a leaf, and of entries above it. This project's own.
+-- The children of a node, and what a change of them leaves. This project's own.
 use Rattle.std.specs.Prelude.{◌≡◌, ◌≢◌, ℕ, ℤ, ◌≤ℤ◌, suc, ◌+◌, List, [], ◌++◌, ◌⊎◌, length, ◌∷◌, take, drop, nat_eq, slice_get, slice_set, option_map, unwrap_or, Option, None, Some, IfSome}
 use Rattle.std.specs.List.{All, Contains, IsDistinct, flat_map}
 use Rattle.std.specs.FinMap as map

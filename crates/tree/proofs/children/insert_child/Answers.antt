@@ -3,7 +3,7 @@ use Rattle.tree.proofs.Words.{with_header, Entry, entries_at, child_at}
 use Rattle.tree.proofs.ChangedLeaf.{put_stored}
 use Rattle.tree.proofs.Placing.{entries_from_header, put_entries}
 use Rattle.tree.proofs.Sharing.{child_is}
-use Rattle.tree.proofs.replace.insert_child.Goals as goal
+use Rattle.tree.proofs.children.insert_child.Goals as goal
 
 pub returns : goal.returns
 returns g c =

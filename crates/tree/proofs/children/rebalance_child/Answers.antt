@@ -8,9 +8,9 @@ use Rattle.tree.proofs.KnownKeys.{headed_header}
 use Rattle.tree.proofs.Placing.{entries_from_header, put_entries}
 use Rattle.tree.proofs.Rebalancing.{filled_pair, widened}
 use Rattle.tree.proofs.Storing.{child_live, entry_put}
-use Rattle.tree.proofs.replace.rebalance_child.Given.{Over}
-use Rattle.tree.proofs.replace.rebalance_child.Goals as goal
-use Rattle.tree.proofs.replace.rebalance_child.Goals.{After-index-entries-index}
+use Rattle.tree.proofs.children.rebalance_child.Given.{Over}
+use Rattle.tree.proofs.children.rebalance_child.Goals as goal
+use Rattle.tree.proofs.children.rebalance_child.Goals.{After-index-entries-index}
 
 -- the child at the index
 child_is : (g : Over) (c : After-index-entries-index g)

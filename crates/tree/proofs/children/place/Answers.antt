@@ -2,7 +2,7 @@ use Rattle.std.proofs.Common.{[], ◌∷◌, option_map, ap, is_some}
 use Rattle.tree.proofs.Changing.{changes_if_moves, moves_placed}
 use Rattle.tree.proofs.Headed.{headed_put}
 use Rattle.tree.proofs.Placing.{entries_from_header, placed_spare}
-use Rattle.tree.proofs.replace.place.Goals as goal
+use Rattle.tree.proofs.children.place.Goals as goal
 
 pub returns : goal.returns
 returns g c =
