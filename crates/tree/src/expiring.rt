@@ -54,6 +54,11 @@ impl<'a, P: Bound, const N: usize> LeafChange<N> for Expiring<'a, P> {
         self.bound
     }
 
+    // A sweep goes from leaf to leaf.
+    fn goes_along(&self) -> bool {
+        true
+    }
+
     fn change(
         &mut self,
         nodes: &mut Arena<Node<N>>,

@@ -86,6 +86,11 @@ impl<'a, 'b, P: Bound, Q: Bound, R: Bound, const N: usize> LeafChange<N>
         self.new.to
     }
 
+    // The next write may come to any leaf behind this one.
+    fn goes_along(&self) -> bool {
+        false
+    }
+
     fn change(
         &mut self,
         nodes: &mut Arena<Node<N>>,

@@ -79,6 +79,9 @@ pub trait LeafChange<const N: usize> {
     fn leaf_bound(&self) -> &Self::LeafBound
         ensures leaf_bound { result.now ≡ bound_of self.now };
 
+    /// Returns whether the next change is likely to come to the leaf behind this one, so that its memory is read ahead.
+    fn goes_along(&self) -> bool;
+
     /// Changes the leaf where it lies, and puts the entries that it takes out into `taken`.
     fn change(
         &mut self,
@@ -126,6 +129,9 @@ pub fn change_leaf<C: LeafChange<N>, const N: usize>(
     let step = way.step(node, height, change.leaf_bound(), place.common_prefix_len);
     let entries = node.entries();
     let child = entries[step.index].child;
+    if height == 1 && change.goes_along() {
+        way.read_ahead(nodes, entries.get(step.index + 1));
+    }
     let below = Place {
         common_prefix_len: step.common_prefix_len,
         behind: key_at(entries, step.index + 1, place.behind),

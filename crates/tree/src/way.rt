@@ -3,7 +3,9 @@
 ghost use Rattle.tree.specs.Finding.{CanStep, IsStep};
 
 use crate::bound::Bound;
+use crate::entry::Entry;
 use crate::node::{Node, Step};
+use arena::Arena;
 
 // How many heights are remembered. No leaf has more than 62 nodes above it.
 const HEIGHTS: usize = 64;
@@ -15,6 +17,8 @@ const HEIGHTS: usize = 64;
 #[derive(Clone, Copy, Debug)]
 pub struct Way {
     indices: [usize; HEIGHTS],
+    // What was read ahead of leaves. It says nothing, and is kept so that the reading isn't left out.
+    read: usize,
 }
 
 impl Way {
@@ -22,6 +26,7 @@ impl Way {
     pub fn new() -> Self {
         Way {
             indices: [0; HEIGHTS],
+            read: 0,
         }
     }
 
@@ -44,5 +49,14 @@ impl Way {
         let step = node.step_by_guess(bound, common_prefix_len, self.indices[height]);
         self.indices[height] = step.index;
         step
+    }
+
+    /// Reads the first memory of the leaf of an entry, if there is one, so that it needn't be waited for when a walk comes there.
+    pub fn read_ahead<const N: usize>(&mut self, nodes: &Arena<Node<N>>, entry: Option<&Entry>) {
+        if let Some(entry) = entry
+            && nodes.is_live(entry.child)
+        {
+            self.read ^= nodes.header_ref(entry.child).len();
+        }
     }
 }
