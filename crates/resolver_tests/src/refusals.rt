@@ -1,6 +1,7 @@
 //! The text of each refusal: its number and its name.
 
 use conflict::SetStop;
+use fixtures::prints;
 use resolver::{OpenError, Stop};
 use std::test::Fail;
 
@@ -10,7 +11,7 @@ fn stops_of_a_set_print_their_numbers(rt: HostRuntime) -> Result<(), Fail> {
         (SetStop::Memory, "1 Memory"),
         (SetStop::ArenaFull, "2 ArenaFull"),
     ] {
-        assert_eq!(rt; stop.to_string(rt.alloc())?.as_str(), text);
+        assert!(rt; prints(rt.alloc(), &stop, text)?, "{text}");
     }
     Ok(())
 }
@@ -22,9 +23,9 @@ fn stops_of_a_resolver_print_their_numbers(rt: HostRuntime) -> Result<(), Fail> 
         (Stop::GateFull, "2 GateFull"),
         (Stop::ArenaFull, "3 ArenaFull"),
     ] {
-        assert_eq!(rt; stop.to_string(rt.alloc())?.as_str(), text);
+        assert!(rt; prints(rt.alloc(), &stop, text)?, "{text}");
     }
     let refusal = OpenError::Memory;
-    assert_eq!(rt; refusal.to_string(rt.alloc())?.as_str(), "1 Memory");
+    assert!(rt; prints(rt.alloc(), &refusal, "1 Memory")?);
     Ok(())
 }

@@ -1,7 +1,7 @@
 //! The worked rows of the gate and of the replies, and a growth of each that is refused.
 
 use chain::{ChainError, Gate, MAX_HELD, Replies};
-use fixtures::{Unmade, batch, batch_of, reply};
+use fixtures::{Unmade, batch, batch_of, prints, reply};
 use keyspace::Batch;
 use std::alloc::Global;
 use std::fmt::Write;
@@ -163,7 +163,7 @@ fn refusals_print_their_numbers(rt: HostRuntime) -> Result<(), Fail> {
         (ChainError::Memory, "1 Memory"),
         (ChainError::GateFull, "2 GateFull"),
     ] {
-        assert_eq!(rt; refusal.to_string(rt.alloc())?.as_str(), text);
+        assert!(rt; prints(rt.alloc(), &refusal, text)?, "{text}");
     }
     Ok(())
 }

@@ -2,6 +2,7 @@
 ghost use Rattle.std.specs.Prelude.{◌<◌, ◌≤◌};
 ghost use Rattle.lane.specs.Lane.{SameLane};
 
+use fixtures::prints;
 use lane::{Intake, LaneError, MAX_CAPACITY, Port, Refused, Taken, agree, lane};
 use std::alloc::Global;
 use std::test::Fail;
@@ -117,9 +118,6 @@ fn one_growth_refused(rt: HostRuntime) {
 
 #[test]
 fn refusal_prints_its_number(rt: HostRuntime) -> Result<(), Fail> {
-    assert_eq!(rt;
-        LaneError::Memory.to_string(rt.alloc())?.as_str(),
-        "1 Memory"
-    );
+    assert!(rt; prints(rt.alloc(), &LaneError::Memory, "1 Memory")?);
     Ok(())
 }

@@ -2,7 +2,7 @@
 
 use crate::queries::Queries;
 use crate::written::{Written, shows};
-use fixtures::range;
+use fixtures::{prints, range};
 use keyspace::Range;
 use std::alloc::{AllocError, Global};
 use std::process::Abort;
@@ -164,7 +164,7 @@ fn limit_three_step_map(rt: HostRuntime) -> Result<(), Fail> {
 #[test]
 fn refusals_print_their_numbers(rt: HostRuntime) -> Result<(), Fail> {
     for (refusal, text) in [(StepError::Memory, "1 Memory"), (StepError::Full, "2 Full")] {
-        assert_eq!(rt; refusal.to_string(rt.alloc())?.as_str(), text);
+        assert!(rt; prints(rt.alloc(), &refusal, text)?, "{text}");
     }
     Ok(())
 }
