@@ -15,6 +15,8 @@ replay:
 	@echo 'The proved program: crates/replay/out/replay'
 
 PREFIX ?= /usr/local
+# Where the libraries for C lie that are installed: out, or out/quick for those of the Cargo edition.
+BUILT ?= out
 
 # Proves and builds the library for C: out/libarchcaraway.a, out/libarchcaraway.so, out/archcaraway.pc.
 library:
@@ -24,10 +26,10 @@ library:
 install:
 	install -d '$(PREFIX)/include' '$(PREFIX)/lib/pkgconfig'
 	install -m 644 include/archcaraway.h include/archcaraway_frames.h include/archcaraway.hpp '$(PREFIX)/include'
-	install -m 644 out/libarchcaraway.a '$(PREFIX)/lib'
-	install -m 755 out/libarchcaraway.so '$(PREFIX)/lib/libarchcaraway.so.1'
+	install -m 644 $(BUILT)/libarchcaraway.a '$(PREFIX)/lib'
+	install -m 755 $(BUILT)/libarchcaraway.so '$(PREFIX)/lib/libarchcaraway.so.1'
 	ln -sf libarchcaraway.so.1 '$(PREFIX)/lib/libarchcaraway.so'
-	sed 's|^prefix=.*|prefix=$(abspath $(PREFIX))|' out/archcaraway.pc > '$(PREFIX)/lib/pkgconfig/archcaraway.pc'
+	sed 's|^prefix=.*|prefix=$(abspath $(PREFIX))|' $(BUILT)/archcaraway.pc > '$(PREFIX)/lib/pkgconfig/archcaraway.pc'
 
 # Behind `make test`, tests the library for C: examples, chains beside the program, sanitizers, valgrind, refused memory.
 library-test: library

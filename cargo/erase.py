@@ -23,7 +23,7 @@ from eraser.tokens import Refused
 TOP = Path(__file__).resolve().parent.parent
 VERSION = "0.2.0"
 PROGRAMS = ("replay", "batches", "workload")
-LIBRARY = "archcaraway_c"
+LIBRARIES = ("archcaraway_c", "codec_c")
 
 # The crates of crates.io that serve as they are, with the version that is asked for.
 REAL_CRATES = {"arrayvec": "0.7", "byteorder": "1", "crossbeam_utils": "0.8", "hex": "0.4", "itoa": "1", "thiserror": "1"}
@@ -52,7 +52,7 @@ def listed_crates() -> dict[str, Crate]:
 
 
 def needed_crates(crates: dict[str, Crate]) -> list[Crate]:
-    """Returns the crates that the programs and the library for C need, the lowest first."""
+    """Returns the crates that the programs and the libraries for C need, the lowest first."""
     needed: list[Crate] = []
 
     def add(name: str) -> None:
@@ -61,7 +61,7 @@ def needed_crates(crates: dict[str, Crate]) -> list[Crate]:
                 add(below)
             needed.append(crates[name])
 
-    for name in (*PROGRAMS, LIBRARY):
+    for name in (*PROGRAMS, *LIBRARIES):
         add(name)
     return needed
 
@@ -95,14 +95,14 @@ def with_prelude(text: str) -> str:
 
 def root_lines(crate: Crate) -> str:
     """Returns what a root file begins with behind its docs. Only the exports for C may have unsafe code."""
-    return "" if crate.name == LIBRARY else "#![forbid(unsafe_code)]\n"
+    return "" if crate.name in LIBRARIES else "#![forbid(unsafe_code)]\n"
 
 
 def manifest(crate: Crate, listed: dict[str, Crate], real: frozenset[str]) -> str:
     uses = [f'{use} = {{ package = "archcaraway-{use}", path = "../{use}", version = "{VERSION}" }}' for use in crate.uses if use in listed]
     uses += [f'{use} = "{REAL_CRATES[use]}"' for use in crate.uses if use in real]
     kind = ""
-    if crate.name == LIBRARY:
+    if crate.name in LIBRARIES:
         kind = f'[lib]\nname = "{crate.name}"\ncrate-type = ["staticlib", "cdylib", "rlib"]\n'
     elif crate.name in PROGRAMS:
         kind = f'[[bin]]\nname = "{crate.name}"\npath = "src/main.rs"\n'
