@@ -80,12 +80,12 @@ class Source:
         kept: list[str] = []
         for line in self.lines():
             text = joined(line)
-            if text.strip() == "{" and kept and kept[-1]:
+            if text.strip() == "{":
+                while not kept[-1]:
+                    kept.pop()
                 kept[-1] += " {"
             elif text or not emptied(line) and kept and kept[-1] and not kept[-1].endswith("{"):
                 kept.append(text)
-            if text == "" and emptied(line):
-                continue
         return "\n".join(kept).rstrip("\n") + "\n"
 
     def lines(self) -> Iterator[list[Token]]:
