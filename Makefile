@@ -1,5 +1,5 @@
 .PHONY: quick demo rust rust-packages rust-package library-unproved eraser-test replay batches test refused-memory json-examples \
-	stalled-pipes readme-runs manual-page library install library-test plant bench profile
+	stalled-pipes readme-runs manual-page library install library-test plant bench profile figures figures-test
 
 # The Cargo edition: the same sources, clauses erased, built by rustc. It needs Rust 1.85, cc, make and python3, and no network.
 
@@ -115,3 +115,11 @@ profile:
 	cargo/erase.py out/profile --add profile/detect
 	RUSTFLAGS="-Ctarget-cpu=x86-64-v2 -g" cargo build --manifest-path out/profile/Cargo.toml --quiet --release --offline --bin archcaraway-detect
 	out/profile/target/release/archcaraway-detect '$(FILE)'
+
+# Redraws the pictures of docs/figures. That of the crates follows crates.txt.
+figures:
+	for script in docs/figures/*.py; do [ "$$script" = docs/figures/svg.py ] || python3 -B "$$script" || exit 1; done
+
+# Redraws them into a temporary folder, and says which picture of the checkout is stale.
+figures-test:
+	.ci/figures
