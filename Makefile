@@ -1,5 +1,5 @@
 .PHONY: quick demo rust rust-packages rust-package library-unproved eraser-test replay batches test refused-memory json-examples \
-	stalled-pipes readme-runs manual-page library install library-test plant bench profile figures figures-test
+	stalled-pipes readme-runs manual-page library install library-test plant bench profile
 
 # The Cargo edition: the same sources, clauses erased, built by rustc. It needs Rust 1.85, cc, make and python3, and no network.
 
@@ -86,7 +86,8 @@ refused-memory:
 stalled-pipes:
 	.ci/stalled-pipes
 
-# Behind `make test` or `make bench`, runs the commands of the documents that name a built program, and compares what they print.
+# After `make test` or `make bench`, runs the commands of the documents that call a built program, and compares what they print. After
+# `make quick`, EDITION=cargo runs those of the Cargo edition.
 readme-runs:
 	.ci/readme-runs
 
@@ -115,6 +116,8 @@ profile:
 	cargo/erase.py out/profile --add profile/detect
 	RUSTFLAGS="-Ctarget-cpu=x86-64-v2 -g" cargo build --manifest-path out/profile/Cargo.toml --quiet --release --offline --bin archcaraway-detect
 	out/profile/target/release/archcaraway-detect '$(FILE)'
+
+.PHONY: figures figures-test
 
 # Redraws the pictures of docs/figures. That of the crates follows crates.txt.
 figures:

@@ -9,7 +9,7 @@ ALICE, BOB = 104, 192
 
 def across(version: float) -> float:
     """Returns where a version is."""
-    return 150 + version * 1.25
+    return 158 + version * 1.18
 
 
 def write_mark(p: Picture, version: float, y: float) -> None:
@@ -30,8 +30,8 @@ def picture() -> Picture:
                 '200, above the snapshot: the read with index 1 is in conflict. The second transaction reads bob alone, which '
                 'nobody has written since, so it commits and writes bob at version 300.')
     for y, key in ((ALICE, 'account/alice'), (BOB, 'account/bob')):
-        p.text(10, y + 5, key, size=14, mono=True)
-        p.line(140, y, 556, y, 'thin', 1)
+        p.text(10, y + 5, key, size=15, mono=True)
+        p.line(146, y, 534, y, 'thin', 1)
     read(p, ALICE, 'red-box')
     read(p, BOB, 'green-box')
     for version, y in ((100, ALICE), (100, BOB), (200, ALICE), (300, BOB)):
@@ -39,24 +39,24 @@ def picture() -> Picture:
 
     for version, label in ((100, 'snapshot'), (300, 'batch')):
         p.line(across(version), 40, across(version), 246, 'line', 1.2, dashed=True)
-        p.text(across(version), 32, f'{label} {version}', 'ink', 14, 'middle', bold=True)
-    p.text(across(200), ALICE - 24, 'read 1: written at 200', 'red', 13, 'middle')
-    p.text(across(200), BOB - 24, 'read 0: not written since', 'green', 13, 'middle')
-    p.text(across(300) - 14, BOB + 34, 'written by transaction 1', 'blue', 13, 'end')
+        p.text(across(version), 32, f'{label} {version}', 'ink', 16, 'middle', bold=True)
+    p.text(across(200), ALICE - 24, 'read 1: written at 200', 'red', 15, 'middle')
+    p.text(across(200), BOB - 24, 'read 0: not written since', 'green', 15, 'middle')
+    p.text(across(300) - 14, BOB + 36, 'written by transaction 1', 'blue', 15, 'end')
     for y, lines, kind in ((ALICE, ('transaction 0', 'reads both'), 'red'), (BOB, ('transaction 1', 'reads bob'), 'green')):
         for index, line in enumerate(lines):
-            p.text(570, y - 19 + 17 * index, line, 'ink', 13)
-        p.text(570, y + 15, 'conflict:1' if kind == 'red' else 'committed', kind, 13, mono=True)
+            p.text(546, y - 22 + 20 * index, line, 'ink', 15)
+        p.text(546, y + 18, 'conflict:1' if kind == 'red' else 'committed', kind, 15, mono=True)
 
-    p.line(140, 246, 556, 246)
+    p.line(146, 246, 534, 246)
     for version in VERSIONS:
         p.line(across(version), 246, across(version), 252)
-        p.text(across(version), 268, str(version), 'soft', 13, 'middle')
-    p.text(10, 268, 'version', 'soft', 13)
+        p.text(across(version), 268, str(version), 'soft', 15, 'middle')
+    p.text(10, 268, 'version', 'soft', 15)
     p.rect(10, 290, 14, 14, 'blue-fill', 3)
-    p.text(30, 302, 'committed write', 'soft', 13)
-    p.rect(158, 288, 26, 18, 'frame', 4)
-    p.text(190, 302, 'versions above the snapshot: a write here is a conflict', 'soft', 13)
+    p.text(30, 302, 'committed write', 'soft', 15)
+    p.rect(172, 288, 26, 18, 'frame', 4)
+    p.text(206, 302, 'above the snapshot: a write here is a conflict', 'soft', 15)
     return p
 
 

@@ -8,8 +8,8 @@ from dataclasses import dataclass
 from svg import Picture, write
 
 DATA = pathlib.Path(__file__).resolve().parent / 'data' / 'throughput.csv'
-PEERS = (('radix tree, C++, not proved', 'grey-fill'), ('replay, proved', 'blue-fill'), ('skip list, C++, not proved', 'pale-fill'))
-LEFT, WIDTH, TOP, GROUP, BAR, MOST = 248, 410, 62, 60, 14, 12.4
+PEERS = (('radix tree, C++', 'grey-fill'), ('replay, proved', 'blue-fill'), ('skip list, C++', 'pale-fill'))
+LEFT, WIDTH, TOP, GROUP, BAR, MOST = 282, 376, 66, 64, 16, 12.4
 
 
 @dataclass
@@ -46,31 +46,31 @@ def picture() -> Picture:
     bottom = TOP + GROUP * len(rows)
     said = ' '.join(f'{row.name}: replay {row.rates[1]:.1f}, radix tree {row.rates[0]:.1f}, skip list {row.rates[2]:.1f}.'
                     for row in rows)
-    p = Picture(680, bottom + 66, 'Throughput',
+    p = Picture(680, bottom + 78, 'Throughput',
                 f'Million read and write ranges per second, entire processes. {said}')
     x = 10.0
-    for (name, kind), step in zip(PEERS, (226, 146, 0)):
+    for (name, kind), step in zip(PEERS, (170, 170, 0)):
         p.rect(x, 12, 14, 14, kind, 2)
-        p.text(x + 20, 24, name, 'ink', 13)
+        p.text(x + 20, 24, name, 'ink', 15)
         x += step
-    p.text(10, 46, 'million read and write ranges per second, more is better', 'soft', 13)
+    p.text(10, 50, 'million read and write ranges per second; the peers are not proved', 'soft', 15)
     for rate in range(0, int(MOST) - 1, 2):
         p.line(across(rate), TOP, across(rate), bottom, 'thin', 1)
-        p.text(across(rate), bottom + 18, str(rate), 'soft', 13, 'middle')
+        p.text(across(rate), bottom + 20, str(rate), 'soft', 15, 'middle')
     for index, row in enumerate(rows):
         y = TOP + GROUP * index + (GROUP - 3 * BAR) / 2
-        p.text(10, y + 1.5 * BAR + 5, row.name, 'ink', 13)
+        p.text(10, y + 1.5 * BAR + 5, row.name, 'ink', 15)
         for place, (rate, (_, kind)) in enumerate(zip(row.rates, PEERS)):
             p.rect(LEFT, y + place * BAR, across(rate) - LEFT, BAR - 2, kind, 0)
             end = max(rate, row.most if place == 1 else rate)
-            p.text(across(end) + 4, y + place * BAR + BAR - 3.5, f'{rate:.1f}', 'soft', 12)
+            p.text(across(end) + 4, y + place * BAR + BAR - 3, f'{rate:.1f}', 'soft', 14)
         if row.most > row.least:
             middle = y + 1.5 * BAR - 1
             p.line(across(row.least), middle, across(row.most), middle, 'ink-line', 1.5)
             for end in (row.least, row.most):
                 p.line(across(end), middle - 4, across(end), middle + 4, 'ink-line', 1.5)
-    p.text(10, bottom + 40, 'Error bars: the spread of the ratio to the radix tree over eight series of one hour.', 'soft', 13)
-    p.text(10, bottom + 58, '2026-11-28, virtual machine, four processors of an Intel Xeon at 2.5 GHz.', 'soft', 13)
+    p.text(10, bottom + 46, 'Error bars: spread of the ratio to the radix tree over eight series of one hour.', 'soft', 15)
+    p.text(10, bottom + 68, '2026-11-28, virtual machine, four processors of an Intel Xeon at 2.5 GHz.', 'soft', 15)
     return p
 
 
