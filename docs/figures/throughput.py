@@ -54,9 +54,9 @@ def picture() -> Picture:
         p.text(x + 20, 24, name, 'ink', 15)
         x += step
     p.text(10, 50, 'million read and write ranges per second; the peers are not proved', 'soft', 15)
-    for rate in range(0, int(MOST) - 1, 2):
-        p.line(across(rate), TOP, across(rate), bottom, 'thin', 1)
-        p.text(across(rate), bottom + 20, str(rate), 'soft', 15, 'middle')
+    for tick in range(0, int(MOST) - 1, 2):
+        p.line(across(tick), TOP, across(tick), bottom, 'thin', 1)
+        p.text(across(tick), bottom + 20, str(tick), 'soft', 15, 'middle')
     for index, row in enumerate(rows):
         y = TOP + GROUP * index + (GROUP - 3 * BAR) / 2
         p.text(10, y + 1.5 * BAR + 5, row.name, 'ink', 15)
