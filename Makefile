@@ -91,6 +91,16 @@ stalled-pipes:
 readme-runs:
 	.ci/readme-runs
 
+.PHONY: figures figures-test
+
+# Redraws the pictures of docs/figures. That of the crates follows crates.txt.
+figures:
+	for script in docs/figures/*.py; do [ "$$script" = docs/figures/svg.py ] || python3 -B "$$script" || exit 1; done
+
+# Redraws them into a temporary folder, and says which picture of the checkout is stale.
+figures-test:
+	.ci/figures
+
 # Behind `make test` or `make replay`, compares the manual page with what the program prints of its options and version.
 manual-page:
 	.ci/manual-page
@@ -116,13 +126,3 @@ profile:
 	cargo/erase.py out/profile --add profile/detect
 	RUSTFLAGS="-Ctarget-cpu=x86-64-v2 -g" cargo build --manifest-path out/profile/Cargo.toml --quiet --release --offline --bin archcaraway-detect
 	out/profile/target/release/archcaraway-detect '$(FILE)'
-
-.PHONY: figures figures-test
-
-# Redraws the pictures of docs/figures. That of the crates follows crates.txt.
-figures:
-	for script in docs/figures/*.py; do [ "$$script" = docs/figures/svg.py ] || python3 -B "$$script" || exit 1; done
-
-# Redraws them into a temporary folder, and says which picture of the checkout is stale.
-figures-test:
-	.ci/figures
