@@ -27,13 +27,12 @@ pub struct Client {
 }
 
 /// What a resolver and its clients share beside their lanes.
-#[derive(Default)]
 pub(crate) struct Link {
     // The resolver has stopped, so it takes no more batches.
     stopped: AtomicBool,
     // The resolver is dropped, so it sends no more answers either.
     dropped: AtomicBool,
-    // The answers of the clients that are dropped.
+    // The answers to the clients that are dropped. It has room for all clients.
     left: Mutex<Vec<Intake<keyspace::Answer>>>,
 }
 
@@ -167,6 +166,14 @@ impl fmt::Debug for Client {
 }
 
 impl Link {
+    pub(crate) fn new(proxies: usize) -> Self {
+        Link {
+            stopped: AtomicBool::new(false),
+            dropped: AtomicBool::new(false),
+            left: Mutex::new(Vec::with_capacity(proxies)),
+        }
+    }
+
     /// Reports to the clients that the resolver takes no more batches.
     pub(crate) fn report_stop(&self) {
         self.stopped.store(true, Ordering::Release);

@@ -1,20 +1,23 @@
 //! Archcaraway is a transaction resolver: the part of FoundationDB 7.1 that decides whether each
-//! transaction of a batch commits, by its read and write conflict ranges. It is a library for the
-//! commit path of a database with optimistic concurrency control. It has no network, no persistence
-//! and no recovery.
+//! transaction of a batch commits, by its read and write conflict ranges. Its sources are proved in
+//! Rattle, which is Rust with contracts. rustc compiles this edition from the same sources, with the
+//! clauses erased. **This edition is tested, not proved.**
 //!
-//! The sources are written in Rattle, which is Rust with contracts, and are proved there. A script
-//! erases the contracts, and rustc compiles what remains: **this edition is tested, not proved.** Neither rustc
-//! nor this facade nor the stand-in for Rattle's standard library takes part in a proof. The facade
-//! checks each precondition of the proved functions at run time and reports it as an error.
+//! The crate is for the commit path of a database with optimistic concurrency control. It has no
+//! network, no persistence and no recovery. Each condition of the proved functions that it calls is
+//! checked at run time, and reported as an error if it does not hold.
 //!
-//! | type | use |
+//! | item | use it if |
 //! |---|---|
-//! | [`ConflictSet`] | You have one chain of versions: give it each batch once, in order. |
-//! | [`Core`] | You have many proxies in one thread: it orders, holds and repeats. |
-//! | [`open`], [`Resolver`], [`Client`] | You have many proxies in threads of their own. |
-//! | [`BatchBuilder`], [`Txn`], [`Range`] | They make a [`Batch`]. |
-//! | [`Reply`], [`Verdict`], [`Answer`] | They are the results. |
+//! | [`ConflictSet`] | you have one chain of versions, and give each batch once, in order |
+//! | [`Core`] | you have many proxies in one thread, whose batches come early, late or twice |
+//! | [`open`], [`Resolver`], [`Client`] | you have many proxies, each in a thread |
+//!
+//! A [`BatchBuilder`] makes a [`Batch`] of [`Txn`]s with [`Range`]s. A [`Reply`] has a [`Verdict`] for
+//! each transaction. The proxies of a core or a resolver receive it in an [`Answer`].
+//!
+//! If an allocation fails, a call returns an error. As in Rust's own collections, some calls end the
+//! process instead: adding a range to a [`Txn`], cloning, and [`open`].
 //!
 //! # Judge a batch
 //!

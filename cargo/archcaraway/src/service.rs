@@ -36,15 +36,17 @@ pub fn open(
     check_set(window, limit)?;
     let opened = resolver::open(Global, proxies, capacity, window, limit);
     let (resolver, ends) = opened.map_err(|_| NewError::Memory)?;
-    let link = Arc::new(Link::default());
+    let link = Arc::new(Link::new(proxies));
     let clients = ends.into_iter().enumerate();
     let clients = clients.map(|(proxy, ends)| Client::new(proxy, ends, Arc::clone(&link)));
     let clients = clients.collect();
+    let ends = Vec::with_capacity(proxies);
     Ok((
         Resolver {
             resolver,
             proxies,
             link,
+            ends,
         },
         clients,
     ))
@@ -58,6 +60,8 @@ pub struct Resolver {
     resolver: resolver::Resolver,
     proxies: usize,
     link: Arc<Link>,
+    // It is empty and has room for the ends of all clients, so that `settle` takes no memory.
+    ends: Vec<resolver::Client>,
 }
 
 impl Resolver {
@@ -103,12 +107,13 @@ impl Resolver {
     /// their numbers.
     pub fn settle(&mut self, clients: &mut [Client]) -> Result<Account, SettleError> {
         self.check_clients(clients)?;
-        let mut ends: Vec<_> = clients
-            .iter_mut()
-            .filter_map(|c| c.ends_mut().take())
-            .collect();
-        let account = self.resolver.settle(&mut ends);
-        for (client, ends) in clients.iter_mut().zip(ends) {
+        self.ends.extend(
+            clients
+                .iter_mut()
+                .filter_map(|client| client.ends_mut().take()),
+        );
+        let account = self.resolver.settle(&mut self.ends);
+        for (client, ends) in clients.iter_mut().zip(self.ends.drain(..)) {
             *client.ends_mut() = Some(ends);
         }
         Ok(Account {
