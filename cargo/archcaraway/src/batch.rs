@@ -20,8 +20,8 @@ use std::io::Read;
 
 /// Transactions of one commit proxy that are judged together and commit at one version.
 ///
-/// A [`BatchBuilder`](crate::BatchBuilder) makes it, or [`decode`](Batch::decode) reads it from a frame. Like those
-/// of std's collections, its `Clone` ends the process if an allocation fails.
+/// A [`BatchBuilder`](crate::BatchBuilder) makes it, or [`decode`](Batch::decode) reads it from a
+/// frame. Like those of std's collections, its `Clone` ends the process if an allocation fails.
 pub struct Batch(keyspace::Batch);
 
 impl Batch {
@@ -45,7 +45,8 @@ impl Batch {
 
     /// Returns the batch as a frame of version 2.
     ///
-    /// The only errors are [`WireError::Long`], for a body of more than 4 MiB, and [`WireError::Memory`].
+    /// The only errors are [`WireError::Long`], for a body of more than 4 MiB, and
+    /// [`WireError::Memory`].
     pub fn encode(&self) -> Result<Vec<u8>, WireError> {
         into_std(wire::encode_batch(Global, &self.0))
     }

@@ -1,6 +1,7 @@
 //! Batches from transactions.
 //!
-//! The keys of a batch lie in one buffer. The builder copies each key into it once, from wherever the transaction has it.
+//! The keys of a batch lie in one buffer. The builder copies each key into it once, from wherever
+//! the transaction has it.
 
 // Conditions of the proved functions that are called here:
 //
@@ -126,7 +127,7 @@ pub(crate) struct Tables {
 }
 
 impl Tables {
-    /// Adds a transaction, or reports the limit that it exceeds. After an error nothing may be added.
+    /// Adds a transaction, or reports the limit that it exceeds.
     fn add(&mut self, txn: &Txn<'_>) -> Result<(), BuildError> {
         let index = self.rows.len();
         if index == MAX_TXNS {
@@ -156,7 +157,7 @@ impl Tables {
         Ok(())
     }
 
-    /// Appends the row of a transaction whose ranges were put last, its write ranges after the others.
+    /// Appends the row of a transaction whose ranges were put last, with its write ranges at the end.
     pub(crate) fn put_row(
         &mut self,
         snapshot: i64,

@@ -15,10 +15,10 @@ use std::fmt;
 use std::sync::atomic::{AtomicBool, Ordering};
 use std::sync::{Arc, Mutex, PoisonError};
 
-/// A proxy's side of a [`Resolver`](crate::Resolver): sends its batches and receives the answers to them.
+/// A proxy's side of a [`Resolver`](crate::Resolver): sends batches and receives the answers.
 ///
-/// It may move to another thread. A client that is dropped closes its requests, and the answers that
-/// it has not received are discarded.
+/// It may move to another thread. A client that is dropped closes its requests, and the answers
+/// that it has not received are discarded.
 pub struct Client {
     proxy: usize,
     // It is there until the client is dropped, except while the resolver settles.
@@ -72,8 +72,8 @@ impl Client {
 
     /// Sends a batch, and waits while the lane is full.
     ///
-    /// The resolver ends the wait when it takes a batch, stops or is dropped, so call this on another
-    /// thread than the resolver's. It never returns [`TrySendError::Full`].
+    /// The resolver ends the wait when it takes a batch, stops or is dropped, so call this on
+    /// another thread than the resolver's. It never returns [`TrySendError::Full`].
     #[allow(
         clippy::result_large_err,
         reason = "the batch is returned without an allocation"

@@ -53,7 +53,7 @@ impl ConflictSet {
         })
     }
 
-    /// Judges a batch after all writes that the set remembers, and remembers what the batch commits.
+    /// Judges a batch after all writes in the set, and adds the writes that the batch commits.
     ///
     /// After [`ResolveError::Version`] the set is unchanged. A stop is final: every later call
     /// returns it.
@@ -78,7 +78,7 @@ impl ConflictSet {
         }
     }
 
-    /// Returns the number of boundaries, including that at the empty key. It never exceeds the limit.
+    /// Returns the number of boundaries, at most the limit. One is at the empty key.
     pub fn boundaries(&self) -> usize {
         self.set.boundaries()
     }

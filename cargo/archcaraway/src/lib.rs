@@ -1,7 +1,7 @@
 //! Archcaraway is a transaction resolver: the part of FoundationDB 7.1 that decides whether each
 //! transaction of a batch commits, by its read and write conflict ranges. Its sources are proved in
-//! Rattle, which is Rust with contracts. rustc compiles this edition from the same sources, with the
-//! clauses erased. **This edition is tested, not proved.**
+//! Rattle, which is Rust with contracts. rustc compiles this edition from the same sources, with
+//! the clauses erased. **This edition is tested, not proved.**
 //!
 //! The crate is for the commit path of a database with optimistic concurrency control. It has no
 //! network, no persistence and no recovery. Each condition of the proved functions that it calls is
@@ -13,11 +13,11 @@
 //! | [`Core`] | you have many proxies in one thread, whose batches come early, late or twice |
 //! | [`open`], [`Resolver`], [`Client`] | you have many proxies, each in a thread |
 //!
-//! A [`BatchBuilder`] makes a [`Batch`] of [`Txn`]s with [`Range`]s. A [`Reply`] has a [`Verdict`] for
-//! each transaction. The proxies of a core or a resolver receive it in an [`Answer`].
+//! A [`BatchBuilder`] makes a [`Batch`] of [`Txn`]s with [`Range`]s. A [`Reply`] has a [`Verdict`]
+//! for each transaction. The proxies of a core or a resolver receive it in an [`Answer`].
 //!
-//! If an allocation fails, a call returns an error. As in Rust's own collections, some calls end the
-//! process instead: adding a range to a [`Txn`], cloning, and [`open`].
+//! If an allocation fails, a call returns an error. As in Rust's own collections, some calls end
+//! the process instead: adding a range to a [`Txn`], cloning, and [`open`].
 //!
 //! # Judge a batch
 //!

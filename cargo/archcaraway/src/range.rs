@@ -24,7 +24,7 @@ pub struct Range<'a> {
     keys: Keys<'a>,
 }
 
-// A range that ends with the key right after its begin is always `Single`, so equality can be derived.
+// A range of one key is always `Single`, so equality can be derived.
 #[derive(Clone, PartialEq, Eq, Hash)]
 pub(crate) enum Keys<'a> {
     Single(Cow<'a, [u8]>),

@@ -48,7 +48,7 @@ impl Core {
         Ok(Core(core.map_err(|_| NewError::Memory)?))
     }
 
-    /// Takes a batch of a proxy. The batch is held, or it and the batches that it frees are answered.
+    /// Takes a batch of a proxy: holds it, or answers it and the batches that waited for it.
     ///
     /// If there is no such proxy, the core is unchanged and the batch is dropped. A stop is final:
     /// every later call returns it. The answers made before it can still be given.

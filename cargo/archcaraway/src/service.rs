@@ -67,8 +67,8 @@ pub struct Resolver {
 impl Resolver {
     /// Takes one batch of some client, if there is one, and sends answers. Waits for nobody.
     ///
-    /// A stop is final: this and every later turn return it, take nothing, and send the answers made
-    /// before it. A turn stops by [`Stop::GateFull`] only if some client has more than its
+    /// A stop is final: this and every later turn return it, take nothing, and send the answers
+    /// made before it. A turn stops by [`Stop::GateFull`] only if some client has more than its
     /// [`share`](Resolver::share) of batches without an answer.
     pub fn turn(&mut self) -> Result<Turn, Stop> {
         let turned = self.resolver.turn();

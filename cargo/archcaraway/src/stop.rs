@@ -10,7 +10,8 @@ use std::fmt;
 pub enum Stop {
     /// An allocation failed.
     Memory,
-    /// A batch came too early, and 1,024 such batches are held already. A conflict set never stops for this.
+    /// A batch came too early, and 1,024 such batches are held already. A conflict set never stops
+    /// for this.
     GateFull,
     /// The writes within the window need more boundaries than the limit.
     ArenaFull,

@@ -2,7 +2,7 @@
 
 use crate::range::{Range, RangeError};
 
-/// A transaction for a [`BatchBuilder`](crate::BatchBuilder): a snapshot, and read and write ranges in the order given.
+/// A transaction for a [`BatchBuilder`](crate::BatchBuilder): a snapshot, read and write ranges.
 ///
 /// A range is given as a [`Range`] or as keys that convert into one. If they don't, or if another
 /// limit is exceeded, [`BatchBuilder::build`](crate::BatchBuilder::build) reports it.
