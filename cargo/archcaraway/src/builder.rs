@@ -157,7 +157,7 @@ impl Tables {
         Ok(())
     }
 
-    /// Appends the row of a transaction whose ranges were put last, with its write ranges at the end.
+    /// Appends the row of the transaction whose ranges were put last, its write ranges at the end.
     pub(crate) fn put_row(
         &mut self,
         snapshot: i64,
