@@ -1,7 +1,7 @@
 .PHONY: quick demo rust rust-packages rust-package library-unproved eraser-test replay batches test refused-memory json-examples \
 	stalled-pipes readme-runs manual-page library install library-test plant bench profile
 
-# The Cargo edition: the same sources, clauses erased, built by rustc. It needs Rust 1.85, cc, make and python3, and no network.
+# The Cargo edition: the same sources, clauses erased, built by rustc. It needs Rust 1.88, cc, make and python3, and no network.
 
 # Builds the programs: out/quick/replay, out/quick/batches, out/quick/workload. Not proved.
 quick:
