@@ -11,7 +11,6 @@
 #include <cstddef>
 #include <cstdio>
 #include <cstdlib>
-#include <immintrin.h>
 #include <new>
 #include <string>
 #include <vector>
@@ -113,8 +112,8 @@ public:
         }
         inline __attribute__((always_inline)) void prefetch() {
             const char* n = reinterpret_cast<const char*>(x->next(level - 1));
-            _mm_prefetch(n, _MM_HINT_T0);
-            if (!(reinterpret_cast<uintptr_t>(n) & 64)) _mm_prefetch(n + 64, _MM_HINT_T0);
+            __builtin_prefetch(n);
+            if (!(reinterpret_cast<uintptr_t>(n) & 64)) __builtin_prefetch(n + 64);
         }
         // When finished: the node with exactly this key, or none.
         Node* found() const {
@@ -207,8 +206,8 @@ public:
         while (count--) {
             Node* x = f.at[0]->next(0);
             if (!x) break;
-            _mm_prefetch(reinterpret_cast<const char*>(x->next(0)), _MM_HINT_T0);
-            if (x->levels > 1) _mm_prefetch(reinterpret_cast<const char*>(x->next(1)), _MM_HINT_T0);
+            __builtin_prefetch(x->next(0));
+            if (x->levels > 1) __builtin_prefetch(x->next(1));
             bool young = x->greatest(0) >= edge;
             int levels = int(x->levels);
             if (young || kept) {
