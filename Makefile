@@ -1,5 +1,5 @@
 .PHONY: quick demo rust rust-packages rust-package library-unproved eraser-test replay batches test refused-memory json-examples \
-	stalled-pipes readme-runs manual-page library install library-test plant bench profile
+	stalled-pipes readme-runs manual-page library install library-test plant bench bench-quick bench-test profile
 
 # The Cargo edition: the same sources, clauses erased, built by rustc. It needs Rust 1.88, cc, make and python3, and no network.
 
@@ -86,16 +86,16 @@ refused-memory:
 stalled-pipes:
 	.ci/stalled-pipes
 
-# After `make test` or `make bench`, runs the commands of the documents that call a built program, and compares what they print. After
-# `make quick`, EDITION=cargo runs those of the Cargo edition.
+# After `make test`, runs the commands of the documents that call a built program, and compares what they print. After `make quick`,
+# EDITION=cargo runs those of the Cargo edition.
 readme-runs:
 	.ci/readme-runs
 
 .PHONY: figures figures-test
 
-# Redraws the pictures of docs/figures. That of the crates follows crates.txt.
+# Redraws the pictures of docs/figures. That of the crates follows crates.txt, those of times the newest bench/results/*-programs.csv.
 figures:
-	for script in docs/figures/*.py; do [ "$$script" = docs/figures/svg.py ] || python3 -B "$$script" || exit 1; done
+	for script in docs/figures/*.py; do [ ! -x "$$script" ] || python3 -B "$$script" || exit 1; done
 
 # Redraws them into a temporary folder, and says which picture of the checkout is stale.
 figures-test:
@@ -109,17 +109,19 @@ manual-page:
 plant:
 	for crate in crates/*/; do (cd "$$crate" && rt plant); done
 
-# Proves and builds the program and the one that writes batches, and times the program on two files of them.
-bench: SHELL := bash
+# Measures replay, proved if it is built, beside the baselines of bench/baselines, and redraws the charts. Needs cc, c++, cargo and python3.
+# Arguments for bench/measure: make bench BENCH='--rounds 3 --only wide'.
 bench:
-	cd crates/replay && rt run -- ../../examples/first_run
-	cd crates/workload && rt run
-	@set -e; folder=$$(mktemp -d); trap 'rm -r "$$folder"' EXIT; \
-	for words in 'skiplisttest 100 2500' 'points 200 500'; do \
-		crates/workload/out/workload $$words > "$$folder/batches"; \
-		TIMEFORMAT="$$words: %R seconds"; \
-		time crates/replay/out/replay "$$folder/batches" > /dev/null; \
-	done
+	bench/measure $(BENCH)
+	$(MAKE) --no-print-directory figures
+
+# Compares the outputs of replay and the baselines on two small files. Reports no times.
+bench-quick: bench-test
+	bench/measure --quick
+
+# Tests the parts of bench/measure that start no process.
+bench-test:
+	cd bench && python3 -B -m unittest
 
 # Times the libraries of the Cargo edition on a file of batch frames: make profile FILE=batches. The program stays in out/profile.
 profile:

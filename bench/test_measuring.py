@@ -1,0 +1,143 @@
+# SPDX-License-Identifier: Apache-2.0
+"""Tests of the parts of bench/measure that start no process."""
+
+import csv
+import hashlib
+import pathlib
+import tempfile
+import unittest
+
+import shapes
+from measuring import results, rounds, workloads
+from measuring.programs import Program
+from measuring.rounds import Different, Rounds, Run
+from measuring.summary import Spread, percentile, ratios, spread
+
+# The first 16 digits of the SHA-256 of each shape with seed 0 and scale 0.001.
+DIGESTS = {
+    'zipfian': '10e886043a6c2571',
+    'wide': '52ceb6fc9e88649c',
+    'longkeys': 'debcd7987e79965b',
+    'growth-1000': '464f38d71aedb281',
+    'growth-10000': '38915837ef2343c0',
+    'growth-100000': '215468c37d7c1562',
+    'growth-1000000': '6d6160d3115de132',
+}
+
+
+def file_of(shape: str, seed: int = 0, scale: float = 0.001) -> bytes:
+    """Returns the bytes of a small file."""
+    return b''.join(shapes.frames(shape, seed, scale))
+
+
+class Shapes(unittest.TestCase):
+    def test_bytes_depend_on_shape_seed_and_scale_alone(self) -> None:
+        for shape, digest in DIGESTS.items():
+            self.assertEqual(hashlib.sha256(file_of(shape)).hexdigest()[:16], digest, shape)
+            self.assertNotEqual(file_of(shape), file_of(shape, seed=1), shape)
+
+    def test_every_shape_has_a_digest(self) -> None:
+        self.assertEqual(set(shapes.SHAPES), set(DIGESTS))
+
+    def test_a_batch_is_encoded_as_its_frame(self) -> None:
+        transaction = shapes.encode_transaction(7, [shapes.encode_single(b'a')], [shapes.encode_range(b'b', b'c')])
+        self.assertEqual(shapes.encode_batch(-1, 9, -1, [transaction]).hex(' '), ' '.join((
+            '00 00 00 35', '01', 'ff ff ff ff ff ff ff ff', '00 00 00 00 00 00 00 09', 'ff ff ff ff ff ff ff ff', '00 01',
+            '00 00 00 00 00 00 00 07', '00', '00 01', '00 01', '00 01 61', '00 02 61 00', '00 01 62', '00 01 63')))
+
+    def test_a_batch_beyond_the_limits_is_refused(self) -> None:
+        for transactions in ([bytes(shapes.MAX_FRAME)], [b''] * (shapes.MAX_TRANSACTIONS + 1)):
+            with self.assertRaises(ValueError):
+                shapes.encode_batch(-1, 0, -1, transactions)
+
+    def test_a_chain_has_received_the_replies_of_eight_batches_before(self) -> None:
+        frames = list(shapes.encode_chain((version, []) for version in range(10, 20)))
+        numbers = [shapes.HEADER.unpack(frame)[2:5] for frame in frames]
+        self.assertEqual(numbers[:2], [(-1, 10, -1), (10, 11, -1)])
+        self.assertEqual(numbers[8:], [(17, 18, 10), (18, 19, 11)])
+
+
+class Workloads(unittest.TestCase):
+    def test_batches_and_transactions_are_counted(self) -> None:
+        with tempfile.TemporaryDirectory() as folder:
+            file = pathlib.Path(folder) / 'frames'
+            file.write_bytes(b''.join(shapes.encode_chain(iter([(1, [b'']), (2, []), (3, [b'', b''])]))))
+            self.assertEqual(workloads.count(file), (3, 3))
+
+    def test_names_differ_by_size_seed_and_scale(self) -> None:
+        names = {workloads.file_name(workload, seed, scale)
+                 for workload in (*workloads.FULL, *workloads.QUICK) for seed in (0, 1) for scale in (1, 0.1)}
+        self.assertEqual(len(names), 4 * (len(workloads.FULL) + len(workloads.QUICK)))
+
+    def test_every_shape_is_measured(self) -> None:
+        self.assertEqual({workload.shape for workload in workloads.FULL if workload.size is None}, set(shapes.SHAPES))
+
+
+class Summary(unittest.TestCase):
+    def test_percentiles(self) -> None:
+        for values, percent, expected in (([5], 50, 5), ([5], 99, 5), ([2, 1], 50, 1), ([3, 1, 2], 50, 2), (range(1, 101), 99, 99),
+                                          (range(1, 102), 99, 100), (range(1, 11), 99, 10), (range(1, 11), 50, 5)):
+            self.assertEqual(percentile(values, percent), expected, (values, percent))
+
+    def test_spread(self) -> None:
+        self.assertEqual(spread([4, 1, 2]), Spread(2, 1, 4))
+        self.assertEqual(Spread(2, 1, 4).inverted(8), Spread(4, 2, 8))
+
+    def test_ratios_are_those_of_each_round(self) -> None:
+        self.assertEqual(ratios([1, 4, 9], [2, 2, 3]), Spread(2, 0.5, 3))
+
+
+class RoundsOfPrograms(unittest.TestCase):
+    def test_the_order_changes_by_round_and_repeats_by_run(self) -> None:
+        names = ['replay', 'art', 'btree', 'bplus']
+        orders = [rounds.order_of(names, number) for number in range(10)]
+        self.assertEqual(orders, [rounds.order_of(names, number) for number in range(10)])
+        self.assertGreater(len(set(map(tuple, orders))), 5)
+        self.assertTrue(all(sorted(order) == sorted(names) for order in orders))
+
+    def test_a_difference_names_workload_program_and_line(self) -> None:
+        for right, line in (('0 1 committed\n0 2 conflict\n', 2), ('0 1 committed\n', 2), ('', 1)):
+            with tempfile.TemporaryDirectory() as name:
+                folder = pathlib.Path(name)
+                (folder / 'replay.txt').write_text('0 1 committed\n0 2 committed\n')
+                (folder / 'art.txt').write_text(right)
+                with self.assertRaisesRegex(Different, f'wide: art and replay print different verdicts, first in line {line} '):
+                    rounds.compare('wide', 'replay', 'art', folder)
+
+    def test_equal_outputs_pass(self) -> None:
+        with tempfile.TemporaryDirectory() as name:
+            folder = pathlib.Path(name)
+            for program in ('replay', 'art'):
+                (folder / f'{program}.txt').write_text('0 1 committed\n')
+            rounds.compare('wide', 'replay', 'art', folder)
+
+    def test_only_replay_has_a_limit(self) -> None:
+        file = pathlib.Path('frames')
+        for name, command in (('replay', ['p', '--limit', '5', 'frames']), ('art', ['p', 'frames'])):
+            self.assertEqual(Program(name, pathlib.Path('p'), ()).command(5, file), command)
+
+
+class Results(unittest.TestCase):
+    def test_a_file_has_a_line_per_program(self) -> None:
+        measured = Rounds({'replay': [Run(1.0, 4.0, 10.0, 20.0), Run(3.0, 6.0, 30.0, 40.0)], 'art': [Run(2.0, 8.0), Run(2.0, 8.0)]}, 77)
+        rows = results.rows_of('wide', 80, (2, 600), measured)
+        with tempfile.TemporaryDirectory() as folder:
+            file = pathlib.Path(folder) / 'new' / 'results.csv'
+            results.write(file, ['machine: none', 'date: none'], rows)
+            lines = file.read_text().splitlines()
+        self.assertEqual(lines[:2], ['# machine: none', '# date: none'])
+        replay, art = csv.DictReader(lines[2:])
+        self.assertEqual([replay[name] for name in ('workload', 'batches', 'transactions', 'ranges', 'boundaries', 'rounds')],
+                         ['wide', '2', '600', '80', '77', '2'])
+        self.assertEqual([replay[f'transactions_per_second_{part}'] for part in ('median', 'least', 'greatest')], ['300', '200', '600'])
+        self.assertEqual([replay[f'p99_us_{part}'] for part in ('median', 'least', 'greatest')], ['30.0', '20.0', '40.0'])
+        self.assertEqual([art[f'ratio_{part}'] for part in ('median', 'least', 'greatest')], ['1.00', '0.50', '1.50'])
+        self.assertEqual(art['p50_us_median'], '')
+
+    def test_the_machine_is_read(self) -> None:
+        self.assertEqual(results.processor('processor : 0\nmodel name\t: Some CPU @ 2.5GHz\nmodel name\t: Other\n'), 'Some CPU @ 2.5GHz')
+        self.assertEqual(results.memory_gib('MemTotal:       25165824 kB\nMemFree: 1 kB\n'), 24)
+
+
+if __name__ == '__main__':
+    unittest.main()
