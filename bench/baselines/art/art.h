@@ -1,25 +1,25 @@
 // SPDX-License-Identifier: Apache-2.0
 // The committed writes of the window as a versioned radix tree (ART).
 //
-// The tree holds entries: keys at which something begins or ends. An entry has
-// two versions: `point` holds for the key itself, `gap` for all keys between
-// the entry before and this one. A write of a single key is one entry with
-// that point; a write [a, b) is the entry a with its point and the entry b
-// with its gap, and nothing between them. A write that ends right behind the
-// key k (its end is k and a zero byte) ends at k's point instead, so that no
-// key and its successor are ever both needed.
+// The tree contains entries: keys at which a write begins or ends. An entry has
+// two versions: `point` is that of the key itself, `gap` that of all keys
+// between the previous entry and this one. A write of a single key is one entry
+// with that point. A write [a, b) is the entry a with its point and the entry b
+// with its gap, and no entry between them. A write that ends directly after the
+// key k (its end is k and a zero byte) ends at k's point instead, so the tree
+// never needs both a key and its successor.
 //
-// Every child of a node stands in a slot of 12 bytes:
+// Every child of a node is in a slot of 12 bytes:
 //   gap    the gap of the first entry below (a copy, so that a search that
-//          misses needs no walk to the neighbour),
-//   most   the greatest version of all entries below; of a leaf its point,
+//          misses does not visit the neighbour),
+//   most   the greatest version of all entries below; of a leaf, its point,
 //   child  a leaf (the rest of the key) or a node, as a tagged 32-bit handle.
-// So the versions are read one memory access before the child, a search stops
-// where nothing below is newer than the snapshot, and a leaf's memory is read
-// only to compare keys.
+// The versions are read one memory access before the child. A search stops if
+// nothing below is newer than the snapshot. A leaf's memory is read only to
+// compare keys.
 //
-// Versions are 32-bit numbers behind a base that batch.h moves; versions
-// before the edge may be out of date anywhere in the tree, as no one asks.
+// Versions are 32-bit offsets from a base that batch.h moves. A version before
+// the edge may be inexact anywhere in the tree, because no read depends on it.
 #pragma once
 #include <cstddef>
 #include <cstdint>
@@ -35,7 +35,7 @@
 typedef uint32_t Ver;
 typedef const uint8_t* Ptr;
 
-// All key bytes lie where 32 more bytes may be read.
+// All keys are in memory of which 32 more bytes are readable.
 inline uint64_t load64(Ptr p) {
     uint64_t v;
     memcpy(&v, p, 8);
@@ -47,14 +47,14 @@ inline uint32_t load32(Ptr p) {
     return v;
 }
 
-// Which of the next 32 bytes differ.
+// Returns a bit for each of the next 32 bytes that differs.
 inline uint32_t differ(Ptr x, Ptr y) {
     auto load = [](Ptr p) { return _mm_loadu_si128(reinterpret_cast<const __m128i*>(p)); };
     uint32_t low = uint32_t(_mm_movemask_epi8(_mm_cmpeq_epi8(load(x), load(y))));
     uint32_t high = uint32_t(_mm_movemask_epi8(_mm_cmpeq_epi8(load(x + 16), load(y + 16))));
     return ~(low | high << 16);
 }
-// How many of the first n bytes agree.
+// Returns the length of the common prefix of n bytes.
 inline uint32_t same(Ptr x, Ptr y, uint32_t n) {
     uint32_t i = 0;
     for (; n - i > 31; i += 32)
@@ -75,7 +75,7 @@ enum Tag : uint32_t {
     Leaf32,   // up to 31
     LeafLong, // two length bytes
     Inner = 8, // and a node's kind: 4, 8, 16, 32, 64 or 256 children
-    FullMore = 13, // 256, behind a prefix
+    FullMore = 13, // 256, after a prefix
     Full = 14      // 256, no prefix: the slot can be read before the node
 };
 constexpr uint32_t TagBits = 4, TagMask = 15;
@@ -88,11 +88,11 @@ struct Node {
     uint16_t kind : 4;
     uint16_t count : 12;
     uint16_t length : 15; // of the prefix
-    uint16_t own : 1;     // an entry ends right here; its gap is that of the slot above
+    uint16_t own : 1;     // the key up to here is an entry; its gap is that of the slot above
     Ver point;            // the entry's
     union {
         uint8_t bytes[4]; // the prefix
-        uint32_t more;    // or where it stands if it is longer
+        uint32_t more;    // or the address of a longer one
     };
 
     static constexpr unsigned Kinds = 6, All = 5;
@@ -106,10 +106,10 @@ struct Node {
     Slot* slots() { return reinterpret_cast<Slot*>(keys() + (all() ? 32 : capacity(kind))); }
     const Slot* slots() const { return const_cast<Node*>(this)->slots(); }
 
-    // Places: the index among the children, or in a node of 256 the byte.
+    // A place is the index among the children, or the byte in a node of 256.
     unsigned end() const { return all() ? 256 : count; }
     unsigned byte(unsigned at) const { return all() ? at : keys()[at]; }
-    // The first child's place from byte c on.
+    // Returns the place of the first child from byte c.
     unsigned seek(unsigned c) const {
         if (all()) return nextAll(c);
         if (kind <= 2) {
@@ -135,7 +135,7 @@ struct Node {
     bool at(unsigned place, unsigned c) const { return place < end() && byte(place) == c; }
 
 private:
-    // Which of 16 bytes are c or more.
+    // Returns a bit for each of 16 bytes that is c or more.
     static unsigned reach(Ptr p, uint8_t c) {
         __m128i k = _mm_loadu_si128(reinterpret_cast<const __m128i*>(p));
         return unsigned(_mm_movemask_epi8(_mm_cmpeq_epi8(_mm_max_epu8(k, _mm_set1_epi8(char(c))), k)));
@@ -143,8 +143,8 @@ private:
 };
 static_assert(sizeof(Node) == 12 && sizeof(Slot) == 12, "layout");
 
-// Memory by size class, in huge pages where the kernel gives them; freed blocks
-// aren't touched before they are used again.
+// Memory by size class, in huge pages if the kernel grants them. Freed blocks
+// are not accessed until they are reused.
 class Arena {
 public:
     Arena() {
@@ -158,7 +158,7 @@ public:
     uint8_t* at(uint32_t unit) const { return base_ + (size_t(unit) << 4); }
     uint8_t* of(uint32_t handle) const { return base_ + (size_t(handle >> TagBits) << 4); }
 
-    // Leaves of 16 and 32, the node kinds, then powers of two from 64 on.
+    // Leaves of 16 and 32 bytes, the node kinds, then powers of two from 64.
     static constexpr unsigned L16 = 0, L32 = 1, Nodes = 2, Long = Nodes + Node::Kinds, Classes = Long + 9;
     static size_t size(unsigned c) {
         static const uint16_t sizes[] = {16, 32, 64, 128, 224, 448, 896, 3136};
@@ -207,13 +207,13 @@ public:
     Tree& operator=(const Tree&) = delete;
 
     size_t entries() const { return entries_; }
-    // Whether anything but single keys was written since.
+    // Whether a range of more than one key was written since.
     bool ranges(Ver since) const { return ranges_ > since; }
 
-    // Asks about many ranges. `more(range, snapshot, number)` gives the next
-    // one, `hit(number)` is told those that meet a version above their snapshot.
-    // Several searches go on at a time, one node each in turn, so that the
-    // memory that one waits for comes while the others work.
+    // Looks many ranges up. `more(range, snapshot, number)` supplies the next
+    // one; `hit(number)` is called for each that has a version above its snapshot.
+    // Several searches advance in turn by one node, so that the memory of one
+    // arrives while the others work.
     template <class More, class Hit> void ask(More more, Hit hit) {
         Probe probes[Ways];
         unsigned n = 0;
@@ -239,10 +239,10 @@ public:
         }
     }
 
-    // Writes ranges at version v. They don't overlap or touch; those of more
-    // than one key are in key order. Each goes down to where it changes more
-    // than greatest versions, a group in turn as above; then they are settled
-    // one by one. A way whose slot was moved by one settled before starts anew.
+    // Writes ranges at version v. They neither overlap nor touch; those of more
+    // than one key are in key order. A group of them descends in turn, each to
+    // the slot below which more than greatest versions changes. Then they are
+    // settled one by one. A descent whose slot an earlier one moved starts again.
     void write(const std::vector<Range>& all, Ver v) {
         now_ = v;
         Way ways[Group];
@@ -279,7 +279,7 @@ public:
         }
     }
 
-    // Looks at `count` entries from `resume` on and takes out those that tell nothing from the edge on.
+    // Visits `count` entries from `resume` and removes those that change no version from the edge.
     void sweep(Ver edge, std::string& resume, size_t count) {
         if (root_.child == None) return;
         Sweep s{edge, long(count), false, std::string()};
@@ -290,7 +290,7 @@ public:
         resume.assign(s.stopped ? s.path : std::string());
     }
 
-    // All versions become less by `by`, but not less than 0.
+    // Subtracts `by` from all versions, down to 0.
     void rebase(Ver by) {
         lower(root_, by);
         ranges_ = ranges_ > by ? ranges_ - by : 0;
@@ -304,13 +304,13 @@ private:
         Range r;
         Ver snapshot;
         uint32_t number;
-        Slot s;         // where the search stands
+        Slot s;         // the slot that the search has reached
         uint32_t d;     // bytes of the key above
-        const Node* up; // the slot is there
+        const Node* up; // the node that contains it
         uint32_t place;
     };
 
-    // The gap behind all entries below the slot at which key bytes [0, d) lead.
+    // Returns the gap after all entries below the slot of key bytes [0, d).
     Ver behind(const Node* up, uint32_t place, Ptr k, uint32_t d) const {
         if (!up || !ranges_) return 0;
         unsigned after = up->after(place);
@@ -352,7 +352,7 @@ private:
         if (c < m) return p[c] < k[c] ? -1 : 1;
         return length == n ? 0 : length < n ? -1 : 1;
     }
-    // How many bytes of the prefix the key has.
+    // Returns how many bytes of the prefix the key has.
     uint32_t match(const Node* n, Ptr k, uint32_t rest) const {
         uint32_t m = n->length;
         if (m <= 4) {
@@ -372,7 +372,7 @@ private:
     }
 
     static void fetch(const void* p) { _mm_prefetch(static_cast<const char*>(p), _MM_HINT_T0); }
-    // k: what is left of the key
+    // k: the remaining bytes of the key
     template <bool Writes> void fetch(uint32_t h, Ptr k) const {
         const uint8_t* p = arena_.of(h);
         switch (h & TagMask) {
@@ -409,8 +409,8 @@ private:
         p.place = 0;
     }
 
-    // One node down. Begin and end of a range go together while they have the
-    // same bytes. Without Gaps nothing but points can be newer than the snapshot.
+    // Descends by one node. Begin and end of a range descend together while their
+    // bytes are equal. Without Gaps, only points can be newer than the snapshot.
     template <bool Gaps> inline __attribute__((always_inline)) int step(Probe& p) const {
         const uint32_t h = p.s.child;
         const Ver snap = p.snapshot;
@@ -455,7 +455,7 @@ private:
         return Go;
     }
 
-    // Where the search ends or begin and end part.
+    // Ends the search, or separates begin and end.
     template <bool Gaps> int last(const Probe& p) const {
         const Range& r = p.r;
         const Slot& s = p.s;
@@ -518,7 +518,7 @@ private:
         return false;
     }
 
-    // The keys from a on, to behind all of the child's.
+    // The keys from a to the last of the child.
     bool from(const Slot& s, Ptr a, uint32_t alen, uint32_t d, Ver snap, Ver next) const {
         if (next > snap) return true;
         if (s.top() <= snap) return false;
@@ -539,7 +539,7 @@ private:
         return any(n, at, n->end(), snap);
     }
 
-    // The keys before b (or up to b) that come after all of the slots before.
+    // The keys before b (or up to b) that are after all previous slots.
     bool upto(const Slot& s, Ptr b, uint32_t blen, bool whole, uint32_t d, Ver snap, Ver next) const {
         if (s.gap > snap) return true;
         if (s.most <= snap && next <= snap) return false;
@@ -607,10 +607,10 @@ private:
 
     // ---- writes ----
 
-    // How far a write has come: `s` is the slot below which it changes something.
+    // The progress of a write: `s` is the slot below which it changes entries.
     struct Way {
         Slot* s;
-        uint32_t parent; // the node that holds s
+        uint32_t parent; // the node that contains s
         uint32_t d;
     };
     Ver behind(const Way& w, const Range& r) const {
@@ -619,7 +619,7 @@ private:
         return behind(n, uint32_t(w.s - n->slots()), r.a, w.d);
     }
 
-    // Goes down to the next node as long as nothing but greatest versions change.
+    // Descends to the next node while only greatest versions change.
     inline bool down(Way& w, const Range& r) {
         uint32_t h = w.s->child;
         if (!inner(h) || h == None) return false;
@@ -643,7 +643,7 @@ private:
         return true;
     }
 
-    enum Role { First, Last, Behind }; // first or last key of a write, or the key right behind
+    enum Role { First, Last, Behind }; // first or last key of a write, or the key directly after
 
     struct Made {
         Ver point, gap;
@@ -682,7 +682,7 @@ private:
     }
 
     // The usual case of a short range: both keys end in one node of sorted
-    // children, at leaves or where nothing stands yet. False if it isn't so.
+    // children, at leaves or at free places. Returns false otherwise.
     bool inNode(const Way& w, const Range& r) {
         uint32_t h = w.s->child;
         if (r.kind != Before || r.alen != r.blen || !inner(h) || h == None) return false;
@@ -702,7 +702,7 @@ private:
         Ver gapA = at < n->count ? s[at].gap : next;
         Made end = isB ? Made{s[to].most, now_} : Made{to < n->count ? s[to].gap : next, now_};
         for (unsigned i = at + isA; i < to; i++) dropAll(s[i].child);
-        // a at `at`, b at at + 1, then what stood from to + isB on
+        // a at `at`, b at at + 1, then the slots from to + isB
         unsigned rest = n->count - to - isB;
         if (at + 2 != to + isB) shift(n, at + 2, to + isB, rest);
         if (at + 2 != to + isB) moved_.push_back(h >> TagBits);
@@ -716,7 +716,7 @@ private:
         return true;
     }
 
-    // Makes sure that the key is an entry and sets its versions. `next`: the gap behind all entries below s.
+    // Inserts the entry of a key if needed and sets its versions. `next`: the gap after all entries below s.
     void enter(Slot* s, Ptr k, uint32_t len, uint32_t d, Role role, Ver next) {
         for (;;) {
             uint32_t h = s->child, rest = len - d;
@@ -790,7 +790,7 @@ private:
         }
     }
 
-    // The second part of a fork at which one branch stands already: the new key's.
+    // Adds the branch of the new key to a fork that has one branch.
     void fork(Slot* s, Node* n, uint32_t h, Ptr k, uint32_t rest, uint32_t c, bool first, Made m) {
         if (c == rest) {
             n->own = 1;
@@ -856,14 +856,14 @@ private:
         n->count++;
     }
 
-    // Removes what lies strictly between the entries a and b (or from the
-    // beginning, or to the end, of the slot). If a is not given, b becomes the first.
+    // Removes all entries strictly between a and b (or from the first, or to the
+    // last, of the slot). Without a, b becomes the first.
     void cut(Slot* s, Ptr a, uint32_t alen, Ptr b, uint32_t blen, uint32_t d) {
         if (!a) s->gap = now_;
         if (!inner(s->child)) return;
         Node* n = node(s->child);
         d += n->length;
-        if (b && d == blen) return; // nothing below stands before b
+        if (b && d == blen) return; // no entry below is before b
         unsigned from, to = b ? n->seek(b[d]) : n->end();
         if (!a) {
             if (n->own) {
@@ -906,7 +906,7 @@ private:
         n->count--;
     }
 
-    // Frees all below; their number.
+    // Frees all entries below and returns their number.
     size_t dropAll(uint32_t h) {
         if (!inner(h)) {
             freeLeaf(h);
@@ -921,8 +921,8 @@ private:
         return seen;
     }
 
-    // After removals: a smaller node, or none where it isn't needed any more.
-    __attribute__((noinline)) void tidy(Slot* s) { // its room isn't wanted in each frame of a recursion
+    // After removals: replaces the node by a smaller one, or removes it.
+    __attribute__((noinline)) void tidy(Slot* s) { // keeps its locals out of the frames of the recursion
         Node* n = node(s->child);
         unsigned many = n->count;
         if (many == 0) {
@@ -979,7 +979,7 @@ private:
         return handle(unit, n);
     }
 
-    // The new bytes may lie in the old prefix.
+    // The new bytes may overlap the old prefix.
     void setPrefix(Node* n, Ptr p, uint32_t length) {
         uint32_t before = n->length, at = n->more;
         if (length <= 4) {
@@ -1032,7 +1032,7 @@ private:
             uint32_t unit = arena_.take(Arena::L16);
             uint8_t* to = arena_.at(unit);
             to[0] = uint8_t(length);
-            memcpy(to + 1, p, 15); // the bytes behind don't matter
+            memcpy(to + 1, p, 15); // the bytes after are ignored
             return unit << TagBits | Leaf16;
         }
         if (length <= 31) {
@@ -1072,7 +1072,7 @@ private:
         std::string path;
     };
 
-    // True if nothing is left below. `from`: entries below that key aren't looked at.
+    // Returns true if no entry remains below. Skips entries below `from`.
     bool clean(Slot* s, Ver next, Sweep& w, Ptr from, uint32_t flen, uint32_t d) {
         if (!inner(s->child)) {
             w.left--;

@@ -1,5 +1,5 @@
 // SPDX-License-Identifier: Apache-2.0
-// Single keys by hash: what the tree need not be asked, and what the sort need not see.
+// Single keys by hash: most need neither a search in the tree nor a sort.
 #pragma once
 #include "art.h"
 
@@ -17,22 +17,22 @@ inline uint64_t hash(Ptr k, uint32_t n) {
         h = mixed(h ^ load64(k), a ^ load64(k + 8));
         g = mixed(g ^ load64(k + 16), c ^ load64(k + 24));
     }
-    Ptr m = keep + 32 - n; // the last bytes without those behind
+    Ptr m = keep + 32 - n; // the last bytes, without those after them
     h = mixed(h ^ (load64(k) & load64(m)), a ^ (load64(k + 8) & load64(m + 8)));
     g = mixed(g ^ (load64(k + 16) & load64(m + 16)), c ^ (load64(k + 24) & load64(m + 24)));
     return mixed(h ^ g, b) * c;
 }
 
-// The greatest version of all single-key writes whose key falls into a cell. A
-// key whose cell isn't newer than the snapshot wasn't written since. Nothing
-// is ever taken out: cells age.
+// The greatest version of all writes of single keys per cell. A key whose cell
+// is not newer than the snapshot was not written since. Cells are never
+// cleared: they age.
 class Filter {
 public:
     void prefetch(uint64_t h) const { _mm_prefetch(reinterpret_cast<const char*>(&cells_[h >> shift_]), _MM_HINT_T0); }
     Ver newest(uint64_t h) const { return cells_[h >> shift_]; }
     void put(uint64_t h, Ver v) { cells_[h >> shift_] = v; }
 
-    // Room for that many keys of the window.
+    // Grows to that many keys of the window.
     void grow(size_t keys) {
         while (keys * Load > size()) {
             Ver* more = room(size() * 2);
@@ -75,7 +75,7 @@ public:
             if (c.hash == uint32_t(h) && c.length == n && same(c.key, k, n) == n) return true;
         }
     }
-    // False if it was there.
+    // Returns false if the key was present.
     bool add(uint64_t h, Ptr k, uint32_t n) {
         for (size_t i = h >> (64 - bits_);; i = (i + 1) & (cells_.size() - 1)) {
             Cell& c = cells_[i];

@@ -22,7 +22,7 @@ struct Node {
     val: [i64; B],
     slot: [Slot; B],
     len: [u16; B],
-    /// none in a leaf
+    /// Empty in a leaf.
     kids: Vec<Box<Node>>,
 }
 
@@ -74,7 +74,7 @@ impl Node {
     fn get(&self, i: usize) -> Entry {
         Entry { digest: self.digest[i], val: self.val[i], slot: self.slot[i], len: self.len[i] }
     }
-    /// Opens d places at `from` (of the entries alone).
+    /// Moves the entries from `from` by d.
     #[inline(always)]
     fn open(&mut self, from: usize, d: usize) {
         let n = self.n();
@@ -88,7 +88,7 @@ impl Node {
         }
         self.n = (n + d) as u16;
     }
-    /// Takes out from..to (of the entries alone).
+    /// Removes the entries from..to.
     #[inline(always)]
     fn cut(&mut self, from: usize, to: usize) {
         if from == to {
@@ -296,7 +296,7 @@ impl Node {
         right.regrow(keys);
         right
     }
-    /// An entry for this node in one that skips so much.
+    /// Returns this node's entry for a parent that skips `skip` bytes.
     fn entry(&self, keys: &Keys, skip: usize) -> Entry {
         Entry { digest: digest(self.key(keys, 0), skip), val: self.most(), slot: self.slot[0], len: self.len[0] }
     }
@@ -328,7 +328,7 @@ impl Node {
         }
         None
     }
-    /// Releases the keys; how many.
+    /// Releases the keys and returns their number.
     fn drop_all(&mut self, keys: &mut Keys) -> usize {
         let mut n = 0;
         if self.leaf() {
@@ -343,7 +343,7 @@ impl Node {
         }
         n
     }
-    /// The new right neighbour, if any; count is kept.
+    /// Returns the new right neighbour, if any.
     fn put(
         &mut self,
         keys: &mut Keys,

@@ -94,7 +94,7 @@ impl<'a> Body<'a> {
     }
 }
 
-/// The frame at the front of `bytes`, which then begins after it.
+/// Decodes the frame at the front of `bytes` and removes it.
 fn decode(bytes: &mut &[u8]) -> Result<Batch, Fault> {
     let (size, rest) = bytes.split_first_chunk::<4>().ok_or("Short")?;
     let size = u32::from_be_bytes(*size) as usize;
@@ -134,9 +134,9 @@ fn decode(bytes: &mut &[u8]) -> Result<Batch, Fault> {
 }
 
 struct ConflictSet {
-    /// A boundary's version holds from its key up to the next; the empty key is always one.
+    /// The version of a boundary is that of all keys up to the next one. The empty key is always a boundary.
     steps: BTreeMap<Vec<u8>, i64>,
-    /// Where the sweep goes on.
+    /// The key at which the sweep continues.
     resume: Vec<u8>,
 }
 
@@ -145,7 +145,7 @@ impl ConflictSet {
         ConflictSet { steps: BTreeMap::from([(Vec::new(), -1)]), resume: Vec::new() }
     }
 
-    /// Whether the function is above the snapshot somewhere in the range.
+    /// Whether the range has a version above the snapshot.
     fn above(&self, range: &Range, snapshot: i64) -> bool {
         for (key, version) in self.steps.range::<[u8], _>((Unbounded, Excluded(&range.end[..]))).rev() {
             if *version > snapshot {
@@ -176,8 +176,8 @@ impl ConflictSet {
         }
     }
 
-    /// Looks at `count` boundaries from where it stopped and removes those whose version and
-    /// the version of the one before are below the edge.
+    /// Visits `count` boundaries from where it stopped. Removes those whose version and the
+    /// previous boundary's version are below the edge.
     fn sweep(&mut self, edge: i64, count: usize) {
         let from = std::mem::take(&mut self.resume);
         let before = self.steps.range::<[u8], _>((Unbounded, Excluded(&from[..]))).next_back();
@@ -203,7 +203,7 @@ impl ConflictSet {
     fn resolve(&mut self, batch: &Batch, verdicts: &mut Vec<Verdict>) {
         verdicts.clear();
         let edge = (batch.version - WINDOW).max(0);
-        // The writes of this batch so far, united: begin to end, none touching another.
+        // The united writes of this batch so far, from begin to end; none touches another.
         let mut fresh: BTreeMap<&[u8], &[u8]> = BTreeMap::new();
         for txn in &batch.txns {
             if !txn.reads.is_empty() && txn.snapshot < edge {

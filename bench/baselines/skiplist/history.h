@@ -15,9 +15,8 @@
 #include <string>
 #include <vector>
 
-// Two programs come of this source: one as its author remembers FoundationDB's,
-// and a tuned one. The tuned one waits for memory in one more place and skips
-// common prefixes when it sorts.
+// This source makes two programs. The tuned one prefetches in one more place and
+// skips common prefixes when it sorts.
 #ifdef TUNED
 constexpr bool Tuned = true;
 #define NAME "skiplist-tuned"
@@ -80,9 +79,9 @@ public:
         bool is(Bytes k) { return size == k.size && !memcmp(key(), k.at, size); }
     };
 
-    // A way down the list: at[l] is the last node of level l below the key.
+    // A descent: at[l] is the last node of level l below the key.
     struct Finger {
-        Node* at[Top]; // known from `level` up
+        Node* at[Top]; // valid from `level` upwards
         int level;
         Node* x;
         Node* known; // a node known not to be below the key
@@ -95,7 +94,7 @@ public:
             level = Top;
         }
         bool finished() const { return level == 0; }
-        // One comparison: one node on, or (true) one level down.
+        // Compares once: advances by a node, or descends by a level and returns true.
         inline __attribute__((always_inline)) bool step() {
             Node* n = x->next(level - 1);
             if (n == known || !n->below(key)) {
@@ -115,7 +114,7 @@ public:
             __builtin_prefetch(n);
             if (!(reinterpret_cast<uintptr_t>(n) & 64)) __builtin_prefetch(n + 64);
         }
-        // When finished: the node with exactly this key, or none.
+        // After the descent: returns the node with exactly this key, or nullptr.
         Node* found() const {
             Node* n = at[0]->next(0);
             return n && n->is(key) ? n : nullptr;
@@ -138,9 +137,9 @@ public:
     History(const History&) = delete;
     History& operator=(const History&) = delete;
 
-    // hit[q.txn] = 1 for each question whose range meets a version above its
-    // snapshot. Several searches go on at a time, one step each in turn, so
-    // that the memory that one waits for comes while the others work.
+    // Sets hit[q.txn] for each question whose range has a version above its
+    // snapshot. Several searches advance in turn by one step, so that the memory
+    // of one arrives while the others work.
     void ask(const Question* questions, int count, uint8_t* hit) {
         constexpr int Ways = 16;
         if (!count) return;
@@ -168,8 +167,8 @@ public:
         }
     }
 
-    // The ranges are in key order and apart from each other. They are written
-    // from the last to the first, in strips, the searches of a strip together.
+    // The ranges are in key order and do not touch. They are written from the
+    // last to the first, in strips whose searches advance together.
     void write(const std::vector<Range>& ranges, Version version) {
         constexpr int Strip = 16;
         Finger* fingers = fingers_;
@@ -194,7 +193,7 @@ public:
         }
     }
 
-    // Looks at `count` nodes from `resume` on and removes those whose version
+    // Visits `count` nodes from `resume` and removes those whose version
     // and whose predecessor's version are below the edge.
     void sweep(Version edge, std::string& resume, size_t count) {
         Finger f;
@@ -227,8 +226,8 @@ public:
 
     // Slow: stops the program if the list isn't what it should be.
 private:
-    // One read range on its way down, as two fingers that go together until
-    // they part.
+    // The search for one read range: two fingers that descend together until they
+    // separate.
     struct Probe {
         Finger lo, hi;
         Version snapshot;
@@ -291,7 +290,7 @@ private:
         }
     };
 
-    // Fingers for keys in rising order. The first goes down alone while all
+    // Fingers for keys in rising order. The first descends alone while all
     // keys lie in one span; from there all go down in turn.
     void find(const Bytes* keys, Finger* fingers, int count) {
         Finger& first = fingers[0];
@@ -348,8 +347,8 @@ private:
         }
     }
 
-    // Takes out the nodes from begin on that are below end. The greatest
-    // versions are put right by the insertion that follows.
+    // Removes the nodes from begin that are below end. The insertion that follows
+    // corrects the greatest versions.
     void remove(const Finger& begin, const Finger& end) {
         if (begin.at[0] == end.at[0]) return;
         Node* x = begin.at[0]->next(0);

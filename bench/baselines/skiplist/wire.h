@@ -1,5 +1,5 @@
 // SPDX-License-Identifier: Apache-2.0
-// Batches of wire version 1, read from memory. Keys stay where they lie.
+// Batches of wire version 1, decoded in memory. Keys are not copied.
 #pragma once
 #include <cstdint>
 #include <cstring>
@@ -22,7 +22,7 @@ struct Range {
 
 struct Txn {
     int64_t snapshot;
-    uint32_t first; // its reads stand at ranges[first..], its writes right after them
+    uint32_t first; // the index of its first read; its writes follow the reads
     uint16_t reads, writes;
 };
 
@@ -38,7 +38,7 @@ public:
 
     bool done() const { return at_ == stop_; }
 
-    // nullptr if the frame at the front was read into b, else the name of its fault.
+    // Decodes the next frame into b. Returns the name of the fault or nullptr.
     const char* next(Batch& b) {
         uint32_t size;
         if (!number(stop_, size)) return "Short";
