@@ -1,0 +1,1 @@
+def drawn_case(seed, number): raise NotImplementedError
