@@ -23,10 +23,10 @@ from eraser.tokens import Refused
 TOP = Path(__file__).resolve().parent.parent
 VERSION = "0.2.0"
 PROGRAMS = ("replay", "batches", "workload")
-LIBRARY = "archcaraway_c"
+LIBRARIES = ("archcaraway_c", "codec_c")
 
 # The crates of crates.io that serve as they are, with the version that is asked for.
-REAL_CRATES = {"arrayvec": "0.7", "byteorder": "1", "crossbeam_utils": "0.8", "hex": "0.4", "itoa": "1", "thiserror": "1"}
+REAL_CRATES = {"arrayvec": "0.7", "byteorder": "1", "crossbeam_utils": "0.8", "itoa": "1", "thiserror": "1"}
 
 # Those of the toolchain's std, which need no dependency.
 PARTS_OF_STD = {"std_alloc", "std_heap", "std_io"}
@@ -52,7 +52,7 @@ def listed_crates() -> dict[str, Crate]:
 
 
 def needed_crates(crates: dict[str, Crate]) -> list[Crate]:
-    """Returns the crates that the programs and the library for C need, the lowest first."""
+    """Returns the crates that the programs and the libraries for C need, the lowest first."""
     needed: list[Crate] = []
 
     def add(name: str) -> None:
@@ -61,7 +61,7 @@ def needed_crates(crates: dict[str, Crate]) -> list[Crate]:
                 add(below)
             needed.append(crates[name])
 
-    for name in (*PROGRAMS, LIBRARY):
+    for name in (*PROGRAMS, *LIBRARIES):
         add(name)
     return needed
 
@@ -95,14 +95,14 @@ def with_prelude(text: str) -> str:
 
 def root_lines(crate: Crate) -> str:
     """Returns what a root file begins with behind its docs. Only the exports for C may have unsafe code."""
-    return "" if crate.name == LIBRARY else "#![forbid(unsafe_code)]\n"
+    return "" if crate.name in LIBRARIES else "#![forbid(unsafe_code)]\n"
 
 
 def manifest(crate: Crate, listed: dict[str, Crate], real: frozenset[str]) -> str:
     uses = [f'{use} = {{ package = "archcaraway-{use}", path = "../{use}", version = "{VERSION}" }}' for use in crate.uses if use in listed]
-    uses += [f'{use} = "{REAL_CRATES[use]}"' for use in crate.uses if use in real]
+    uses += [f'{use.replace("_", "-")} = "{REAL_CRATES[use]}"' for use in crate.uses if use in real]
     kind = ""
-    if crate.name == LIBRARY:
+    if crate.name in LIBRARIES:
         kind = f'[lib]\nname = "{crate.name}"\ncrate-type = ["staticlib", "cdylib", "rlib"]\n'
     elif crate.name in PROGRAMS:
         kind = f'[[bin]]\nname = "{crate.name}"\npath = "src/main.rs"\n'
@@ -166,6 +166,15 @@ def write_crate(crate: Crate, target: Path, listed: dict[str, Crate], real: froz
     (folder / "Cargo.toml").write_text(manifest(crate, listed, real & set(crate.uses)))
 
 
+def write_stand_ins(folder: Path, real: frozenset[str]) -> None:
+    """Copies `rattle_std`, whose command lines are taken by `clap` itself where real crates are used."""
+    shutil.rmtree(folder / "src", ignore_errors=True)
+    shutil.copytree(TOP / "cargo" / "rattle_std", folder, dirs_exist_ok=True)
+    features = 'default = ["clap"]\nclap = ["dep:clap"]\n\n[dependencies]\nclap = { version = "4", optional = true }\n' if real else "clap = []\n"
+    with (folder / "Cargo.toml").open("a") as manifest:
+        manifest.write(f"\n[features]\n{features}")
+
+
 def write_workspace(target: Path, real: frozenset[str]) -> None:
     listed = listed_crates()
     needed = needed_crates(listed)
@@ -178,7 +187,7 @@ def write_workspace(target: Path, real: frozenset[str]) -> None:
     for name in names:
         shutil.rmtree(target / name / "src", ignore_errors=True)
         write_crate(listed[name], target, listed, real)
-    shutil.copytree(TOP / "cargo" / "rattle_std", target / "rattle_std", dirs_exist_ok=True)
+    write_stand_ins(target / "rattle_std", real)
     (target / "Cargo.toml").write_text(workspace(["rattle_std", *names]))
 
 

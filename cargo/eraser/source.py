@@ -80,12 +80,10 @@ class Source:
         kept: list[str] = []
         for line in self.lines():
             text = joined(line)
-            if text.strip() == "{" and kept and kept[-1]:
+            if text.strip() == "{" and opens_body(kept):
                 kept[-1] += " {"
             elif text or not emptied(line) and kept and kept[-1] and not kept[-1].endswith("{"):
                 kept.append(text)
-            if text == "" and emptied(line):
-                continue
         return "\n".join(kept).rstrip("\n") + "\n"
 
     def lines(self) -> Iterator[list[Token]]:
@@ -100,6 +98,15 @@ class Source:
                 yield line
                 line = [Token(token.kind, part, token.line)]
         yield line
+
+
+def opens_body(kept: list[str]) -> bool:
+    """Returns whether the last line is the head of a body whose brace stood on its own. Blank lines behind it are dropped then."""
+    head = next((at for at in range(len(kept) - 1, -1, -1) if kept[at]), None)
+    if head is None or kept[head].endswith((";", "{", "}", ",")):
+        return False
+    del kept[head + 1 :]
+    return True
 
 
 def emptied(line: list[Token]) -> bool:

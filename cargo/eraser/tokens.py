@@ -91,6 +91,8 @@ def tokens_of(text: str, file: Path) -> list[Token]:
 
 
 def token_at(text: str, index: int, line: int, file: Path) -> Token:
+    if text.startswith("/*", index):
+        raise Refused(file, line, "a block comment")
     for kind, pattern in PATTERNS:
         if match := pattern.match(text, index):
             return Token(kind, match.group(), line)

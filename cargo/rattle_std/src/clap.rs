@@ -1,10 +1,12 @@
-//! Command lines: the part of `clap` that the programs use, with a shorter help and refusals of one line.
+//! Command lines: the part of `clap` that the programs use, over `clap` itself or with a shorter help and refusals of one line.
 
+#[cfg(not(feature = "clap"))]
 mod parse;
+#[cfg(feature = "clap")]
+mod real;
 
 use crate::alloc::{AllocError, Global};
 use crate::string::String;
-use std::fmt::Write;
 
 pub mod builder {
     pub use super::ValueParser;
@@ -19,11 +21,8 @@ pub mod error {
 pub enum ErrorKind {
     ArgumentConflict,
     DisplayHelp,
-    DisplayHelpOnMissingArgumentOrSubcommand,
     DisplayVersion,
-    InvalidSubcommand,
     MissingRequiredArgument,
-    MissingSubcommand,
     OutOfMemory,
     TooManyValues,
     UnknownArgument,
@@ -51,6 +50,23 @@ impl Error {
     pub fn to_string(&self, _alloc: Global) -> Result<String, AllocError> {
         Ok(self.text.clone().into())
     }
+}
+
+// Methods that set a field and return the rest as it was.
+macro_rules! setters {
+    ($($name:ident: $kind:ty),*) => {
+        $(pub fn $name(self, $name: $kind) -> Self {
+            Self { $name, ..self }
+        })*
+    };
+}
+
+macro_rules! optional_setters {
+    ($($name:ident $field:ident: $kind:ty),*) => {
+        $(pub fn $name(self, value: $kind) -> Self {
+            Self { $field: Some(value), ..self }
+        })*
+    };
 }
 
 #[derive(Clone, Copy, Debug, PartialEq, Eq)]
@@ -100,42 +116,8 @@ impl<'a> Arg<'a> {
         Arg { id, long: None, value_name: id, help: "", default: None, parser: None, action: ArgAction::Set, required: false }
     }
 
-    pub fn long(self, name: &'a str) -> Self {
-        Arg { long: Some(name), ..self }
-    }
-
-    pub fn value_name(self, value_name: &'a str) -> Self {
-        Arg { value_name, ..self }
-    }
-
-    pub fn help(self, help: &'a str) -> Self {
-        Arg { help, ..self }
-    }
-
-    pub fn default_value(self, value: &'a str) -> Self {
-        Arg { default: Some(value), ..self }
-    }
-
-    pub fn value_parser(self, parser: ValueParser<'a>) -> Self {
-        Arg { parser: Some(parser), ..self }
-    }
-
-    pub fn action(self, action: ArgAction) -> Self {
-        Arg { action, ..self }
-    }
-
-    pub fn required(self, required: bool) -> Self {
-        Arg { required, ..self }
-    }
-
-    fn shown(&self) -> std::string::String {
-        match (self.long, self.action) {
-            (Some(name), ArgAction::SetTrue) => format!("--{name}"),
-            (Some(name), _) => format!("--{name} <{}>", self.value_name),
-            (None, ArgAction::Append) => format!("<{}>...", self.value_name),
-            (None, _) => format!("[{}]", self.value_name),
-        }
-    }
+    setters!(action: ArgAction, help: &'a str, required: bool, value_name: &'a str);
+    optional_setters!(default_value default: &'a str, long long: &'a str, value_parser parser: ValueParser<'a>);
 }
 
 #[derive(Debug)]
@@ -143,11 +125,11 @@ pub struct Command<'a> {
     name: &'a str,
     version: &'a str,
     about: &'a str,
-    after_help: &'a str,
+    after_long_help: &'a str,
     arguments: Vec<Arg<'a>>,
     subcommands: Vec<Command<'a>>,
     subcommand_required: bool,
-    needs_arguments: bool,
+    arg_required_else_help: bool,
 }
 
 impl<'a> Command<'a> {
@@ -156,33 +138,15 @@ impl<'a> Command<'a> {
             name,
             version: "",
             about: "",
-            after_help: "",
+            after_long_help: "",
             arguments: Vec::new(),
             subcommands: Vec::new(),
             subcommand_required: false,
-            needs_arguments: false,
+            arg_required_else_help: false,
         }
     }
 
-    pub fn version(self, version: &'a str) -> Self {
-        Command { version, ..self }
-    }
-
-    pub fn about(self, about: &'a str) -> Self {
-        Command { about, ..self }
-    }
-
-    pub fn after_long_help(self, after_help: &'a str) -> Self {
-        Command { after_help, ..self }
-    }
-
-    pub fn subcommand_required(self, subcommand_required: bool) -> Self {
-        Command { subcommand_required, ..self }
-    }
-
-    pub fn arg_required_else_help(self, needs_arguments: bool) -> Self {
-        Command { needs_arguments, ..self }
-    }
+    setters!(about: &'a str, after_long_help: &'a str, arg_required_else_help: bool, subcommand_required: bool, version: &'a str);
 
     pub fn arg(mut self, arg: Arg<'a>) -> Result<Self, AllocError> {
         self.arguments.push(arg);
@@ -194,36 +158,9 @@ impl<'a> Command<'a> {
         Ok(self)
     }
 
-    /// Returns an error with the usage behind its message.
+    /// Returns an error with this message.
     pub fn error(&self, kind: ErrorKind, message: &str) -> Result<Error, AllocError> {
-        let text = format!("error: {message}\n\n{}\nFor more information, try '--help'.\n", self.usage());
-        Ok(Error { kind, text })
-    }
-
-    fn usage(&self) -> std::string::String {
-        let positional = self.arguments.iter().filter(|arg| arg.long.is_none());
-        let words: Vec<_> = positional.map(Arg::shown).chain((!self.subcommands.is_empty()).then(|| "<COMMAND>".to_owned())).collect();
-        format!("Usage: {} [OPTIONS] {}\n", self.name, words.join(" "))
-    }
-
-    fn help(&self, kind: ErrorKind) -> Error {
-        let mut text = format!("{}\n\n{}\n", self.about, self.usage());
-        for command in &self.subcommands {
-            let _ = writeln!(text, "  {:<22} {}", command.name, command.about);
-        }
-        for arg in &self.arguments {
-            let default = arg.default.map_or(std::string::String::new(), |value| format!(" [default: {value}]"));
-            let _ = writeln!(text, "  {:<22} {}{default}", arg.shown(), arg.help);
-        }
-        text.push_str("  -h, --help             Print help\n");
-        if !self.version.is_empty() {
-            text.push_str("  -V, --version          Print version\n");
-        }
-        if !self.after_help.is_empty() {
-            let _ = write!(text, "\n{}\n", self.after_help);
-        }
-        text.push_str("\nThis is the help of the unproved edition. The proved programs print a longer one.\n");
-        Error { kind, text }
+        Ok(self.refusal(kind, message))
     }
 }
 

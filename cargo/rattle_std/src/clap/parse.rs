@@ -2,6 +2,7 @@
 
 use super::{Arg, ArgAction, ArgMatches, Command, Error, ErrorKind};
 use crate::string::String;
+use std::fmt::Write;
 
 impl<'a> Command<'a> {
     /// Takes the words, of which the first is the program's name.
@@ -14,12 +15,17 @@ impl<'a> Command<'a> {
     }
 
     fn refuse(&self, kind: ErrorKind, message: std::string::String) -> Error {
-        self.error(kind, &message).expect("memory isn't refused")
+        self.refusal(kind, &message)
+    }
+
+    pub(super) fn refusal(&self, kind: ErrorKind, message: &str) -> Error {
+        let text = format!("error: {message}\n\n{}\nFor more information, try '--help'.\n", self.usage());
+        Error { kind, text }
     }
 
     fn take(&self, words: &[&'a str]) -> Result<ArgMatches<'a>, Error> {
-        if words.is_empty() && self.needs_arguments {
-            return Err(self.help(ErrorKind::DisplayHelpOnMissingArgumentOrSubcommand));
+        if words.is_empty() && self.arg_required_else_help {
+            return Err(self.help(ErrorKind::MissingRequiredArgument));
         }
         let mut found = ArgMatches::default();
         let mut rest = words.iter();
@@ -105,7 +111,7 @@ impl<'a> Command<'a> {
             return Err(named.unwrap_or(self).help(ErrorKind::DisplayHelp));
         }
         let Some(command) = self.subcommands.iter().find(|command| command.name == name) else {
-            return Err(self.refuse(ErrorKind::InvalidSubcommand, format!("unrecognized subcommand '{name}'")));
+            return Err(self.refuse(ErrorKind::UnknownArgument, format!("unrecognized subcommand '{name}'")));
         };
         let matches = Box::new(command.take(rest)?);
         Ok(ArgMatches { values: Vec::new(), subcommand: Some((name, matches)) })
@@ -114,7 +120,7 @@ impl<'a> Command<'a> {
     // Adds defaults, and looks that nothing required is missing.
     fn complete(&self, mut found: ArgMatches<'a>) -> Result<ArgMatches<'a>, Error> {
         if self.subcommand_required {
-            return Err(self.refuse(ErrorKind::MissingSubcommand, format!("'{}' requires a subcommand but one was not provided", self.name)));
+            return Err(self.refuse(ErrorKind::MissingRequiredArgument, format!("'{}' requires a subcommand but one was not provided", self.name)));
         }
         for arg in &self.arguments {
             if found.get_strs(arg.id).is_some() {
@@ -130,5 +136,42 @@ impl<'a> Command<'a> {
             }
         }
         Ok(found)
+    }
+
+    fn usage(&self) -> std::string::String {
+        let positional = self.arguments.iter().filter(|arg| arg.long.is_none());
+        let words: Vec<_> = positional.map(Arg::shown).chain((!self.subcommands.is_empty()).then(|| "<COMMAND>".to_owned())).collect();
+        format!("Usage: {} [OPTIONS] {}\n", self.name, words.join(" "))
+    }
+
+    fn help(&self, kind: ErrorKind) -> Error {
+        let mut text = format!("{}\n\n{}\n", self.about, self.usage());
+        for command in &self.subcommands {
+            let _ = writeln!(text, "  {:<22} {}", command.name, command.about);
+        }
+        for arg in &self.arguments {
+            let default = arg.default.map_or(std::string::String::new(), |value| format!(" [default: {value}]"));
+            let _ = writeln!(text, "  {:<22} {}{default}", arg.shown(), arg.help);
+        }
+        text.push_str("  -h, --help             Print help\n");
+        if !self.version.is_empty() {
+            text.push_str("  -V, --version          Print version\n");
+        }
+        if !self.after_long_help.is_empty() {
+            let _ = write!(text, "\n{}\n", self.after_long_help);
+        }
+        text.push_str("\nThis is the help of the unproved edition. The proved programs print a longer one.\n");
+        Error { kind, text }
+    }
+}
+
+impl Arg<'_> {
+    fn shown(&self) -> std::string::String {
+        match (self.long, self.action) {
+            (Some(name), ArgAction::SetTrue) => format!("--{name}"),
+            (Some(name), _) => format!("--{name} <{}>", self.value_name),
+            (None, ArgAction::Append) => format!("<{}>...", self.value_name),
+            (None, _) => format!("[{}]", self.value_name),
+        }
     }
 }
