@@ -1,8 +1,9 @@
 """What the rules of docs/RULES.md say of a log of batches, by plain lists, and the lines that docs/REPLAY.md makes of it.
 
-It is slow and keeps all writes, and has no limit on boundaries. Of a gate that fills it says nothing.
+It keeps all writes, and has no limit on boundaries. Of a gate that fills it says nothing.
 """
 
+from bisect import bisect_left, bisect_right
 from collections.abc import Sequence
 from dataclasses import dataclass, field
 
@@ -26,10 +27,32 @@ class Answer:
 
 
 @dataclass
+class History:
+    """The version that wrote each key last: from each of the keys in order up to the next one."""
+
+    keys: list[bytes] = field(default_factory=lambda: [b""])
+    versions: list[int] = field(default_factory=lambda: [-1])
+
+    def greatest_in(self, of: Range) -> int:
+        """Returns the greatest version in the range, or -1 if the range is empty."""
+        first = bisect_right(self.keys, of.begin) - 1
+        return -1 if of.is_empty else max(self.versions[first : bisect_left(self.keys, of.end)])
+
+    def write(self, of: Range, version: int) -> None:
+        if of.is_empty:
+            return
+        first = bisect_left(self.keys, of.begin)
+        after = bisect_right(self.keys, of.end)
+        last = self.versions[after - 1]
+        self.keys[first:after] = [of.begin, of.end]
+        self.versions[first:after] = [version, last]
+
+
+@dataclass
 class Resolver:
     window: int = WINDOW
     version: int = -1
-    writes: list[tuple[Range, int]] = field(default_factory=list)
+    history: History = field(default_factory=History)
     held: list[tuple[int, Batch]] = field(default_factory=list)
     kept: dict[tuple[int, int], Reply] = field(default_factory=dict)
     answers: dict[int, list[Answer]] = field(default_factory=dict)
@@ -80,21 +103,19 @@ class Resolver:
             entries.append(entry)
             if entry.verdict == "committed":
                 committed += txn.writes
-        self.writes += [(written, batch.version) for written in committed if not written.is_empty]
+        for written in committed:
+            self.history.write(written, batch.version)
         return Reply(batch.version, tuple(entries))
 
     def verdict(self, txn: Txn, edge: int, committed: list[Range]) -> Entry:
         if txn.reads and txn.snapshot < edge:
             return Entry("tooold")
-        history = [index for index, read in enumerate(txn.reads) if self.is_hit(read, txn.snapshot)]
+        history = [index for index, read in enumerate(txn.reads) if self.history.greatest_in(read) > txn.snapshot]
         batch = [index for index, read in enumerate(txn.reads) if any(read.meets(written) for written in committed)]
         if not history and not batch:
             return Entry("committed")
         indices = history or batch[:1]
         return Entry("conflict", tuple(indices) if txn.report else ())
-
-    def is_hit(self, read: Range, snapshot: int) -> bool:
-        return any(version > snapshot and read.meets(written) for written, version in self.writes)
 
     def finish(self) -> None:
         for proxy, batch in self.held:

@@ -23,7 +23,7 @@ from .case import Case, Run
 from .damage import cut, damaged_file
 from .expecting import most_boundaries, replay_outcome
 from .reference import WINDOW, resolve
-from .wire import Batch, Reply, Txn, batch_frame, file_of, reply_frame, single
+from .wire import Batch, Range, Reply, Txn, batch_frame, file_of, reply_frame, single
 
 FORMS = ("words", "words", "frames", "json")
 WINDOWS = (None, None, None, 1, 2, 10, 100, 1_000, 4_999_999, 5_000_001, 2**40)
@@ -88,31 +88,64 @@ def draw_many(chance: Random) -> Case:
 
 def draw_history(chance: Random) -> Case:
     """Many keys, so that trees have levels, cells are doubled and sweeps go along leaves."""
-    letters = chance.choice((bytes(range(256)), b"abcdefgh"))
-    prefix = b"p" * chance.choice((0, 0, 3, 8, 20, 40))
-    count = chance.choice((300, 1_500, 6_000))
-    pool = [prefix + bytes(chance.choices(letters, k=chance.choice((2, 3, 8)))) for _ in range(count)]
-    drawer = Drawer(chance, pool, 3, 1)
-    window = chance.choice((None, 5, 50))
-    batches = []
-    steps = chance.choice(((1,), (1, 3), (7,)))
-    for batch in drawer.chain(chance.choice((10, 40)), steps):
-        drawer.txns, drawer.ranges = chance.choice((4, 30)), chance.choice((3, 8))
-        batches.append(Batch(batch.previous, batch.version, -1, drawer.txns_of_batch([max(0, batch.previous - 2), batch.previous])))
-    if chance.random() < 0.5:
-        batches = [point_batch(chance, batch, pool) for batch in batches]
-    files = [b"".join(draw_bytes(chance, some)) for some in dealt(chance, batches, chance.choice((1, 1, 3)))]
-    return Case("", "history", names_of(files), (draw_run(chance, files, window, False),))
+    sorts = ManyKeys(chance)
+    chain = sorts.chain(chance.choice((5, 15, 30)))
+    files = [b"".join(draw_bytes(chance, some)) for some in dealt(chance, chain, chance.choice((1, 1, 3)))]
+    return Case("", "history", names_of(files), (draw_run(chance, files, sorts.window),))
 
 
-def point_batch(chance: Random, batch: Batch, pool: Sequence[bytes]) -> Batch:
-    """Has most ranges of a batch be short, so that few transactions are in conflict."""
-    txns = []
-    for txn in batch.txns:
-        reads = tuple(single(chance.choice(pool)) for _ in txn.reads)
-        writes = tuple(single(chance.choice(pool)) if chance.random() < 0.9 else one for one in txn.writes)
-        txns.append(Txn(txn.snapshot, txn.report, reads, writes))
-    return Batch(batch.previous, batch.version, batch.received, tuple(txns))
+class ManyKeys:
+    """Draws a chain that begins with writes of many keys, of which most are committed."""
+
+    def __init__(self, chance: Random) -> None:
+        self.chance = chance
+        letters = chance.choice((bytes(range(256)), b"abcdefgh"))
+        prefix = b"p" * chance.choice((0, 0, 3, 8, 20, 40))
+        length = chance.choice((4, 5, 8))
+        count = chance.choice((200, 1_000, 1_000, 6_000))
+        self.pool = sorted({prefix + bytes(chance.choices(letters, k=length)) for _ in range(count)})
+        self.window = chance.choice((None, 3, 8, 40))
+
+    def run(self, most: int) -> Range:
+        """A range from one key up to another, so many keys on at most."""
+        at = self.chance.randrange(len(self.pool) - 1)
+        return Range(self.pool[at], self.pool[min(len(self.pool) - 1, at + self.chance.randint(1, most))])
+
+    def range(self) -> Range:
+        kind = self.chance.random()
+        if kind < 0.6:
+            return single(self.chance.choice(self.pool))
+        return self.run(3) if kind < 0.9 else self.run(len(self.pool) // 10)
+
+    def ranges(self, most: int) -> tuple[Range, ...]:
+        return tuple(self.range() for _ in range(self.chance.randint(0, most)))
+
+    def neighbours(self) -> tuple[Range, ...]:
+        """Single keys side by side, which a tree writes into one leaf."""
+        at = self.chance.randrange(len(self.pool))
+        return tuple(map(single, self.pool[at : at + self.chance.choice((3, 40, 200)) : self.chance.choice((1, 2))]))
+
+    def txn(self, previous: int) -> Txn:
+        snapshot = max(0, previous - self.chance.choice((0, 0, 0, 0, 1, 4)))
+        if self.chance.random() < 0.15:
+            return Txn(snapshot, False, (), self.neighbours())
+        return Txn(snapshot, self.chance.random() < 0.3, self.ranges(3), self.ranges(5))
+
+    def filling(self) -> tuple[Txn, ...]:
+        """Writes of many keys."""
+        keys = [single(key) for key in self.chance.sample(self.pool, k=len(self.pool) * 2 // 3)]
+        ranges = [self.run(2) for _ in range(len(self.pool) // 10)]
+        self.chance.shuffle(keys)
+        return tuple(Txn(0, False, (), tuple((keys + ranges)[at : at + 1_024])) for at in range(0, len(keys + ranges), 1_024))
+
+    def chain(self, count: int) -> list[Batch]:
+        chain = [Batch(-1, 0, -1, self.filling())]
+        for _ in range(count):
+            previous = chain[-1].version
+            version = previous + self.chance.choice((1, 1, 2))
+            txns = tuple(self.txn(previous) for _ in range(self.chance.choice((2, 12, 30))))
+            chain.append(Batch(previous, version, -1, txns))
+        return chain
 
 
 def draw_stop(chance: Random) -> Case:
@@ -185,9 +218,14 @@ def recorded_changed(chance: Random, replies: list[Reply]) -> list[Reply]:
     return changed
 
 
-def replies_file(chance: Random, replies: list[Reply]) -> bytes:
-    found = [reply_frame(reply) for reply in recorded_changed(chance, replies)]
-    return damaged_file(chance, found) if chance.random() < 0.08 else b"".join(found)
+def replies_files(chance: Random, recorded: list[list[Reply]]) -> list[bytes]:
+    """The files of replies, of which one may be damaged."""
+    found = [[reply_frame(reply) for reply in recorded_changed(chance, replies)] for replies in recorded]
+    files = [b"".join(frames) for frames in found]
+    if chance.random() < 0.1:
+        proxy = chance.randrange(len(found))
+        files[proxy] = damaged_file(chance, found[proxy])
+    return files
 
 
 def draw_check(chance: Random) -> Case:
@@ -200,7 +238,7 @@ def draw_check(chance: Random) -> Case:
     answers = resolve(batches, window or WINDOW)
     files = [b"".join(draw_bytes(chance, some)) for some in batches]
     recorded = [[answer.reply for answer in some if answer.reply is not None] for some in answers]
-    replies = [replies_file(chance, some) for some in recorded]
+    replies = replies_files(chance, recorded)
     if chance.random() < 0.1:
         files[0] = cut(chance, files[0]) if len(files[0]) > 1 else files[0]
     args = [*draw_options(chance, window), *names_of(files)]

@@ -10,7 +10,7 @@ from pathlib import Path
 
 from .case import Case, Outcome, Run, Text
 
-LIMIT = 60  # seconds
+LIMIT = 20  # seconds
 SHOWN = 600  # bytes of a text
 CLAP_SPEAKS = ("replay", "batches")
 FAULT = re.compile(rb"^replay: proxy \d+: wire .*\n", re.MULTILINE)
