@@ -110,8 +110,8 @@ bench:
 		time crates/replay/out/replay "$$folder/batches" > /dev/null; \
 	done
 
-# Times the libraries without their clauses, unproved, on a file of batch frames: make profile FILE=batches. The program stays in out/profile.
+# Times the libraries of the Cargo edition on a file of batch frames: make profile FILE=batches. The program stays in out/profile.
 profile:
-	profile/strip.py . out/profile
-	cd out/profile && RUSTFLAGS="-Awarnings -Ctarget-cpu=x86-64-v2" cargo build --quiet --release --offline
-	out/profile/target/release/detect '$(FILE)'
+	cargo/erase.py out/profile --add profile/detect
+	RUSTFLAGS="-Ctarget-cpu=x86-64-v2 -g" cargo build --manifest-path out/profile/Cargo.toml --quiet --release --offline --bin archcaraway-detect
+	out/profile/target/release/archcaraway-detect '$(FILE)'

@@ -1,9 +1,10 @@
 #!/usr/bin/env python3
 """Writes the project's crates without clauses and ghosts, as a Cargo workspace of plain Rust.
 
-    cargo/erase.py TARGET [--real-crates]
+    cargo/erase.py TARGET [--real-crates] [--add FOLDER]..
 
-With --real-crates the workspace uses the crates of crates.io where one serves, else the stand-ins of `rattle_std` alone.
+With --real-crates the workspace uses the crates of crates.io where one serves, else the stand-ins of `rattle_std` alone. With
+--add it gets a copy of a crate of plain Rust too, whose paths lead to the crates beside it.
 Source that the eraser does not know is refused with its file and line, and then nothing is written.
 """
 
@@ -175,7 +176,7 @@ def write_stand_ins(folder: Path, real: frozenset[str]) -> None:
         manifest.write(f"\n[features]\n{features}")
 
 
-def write_workspace(target: Path, real: frozenset[str]) -> None:
+def write_workspace(target: Path, real: frozenset[str], added: list[Path]) -> None:
     listed = listed_crates()
     needed = needed_crates(listed)
     # All is erased before anything is written.
@@ -188,16 +189,20 @@ def write_workspace(target: Path, real: frozenset[str]) -> None:
         shutil.rmtree(target / name / "src", ignore_errors=True)
         write_crate(listed[name], target, listed, real)
     write_stand_ins(target / "rattle_std", real)
-    (target / "Cargo.toml").write_text(workspace(["rattle_std", *names]))
+    for folder in added:
+        shutil.rmtree(target / folder.name / "src", ignore_errors=True)
+        shutil.copytree(folder, target / folder.name, dirs_exist_ok=True)
+    (target / "Cargo.toml").write_text(workspace(["rattle_std", *names, *(folder.name for folder in added)]))
 
 
 def main() -> int:
     parser = argparse.ArgumentParser(description=__doc__.split("\n")[0])
     parser.add_argument("target", type=Path)
     parser.add_argument("--real-crates", action="store_true")
+    parser.add_argument("--add", type=Path, action="append", default=[], metavar="FOLDER")
     chosen = parser.parse_args()
     try:
-        write_workspace(chosen.target, frozenset(REAL_CRATES) if chosen.real_crates else frozenset())
+        write_workspace(chosen.target, frozenset(REAL_CRATES) if chosen.real_crates else frozenset(), chosen.add)
     except Refused as refused:
         print(f"erase: {refused}", file=sys.stderr)
         return 1

@@ -152,7 +152,7 @@ class Refusals(unittest.TestCase):
             erase.TOP = top
             try:
                 with self.assertRaises(Refused):
-                    erase.write_workspace(top / "out", frozenset())
+                    erase.write_workspace(top / "out", frozenset(), [])
             finally:
                 erase.TOP = before
             self.assertFalse((top / "out").exists())
