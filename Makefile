@@ -115,3 +115,22 @@ profile:
 	cargo/erase.py out/profile --add profile/detect
 	RUSTFLAGS="-Ctarget-cpu=x86-64-v2 -g" cargo build --manifest-path out/profile/Cargo.toml --quiet --release --offline --bin archcaraway-detect
 	out/profile/target/release/archcaraway-detect '$(FILE)'
+
+.PHONY: rust-test rust-test-long quick-test
+
+# After `make quick` and `make test`, compares the Cargo edition with the proved programs: the worked rows, the examples and 2,000 drawn
+# cases. If the proved programs are not there, it says so, and compares with what the documents say alone.
+rust-test:
+	cargo/compare
+
+# The same with 20,000 drawn cases.
+rust-test-long:
+	cargo/compare --runs 20000
+
+# Tests the Cargo edition without the Rattle toolchain: its tools, and its programs beside what the documents say.
+quick-test: quick
+	cd cargo && python3 -m unittest discover -p 'test_*.py'
+	cargo/compare --alone
+	@if grep -qs '#\[test\]' -r out/quick/workspace --include='*.rs'; then \
+		cargo test --manifest-path out/quick/workspace/Cargo.toml --offline --quiet; \
+	fi

@@ -12,7 +12,7 @@ from comparing.expecting import replay_outcome, turned
 from comparing.lines import batch_line, batch_table, reply_line, reply_table
 from comparing.notation import batch_of, reply_of
 from comparing.reading import frames, read_batch, read_reply
-from comparing.reference import Unspecified, resolve
+from comparing.reference import Answer, Resolver, Unspecified, resolve
 from comparing.running import differs, fixed
 from comparing.wire import Batch, Range, batch_frame, file_of, reply_frame, single
 from comparing.worked import batches_file, example_cases
@@ -87,14 +87,26 @@ class Reference(unittest.TestCase):
             resolve([[Batch(version, version + 1) for version in range(10, 1_035)]])
 
     def test_order_of_files(self) -> None:
-        """What is drawn for several proxies has the same answers whichever file is read first."""
+        """What is drawn for several proxies has the same answers whichever batches are taken first."""
         chance = Random(3)
-        for _ in range(200):
+        for _ in range(300):
             drawer, window, chain = replays.draw_chain(chance)
             files = [batches.disturbed_file(chance, some, drawer) for some in batches.dealt(chance, chain, 3)]
-            forward = resolve(files, window or 1_000)
-            backward = resolve(files[::-1], window or 1_000)[::-1]
-            self.assertEqual(forward, backward)
+            in_sequence = resolve(files, window or 1_000)
+            for _ in range(3):
+                self.assertEqual(resolve_mixed(chance, files, window or 1_000), in_sequence)
+
+
+def resolve_mixed(chance: Random, files: list[list[Batch]], window: int) -> list[list[Answer]]:
+    """Does what `resolve` does, and takes batches from the files by chance."""
+    resolver = Resolver(window)
+    turns = [proxy for proxy, some in enumerate(files) for _ in some]
+    chance.shuffle(turns)
+    left = [iter(some) for some in files]
+    for proxy in turns:
+        resolver.admit(proxy, next(left[proxy]))
+    resolver.finish()
+    return [sorted(resolver.answers.get(proxy, []), key=lambda one: one.version) for proxy in range(len(files))]
 
 
 class Texts(unittest.TestCase):
@@ -177,7 +189,7 @@ class Drawing(unittest.TestCase):
         for _ in range(3_000):
             frame = batch_frame(chance.choice(batches.draw_drawer(chance).chain(3, (1,))), chance.choice((1, 2)))
             faults.add(frames(damage.damaged(chance, frame), read_batch)[1])
-        names = {"1 Short", "2 Long", "3 Kind", "4 Trailing", "5 Version", "6 Marks", "7 Count", "8 KeyLength", "9 Inverted", "10 Cut", "13 Form"}
+        names = {"1 Short", "2 Long", "3 Kind", "4 Trailing", "5 Version", "6 Marks", "7 Count", "8 KeyLength", "9 Inverted", "10 Cut", "13 Form", "14 Spelling"}
         self.assertLessEqual(names, faults)
 
     def test_files_are_named_once(self) -> None:

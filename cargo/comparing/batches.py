@@ -66,7 +66,7 @@ class Drawer:
 
 
 def draw_drawer(chance: Random) -> Drawer:
-    return Drawer(chance, draw_pool(chance, chance.choice((2, 5, 12, 40))), chance.choice((1, 2, 4, 9)), chance.choice((1, 3, 6)))
+    return Drawer(chance, draw_pool(chance, chance.choice((2, 5, 12, 40))), chance.choice((1, 2, 4, 9)), chance.choice((1, 3, 6, 6, 30)))
 
 
 def draw_count(chance: Random) -> int:

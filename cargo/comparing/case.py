@@ -29,6 +29,8 @@ class Run:
     args: tuple[str | bytes, ...]
     stdin: bytes = b""
     text: Text = Text.EXACT
+    # Whether standard output takes no bytes.
+    is_full: bool = False
     # What is known beforehand, by a worked row or by the rules.
     expected: Outcome | None = None
 

@@ -3,7 +3,8 @@
 from collections.abc import Callable, Sequence
 from random import Random
 
-from .wire import framed
+from .reading import frames, read_batch
+from .wire import framed, text
 
 
 def cut(chance: Random, frame: bytes) -> bytes:
@@ -55,6 +56,16 @@ def ends_swapped(chance: Random, frame: bytes) -> bytes:
     return frame[:at] + frame[at:][::-1]
 
 
+def spelled_out(chance: Random, frame: bytes) -> bytes:
+    """A single key spelled as a range in version 2, or one byte otherwise in version 1."""
+    batches, _ = frames(frame, read_batch)
+    singles = [one for batch in batches for txn in batch.txns for one in txn.reads + txn.writes if one.is_single]
+    if not singles or frame[4] != 3:
+        return byte_changed(chance, frame)
+    one = chance.choice(singles)
+    return framed(frame[4:].replace(b"\1" + text(one.begin), b"\0" + text(one.begin) + text(one.end), 1))
+
+
 DAMAGES: tuple[Callable[[Random, bytes], bytes], ...] = (
     cut,
     cut,
@@ -66,6 +77,7 @@ DAMAGES: tuple[Callable[[Random, bytes], bytes], ...] = (
     field_changed,
     field_changed,
     byte_changed,
+    spelled_out,
     ends_swapped,
 )
 

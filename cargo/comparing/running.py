@@ -27,11 +27,14 @@ class Difference:
 
 def played(programs: Programs, run: Run, folder: Path) -> Outcome:
     """Runs a command line."""
-    try:
-        done = subprocess.run([programs[run.program], *run.args], input=run.stdin, capture_output=True, cwd=folder, timeout=LIMIT)
-    except subprocess.TimeoutExpired:
-        return Outcome(-1, b"", f"no end after {LIMIT} seconds".encode())
-    return Outcome(done.returncode, done.stdout, done.stderr)
+    with open("/dev/full", "wb") as full:
+        out = full if run.is_full else subprocess.PIPE
+        command = [programs[run.program], *run.args]
+        try:
+            done = subprocess.run(command, input=run.stdin, stdout=out, stderr=subprocess.PIPE, cwd=folder, timeout=LIMIT)
+        except subprocess.TimeoutExpired:
+            return Outcome(-1, b"", f"no end after {LIMIT} seconds".encode())
+    return Outcome(done.returncode, done.stdout or b"", done.stderr)
 
 
 def is_of_clap(run: Run, outcome: Outcome) -> bool:
@@ -79,7 +82,7 @@ def compared(case: Case, sides: dict[str, Programs], room: Path) -> list[Differe
 
 def command_line(run: Run) -> str:
     words = [arg if isinstance(arg, str) else arg.decode("utf-8", "backslashreplace") for arg in run.args]
-    return shlex.join([run.program, *words]) + (" < stdin" if run.stdin else "")
+    return shlex.join([run.program, *words]) + (" < stdin" if run.stdin else "") + (" > /dev/full" if run.is_full else "")
 
 
 def shortened(text: bytes) -> str:

@@ -165,6 +165,26 @@ def example_cases() -> list[Case]:
     return [example_case(path) for path in recorded] + [example_json_case(path) for path in texts]
 
 
+# Where standard output takes no bytes: the arguments, standard input, and what is on standard error. The status is 1.
+FULL_RUNS: tuple[tuple[str, tuple[str, ...], bytes, bytes], ...] = (
+    ("replay", ("first",), b"", b""),
+    ("replay", ("first", "--check", "same"), b"", b""),
+    ("replay", ("--help",), b"", b""),
+    ("replay", ("--version",), b"", b""),
+    ("batches", ("decode",), rows.FIRST_RUN, b"the output can't be written\n"),
+    ("batches", ("show",), rows.FIRST_RUN, b"the output can't be written\n"),
+    ("batches", ("--help",), b"", b""),
+    ("workload", ("points", "1", "1"), b"", b"workload: a write failed\n"),
+    ("workload", (), b"", b"workload: a write failed\n"),
+)
+
+
+def full_cases() -> list[Case]:
+    """Rows of a standard output that fails."""
+    runs = [Run(program, args, stdin, is_full=True, expected=Outcome(1, b"", err)) for program, args, stdin, err in FULL_RUNS]
+    return [Case(f"full output {number}", "worked rows", shelf(), (run,)) for number, run in enumerate(runs)]
+
+
 def fixed_cases() -> list[Case]:
     """All cases that aren't drawn."""
-    return row_cases() + shell_cases() + wire_cases() + json_cases() + example_cases()
+    return row_cases() + shell_cases() + wire_cases() + json_cases() + full_cases() + example_cases()
