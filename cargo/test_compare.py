@@ -89,7 +89,7 @@ class Reference(unittest.TestCase):
     def test_order_of_files(self) -> None:
         """What is drawn for several proxies has the same answers whichever batches are taken first."""
         chance = Random(3)
-        for _ in range(300):
+        for _ in range(100):
             drawer, window, chain = replays.draw_chain(chance)
             files = [batches.disturbed_file(chance, some, drawer) for some in batches.dealt(chance, chain, 3)]
             in_sequence = resolve(files, window or 1_000)
@@ -168,7 +168,7 @@ class Drawing(unittest.TestCase):
         self.assertNotEqual(drawn_case(1, 7).files, drawn_case(2, 7).files)
 
     def test_every_feature(self) -> None:
-        found = {drawn_case(1, number).feature for number in range(900)}
+        found = {draw(Random(1)).feature for draw, _ in FEATURES}
         self.assertEqual(len(found), len(FEATURES))
 
     def test_one_file_has_a_previous_version(self) -> None:
