@@ -5,6 +5,7 @@ from pathlib import Path
 from tests import json_rows, rows, shell_rows, wire_rows
 
 from .case import Case, Outcome, Run, Text
+from .commands import SHAPES
 from .expecting import replay_outcome, turned
 from .lines import reply_table
 from .notation import batch_of, reply_of
@@ -165,6 +166,14 @@ def example_cases() -> list[Case]:
     return [example_case(path) for path in recorded] + [example_json_case(path) for path in texts]
 
 
+def workload_cases() -> list[Case]:
+    """Rows of `workload`, and its greatest numbers."""
+    runs = [Run("workload", (), expected=Outcome(0, shell_rows.USAGE.encode(), b""))]
+    runs += [Run("workload", args, expected=Outcome(2, b"", shell_rows.EXPECTED.encode())) for args in shell_rows.MISTAKEN]
+    runs += [Run("workload", (shape, *counts)) for shape in SHAPES for counts in (("1", "2500"), ("65536", "1"), ("100", "20"))]
+    return [Case(f"workload {number}", "workload", {}, (run,)) for number, run in enumerate(runs)]
+
+
 # Where standard output takes no bytes: the arguments, standard input, and what is on standard error. The status is 1.
 FULL_RUNS: tuple[tuple[str, tuple[str, ...], bytes, bytes], ...] = (
     ("replay", ("first",), b"", b""),
@@ -187,4 +196,4 @@ def full_cases() -> list[Case]:
 
 def fixed_cases() -> list[Case]:
     """All cases that aren't drawn."""
-    return row_cases() + shell_cases() + wire_cases() + json_cases() + full_cases() + example_cases()
+    return row_cases() + shell_cases() + wire_cases() + json_cases() + workload_cases() + full_cases() + example_cases()

@@ -142,5 +142,25 @@ REFUSED: tuple[tuple[str | bytes, ...], ...] = (
     ("--help", b"\xff"),
 )
 
+# What `workload` prints without arguments, and where they aren't as it expects.
+USAGE = """\
+usage: workload SHAPE BATCHES TRANSACTIONS
+Writes the frames of one chain of batches to standard output. The same words give the same bytes.
+  SHAPE         skiplisttest or points
+  BATCHES       1 to 65536
+  TRANSACTIONS  1 to 2500, in each batch
+"""
+EXPECTED = "workload: SHAPE (skiplisttest or points), BATCHES (1 to 65536) and TRANSACTIONS (1 to 2500) are expected\n"
+MISTAKEN: tuple[tuple[str | bytes, ...], ...] = (
+    ("circles", "1", "1"),
+    ("points", "0", "1"),
+    ("points", "65537", "1"),
+    ("points", "1", "2501"),
+    ("points", "1"),
+    ("points", "1", "1", "1"),
+    ("", "1", "1"),
+    (b"\xff", "1", "1"),
+)
+
 # Answered with status 0 and a text on standard output. Nothing is on standard error.
 SHOWN: tuple[tuple[str, ...], ...] = (("--help",), ("-h",), ("first", "--help"), ("--version",), ("-V",), ("first", "-V"))
