@@ -81,7 +81,7 @@ def draw_steps(chance: Random, window: int) -> Sequence[int]:
 
 
 def acknowledged(chance: Random, batches: Sequence[Batch]) -> list[Batch]:
-    """Has some batches say what their proxy has received."""
+    """Returns the batches, some of them with a last received version."""
     versions = [batch.version for batch in batches]
     changed = []
     for batch in batches:
@@ -91,7 +91,7 @@ def acknowledged(chance: Random, batches: Sequence[Batch]) -> list[Batch]:
 
 
 def shuffled_near(chance: Random, batches: Sequence[Batch], reach: int) -> list[Batch]:
-    """Has some batches come late, by up to so many."""
+    """Returns the batches, some of them later by up to `reach` batches."""
     order = [(index + chance.randint(0, reach), index) for index in range(len(batches))]
     return [batches[index] for _, index in sorted(order)]
 
@@ -105,7 +105,7 @@ def other_body(batch: Batch, drawer: Drawer) -> Batch:
 
 
 def disturbance(chance: Random, batch: Batch, drawer: Drawer) -> Batch:
-    """A batch that takes the place of another: its repeat, another one of its version, one after the same, one off the chain."""
+    """Returns a batch that disturbs the chain: a repeat, another batch of its version or previous version, or one off the chain."""
     kind = chance.randrange(5)
     if kind == 0:
         return batch

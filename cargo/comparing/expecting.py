@@ -1,4 +1,4 @@
-"""What the documents say that a command line prints and returns, where they fix it."""
+"""What a command line prints and returns by the documents."""
 
 from collections.abc import Sequence
 
@@ -16,7 +16,7 @@ def fault_lines(faults: Sequence[str], what: str) -> str:
 def replay_outcome(
     files: Sequence[bytes], form: str = "words", window: int = WINDOW, replies: Sequence[bytes] | None = None
 ) -> Outcome | None:
-    """Returns what `replay` prints of these files, which have one proxy or one chain, unless it would meet a stop."""
+    """Returns what `replay` prints for these files, or nothing if the run would meet a stop."""
     recorded, replies_faults = [], []
     for content in replies or ():
         some, fault = frames(content, read_reply)
@@ -35,7 +35,7 @@ def replay_outcome(
 
 
 def turned(content: bytes, task: str, is_replies: bool, full: bool = False) -> Outcome:
-    """Returns what `batches decode` or `batches show` prints of these frames."""
+    """Returns what `batches decode` or `batches show` prints for these frames."""
     found, fault = frames(content, read_reply if is_replies else read_batch)
     if task == "decode":
         lines = [(reply_line(one) if is_replies else batch_line(one)) + "\n" for one in found]

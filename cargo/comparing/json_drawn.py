@@ -128,18 +128,16 @@ BYTES = (b"\xff", b"\xc3", b"\xc3\x28", b"\xe2\x82", b"\xed\xa0\x80", b"\xf4\x90
 
 
 def nested(chance: Random, text: str) -> str:
-    """A deep value, near the depth that a line may have, closed or not."""
+    """A deep value, near the depth that a line may have, which is closed or not."""
     depth = chance.choice((1, 2, 125, 126, 127, 128, 129, 130, 131, 5_000))
     opening, closing = chance.choice((("[", "]"), ('{"a":', "}"), ('[{"a":', "}]")))
-    count = depth // opening.count("[") if len(opening) == 6 and depth > 1 else depth
-    if len(opening) == 6:
-        count = max(1, depth // 2)
+    count = max(1, depth // len(closing))
     value = opening * count + chance.choice(("", "0", "[]")) + closing * (count if chance.random() < 0.9 else count - 1)
     return chance.choice((value, with_value(chance, text, value)))
 
 
 def with_value(chance: Random, text: str, value: str) -> str:
-    """Puts a value in the place of a number, or of an empty array."""
+    """Replaces the value of a member, or the front of it."""
     spots = [at for at, one in enumerate(text) if one == ":"]
     if not spots:
         return value

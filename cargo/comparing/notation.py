@@ -1,7 +1,7 @@
 """Batches and replies as the worked rows write them.
 
 A batch is `previous>version`, perhaps ` received N`, and perhaps `: ` with transactions between `; `. A transaction has
-`m` where it requests a report, `R[a,b)` and `W[a,b)`, and its snapshot `@N`, which is 0 where nothing is said. `R[k]` is the
+`m` if it requests a report, `R[a,b)` and `W[a,b)`, and its snapshot `@N`, by default 0. `R[k]` is the
 range of one key, and `\\xNN` in a key one byte. A reply is its version and a word per transaction, or `empty`.
 """
 

@@ -21,7 +21,7 @@ class Unspecified(Exception):
 @dataclass(frozen=True)
 class Answer:
     version: int
-    # `never` or `held` where there is no reply.
+    # `never` or `held` if there is no reply.
     reply: Reply | None
     word: str = ""
 

@@ -1,7 +1,10 @@
 """Draws runs of `replay`.
 
-What the schedule of several workers may decide isn't drawn: which of two files' batches after one previous version is taken first, what
-a repeat comes after where replies are given up, and what else is taken before a stop than the one chain that leads to it.
+Nothing is drawn that the schedule of several workers decides:
+
+- which of two batches with one previous version is taken first, if they are in different files;
+- whether a reply is given up before its repeat is taken;
+- which batches off the chain are taken before a stop.
 """
 
 from collections.abc import Sequence
@@ -107,7 +110,7 @@ class ManyKeys:
         self.window = chance.choice((None, 3, 8, 40))
 
     def run(self, most: int) -> Range:
-        """A range from one key up to another, so many keys on at most."""
+        """Returns a range from one key up to another, at most this many keys further."""
         at = self.chance.randrange(len(self.pool) - 1)
         return Range(self.pool[at], self.pool[min(len(self.pool) - 1, at + self.chance.randint(1, most))])
 

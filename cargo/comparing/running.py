@@ -38,7 +38,7 @@ def played(programs: Programs, run: Run, folder: Path) -> Outcome:
 
 
 def is_of_clap(run: Run, outcome: Outcome) -> bool:
-    """Whether the text is that of `clap`: help, or a refused command line. `workload` refuses in words of its own."""
+    """Whether the text is that of `clap`: help, or a refused command line. `workload` prints its own text."""
     return run.text is Text.OF_CLAP or (outcome.status == 2 and run.program in CLAP_SPEAKS)
 
 
@@ -66,7 +66,7 @@ def write_files(case: Case, folder: Path) -> None:
 
 
 def compared(case: Case, sides: dict[str, Programs], room: Path) -> list[Difference]:
-    """Runs a case on each side, and returns where they differ from each other or from what is expected."""
+    """Runs a case on each side, and returns the runs that differ from each other or from what is expected."""
     found = []
     with tempfile.TemporaryDirectory(dir=room) as name:
         folder = Path(name)

@@ -77,16 +77,16 @@ def wire_cases() -> list[Case]:
     return cases
 
 
-def refused_line(line: str, told: str, options: tuple[str, ...] = ()) -> Run:
-    return Run("batches", ("encode", *options), line.encode(), expected=Outcome(1, b"", f"line 1: {told}\n".encode()))
+def refused_line(line: str, cause: str, options: tuple[str, ...] = ()) -> Run:
+    return Run("batches", ("encode", *options), line.encode(), expected=Outcome(1, b"", f"line 1: {cause}\n".encode()))
 
 
 def json_runs() -> list[Run]:
     runs = []
-    for line, told in (row.split(" => ") for row in json_rows.REFUSED.split("\n")):
-        runs.append(refused_line(line, told))
-    for line, told in (row.split(" => ") for row in json_rows.REFUSED_REPLIES.split("\n")):
-        runs.append(refused_line(line, told, ("--replies",)))
+    for line, cause in (row.split(" => ") for row in json_rows.REFUSED.split("\n")):
+        runs.append(refused_line(line, cause))
+    for line, cause in (row.split(" => ") for row in json_rows.REFUSED_REPLIES.split("\n")):
+        runs.append(refused_line(line, cause, ("--replies",)))
     for line, batch in (row.split(" => ") for row in json_rows.READ.split("\n")):
         runs.append(Run("batches", ("encode",), line.encode(), expected=Outcome(0, batch_frame(batch_of(batch), 2), b"")))
     for line, reply in (row.split(" => ") for row in json_rows.READ_REPLIES.split("\n")):
@@ -174,7 +174,7 @@ def workload_cases() -> list[Case]:
     return [Case(f"workload {number}", "workload", {}, (run,)) for number, run in enumerate(runs)]
 
 
-# Where standard output takes no bytes: the arguments, standard input, and what is on standard error. The status is 1.
+# Runs with a standard output that takes no bytes: program, arguments, standard input, and standard error. The status is 1.
 FULL_RUNS: tuple[tuple[str, tuple[str, ...], bytes, bytes], ...] = (
     ("replay", ("first",), b"", b""),
     ("replay", ("first", "--check", "same"), b"", b""),

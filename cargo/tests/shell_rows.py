@@ -142,7 +142,7 @@ REFUSED: tuple[tuple[str | bytes, ...], ...] = (
     ("--help", b"\xff"),
 )
 
-# What `workload` prints without arguments, and where they aren't as it expects.
+# What `workload` prints without arguments, and for mistaken ones.
 USAGE = """\
 usage: workload SHAPE BATCHES TRANSACTIONS
 Writes the frames of one chain of batches to standard output. The same words give the same bytes.
