@@ -106,7 +106,8 @@ class ManyKeys:
         prefix = b"p" * chance.choice((0, 0, 3, 8, 20, 40))
         length = chance.choice((4, 5, 8))
         count = chance.choice((200, 1_000, 1_000, 6_000))
-        self.pool = sorted({prefix + bytes(chance.choices(letters, k=length)) for _ in range(count)})
+        keys = {prefix + bytes(chance.choices(letters, k=length)) for _ in range(count)}
+        self.pool = sorted(keys | chance.choice((set(), {b"", prefix}, {prefix[:-1], prefix + b"\0"})))
         self.window = chance.choice((None, 3, 8, 40))
 
     def run(self, most: int) -> Range:
