@@ -45,8 +45,8 @@ def draw_replay(chance: Random) -> list[str | bytes]:
 
 def draw_batches(chance: Random) -> list[str | bytes]:
     """Arguments of `batches`."""
-    args: list[str | bytes] = [chance.choice(("encode", "decode", "show", "show", "Encode", "enc", "--full"))]
-    parts: tuple[str | bytes, ...] = ("--replies", "--replies", "--full", "--full", "first", "second", "lines", "replies", *FLAGS, *ODD, *ASKING)
+    args: list[str | bytes] = [chance.choice(("encode", "decode", "show", "show", "Encode", "enc", "--full", "help", "--"))]
+    parts: tuple[str | bytes, ...] = ("--replies", "--replies", "--full", "--full", "first", "lines", "replies", "encode", "show", *FLAGS, *ODD, *ASKING)
     for _ in range(chance.choice((0, 1, 1, 2, 3))):
         args.insert(chance.randint(0, len(args)), chance.choice(parts))
     return args if chance.random() < 0.95 else []
@@ -58,6 +58,27 @@ def command_files() -> dict[str, bytes]:
     files = {name: batch_frame(batch) for name, batch in zip(("first", "second", "third"), chain)}
     line = b'{"previous":-1,"version":0,"transactions":[]}\n'
     return files | {"empty": b"", "replies": reply_frame(Reply(0)), "lines": line}
+
+
+# Arguments of which each pair is tried. The batch of `held` is never due, so two proxies may send it.
+SHORT_ARGS: tuple[str | bytes, ...] = ("--", "-", "", "-h", "--help", "-V", "--version", "help", "-x", "--none", "none", "--help=1", b"\xff", "1")
+SHORT_ARGS_OF: dict[str, tuple[str | bytes, ...]] = {
+    "replay": (*SHORT_ARGS, "held", "empty", "--frames", "--json", "--frames=1", "--capacity", "--capacity=1", "--check", "--check=empty", "--limit=0"),
+    "batches": (*SHORT_ARGS, "encode", "decode", "show", "--replies", "--full", "--replies=1", "-hV", "lines"),
+    "workload": (*SHORT_ARGS, "points", "skiplisttest", "2500", "--points", "-hV"),
+}
+
+
+def short_cases() -> list[Case]:
+    """All command lines of up to two arguments, by the first."""
+    files = command_files() | {"held": batch_frame(Batch(10, 11))}
+    cases = []
+    for program, args in SHORT_ARGS_OF.items():
+        for number, first in enumerate(args):
+            lines = [[first], *([first, second] for second in args)]
+            runs = tuple(Run(program, tuple(line), text=text_of(line)) for line in lines)
+            cases.append(Case(f"short {program} {number}", "command lines", files, runs))
+    return cases
 
 
 def draw_commands(chance: Random) -> Case:

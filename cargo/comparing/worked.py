@@ -5,7 +5,7 @@ from pathlib import Path
 from tests import json_rows, rows, shell_rows, wire_rows
 
 from .case import Case, Outcome, Run, Text
-from .commands import SHAPES
+from .commands import SHAPES, short_cases
 from .expecting import replay_outcome, turned
 from .lines import reply_table
 from .notation import batch_of, reply_of
@@ -196,4 +196,4 @@ def full_cases() -> list[Case]:
 
 def fixed_cases() -> list[Case]:
     """All cases that aren't drawn."""
-    return row_cases() + shell_cases() + wire_cases() + json_cases() + workload_cases() + full_cases() + example_cases()
+    return row_cases() + shell_cases() + wire_cases() + json_cases() + workload_cases() + short_cases() + full_cases() + example_cases()
