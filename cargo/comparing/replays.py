@@ -102,11 +102,11 @@ class ManyKeys:
 
     def __init__(self, chance: Random) -> None:
         self.chance = chance
-        letters = chance.choice((bytes(range(256)), b"abcdefgh"))
+        letters = chance.choice((bytes(range(256)), b"abcdefgh", b"\0\1a"))
         prefix = b"p" * chance.choice((0, 0, 3, 8, 20, 40))
-        length = chance.choice((4, 5, 8))
+        lengths = chance.choice(((4,), (5,), (8,), range(1, 10)))
         count = chance.choice((200, 1_000, 1_000, 6_000))
-        keys = {prefix + bytes(chance.choices(letters, k=length)) for _ in range(count)}
+        keys = {prefix + bytes(chance.choices(letters, k=chance.choice(lengths))) for _ in range(count)}
         self.pool = sorted(keys | chance.choice((set(), {b"", prefix}, {prefix[:-1], prefix + b"\0"})))
         self.window = chance.choice((None, 3, 8, 40))
 
