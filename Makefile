@@ -1,7 +1,7 @@
 .PHONY: quick demo rust rust-packages rust-package library-unproved eraser-test replay batches test refused-memory json-examples \
 	stalled-pipes readme-runs manual-page library install library-test plant bench profile
 
-# The Cargo edition: the same sources, clauses erased, built by rustc. It needs Rust 1.85, cc, make and python3, and no network.
+# The Cargo edition: the same sources, clauses erased, built by rustc. It needs Rust 1.88, cc, make and python3, and no network.
 
 # Builds the programs: out/quick/replay, out/quick/batches, out/quick/workload. Not proved.
 quick:
@@ -86,9 +86,20 @@ refused-memory:
 stalled-pipes:
 	.ci/stalled-pipes
 
-# Behind `make test` or `make bench`, runs the commands of the documents that name a built program, and compares what they print.
+# After `make test` or `make bench`, runs the commands of the documents that call a built program, and compares what they print. After
+# `make quick`, EDITION=cargo runs those of the Cargo edition.
 readme-runs:
 	.ci/readme-runs
+
+.PHONY: figures figures-test
+
+# Redraws the pictures of docs/figures. That of the crates follows crates.txt.
+figures:
+	for script in docs/figures/*.py; do [ "$$script" = docs/figures/svg.py ] || python3 -B "$$script" || exit 1; done
+
+# Redraws them into a temporary folder, and says which picture of the checkout is stale.
+figures-test:
+	.ci/figures
 
 # Behind `make test` or `make replay`, compares the manual page with what the program prints of its options and version.
 manual-page:

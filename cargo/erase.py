@@ -26,6 +26,9 @@ VERSION = "0.2.0"
 PROGRAMS = ("replay", "batches", "workload")
 LIBRARIES = ("archcaraway_c", "codec_c")
 
+# What Rust programs call: a crate of plain Rust over the erased ones.
+FACADE = TOP / "cargo" / "archcaraway"
+
 # The crates of crates.io that serve as they are, with the version that is asked for.
 REAL_CRATES = {"arrayvec": "0.7", "byteorder": "1", "crossbeam_utils": "0.8", "itoa": "1", "thiserror": "1"}
 
@@ -100,7 +103,7 @@ def root_lines(crate: Crate) -> str:
 
 
 def manifest(crate: Crate, listed: dict[str, Crate], real: frozenset[str]) -> str:
-    uses = [f'{use} = {{ package = "archcaraway-{use}", path = "../{use}", version = "{VERSION}" }}' for use in crate.uses if use in listed]
+    uses = [f"{use}.workspace = true" for use in crate.uses if use in listed]
     uses += [f'{use.replace("_", "-")} = "{REAL_CRATES[use]}"' for use in crate.uses if use in real]
     kind = ""
     if crate.name in LIBRARIES:
@@ -111,15 +114,15 @@ def manifest(crate: Crate, listed: dict[str, Crate], real: frozenset[str]) -> st
         kind = f'[lib]\nname = "{crate.name}"\n'
     return f"""[package]
 name = "archcaraway-{crate.name}"
-version = "{VERSION}"
-edition = "2024"
-rust-version = "1.85"
-license = "Apache-2.0"
+version.workspace = true
+edition.workspace = true
+rust-version.workspace = true
+license.workspace = true
 description = "Part of Archcaraway: {summary_of(crate)}"
 
 {kind}
 [dependencies]
-rattle_std = {{ package = "archcaraway-rattle_std", path = "../rattle_std", version = "{VERSION}" }}
+rattle_std.workspace = true
 {chr(10).join(uses)}
 
 [lints]
@@ -133,13 +136,23 @@ def summary_of(crate: Crate) -> str:
     return root.read_text().split("\n")[0].removeprefix("//! ").rstrip(".").replace('"', "'").replace("`", "")
 
 
-def workspace(members: list[str]) -> str:
-    names = "".join(f'    "{name}",\n' for name in members)
+def workspace(written: list[str], added: list[str]) -> str:
+    """Returns the manifest of the workspace. The crates inherit their versions and paths from it, the added ones too."""
+    names = "".join(f'    "{name}",\n' for name in (*written, *added))
+    uses = "".join(f'{name} = {{ package = "archcaraway-{name}", path = "{name}", version = "{VERSION}" }}\n' for name in written)
     return f"""[workspace]
 resolver = "3"
 members = [
 {names}]
 
+[workspace.package]
+version = "{VERSION}"
+edition = "2024"
+rust-version = "1.88"
+license = "Apache-2.0"
+
+[workspace.dependencies]
+{uses}
 # What ghosts alone used is unused here, and the toolchain passes slices to C as a pointer and a length.
 [workspace.lints.rust]
 dead_code = "allow"
@@ -189,10 +202,10 @@ def write_workspace(target: Path, real: frozenset[str], added: list[Path]) -> No
         shutil.rmtree(target / name / "src", ignore_errors=True)
         write_crate(listed[name], target, listed, real)
     write_stand_ins(target / "rattle_std", real)
-    for folder in added:
-        shutil.rmtree(target / folder.name / "src", ignore_errors=True)
-        shutil.copytree(folder, target / folder.name, dirs_exist_ok=True)
-    (target / "Cargo.toml").write_text(workspace(["rattle_std", *names, *(folder.name for folder in added)]))
+    for folder in (FACADE, *added):
+        shutil.rmtree(target / folder.name, ignore_errors=True)
+        shutil.copytree(folder, target / folder.name)
+    (target / "Cargo.toml").write_text(workspace(["rattle_std", *names], [folder.name for folder in (FACADE, *added)]))
 
 
 def main() -> int:

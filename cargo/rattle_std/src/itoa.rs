@@ -44,6 +44,6 @@ impl Buffer {
             at -= 1;
             self.0[at] = b'-';
         }
-        str::from_utf8(&self.0[at..]).expect("digits are text")
+        std::str::from_utf8(&self.0[at..]).expect("digits are text")
     }
 }

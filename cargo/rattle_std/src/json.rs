@@ -42,7 +42,7 @@ pub enum Value<'a> {
 impl<'a> Value<'a> {
     /// Reads the value that all of the bytes are. Its strings without escapes are borrowed from them, the others from the scratch.
     pub fn from_slice(alloc: Global, bytes: &'a [u8], scratch: &'a mut Scratch) -> Result<Self, Error> {
-        let text = str::from_utf8(bytes).map_err(|_| Error::Invalid)?;
+        let text = std::str::from_utf8(bytes).map_err(|_| Error::Invalid)?;
         let mut parser = Parser { alloc, rest: text, strings: Strings::of(text, scratch)? };
         let value = parser.value(MAX_DEPTH)?;
         parser.skip_space();
