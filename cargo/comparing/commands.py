@@ -7,7 +7,7 @@ from .case import Case, Outcome, Run, Text
 from .wire import Batch, Reply, batch_frame, file_of, reply_frame
 
 ASKING = ("-h", "--help", "-V", "--version", "help")
-NUMBERS = ("0", "1", "16", "1024", "1025", "+5", "-1", "007", "", " 1", "1 ", "1e3", "0x10", "1_000", "\u0661", "16777217")
+NUMBERS: tuple[str, ...] = ("0", "1", "16", "1024", "1025", "+5", "-1", "007", "", " 1", "1 ", "1e3", "0x10", "1_000", "\u0661", "16777217")
 NUMBERS += ("5000000", "1099511627776", "1099511627777", "9223372036854775808", "18446744073709551616", "many", "--", "-")
 FLAGS = ("--frames", "--json", "--frames=yes", "--json=", "--Frames", "--frame", "--js", "-f", "-x", "--none", "---", "--check", "--capacity")
 ODD: tuple[str | bytes, ...] = ("--", "-", "", "none", ".", b"\xff", b"fil\xc3", "-hV", "-Vh", "--help=1", "--version=1", "-h=1", "--=", "--x=y")
@@ -26,7 +26,7 @@ def text_of(args: list[str | bytes]) -> Text:
 def draw_replay(chance: Random) -> list[str | bytes]:
     """Arguments of `replay`, of which most are right and some are not."""
     # Each file is named once. Two proxies that send the same batches leave to the schedule which is answered.
-    args: list[str | bytes] = chance.sample(("first", "second", "third"), k=chance.randint(0, 3))
+    args: list[str | bytes] = [*chance.sample(("first", "second", "third"), k=chance.randint(0, 3))]
     args += ["empty"] * chance.choice((0, 0, 0, 1, 2, 61, 64))
     for _ in range(chance.choice((1, 1, 2, 3))):
         kind = chance.random()
@@ -128,10 +128,11 @@ def draw_workload(chance: Random) -> Case:
         args = ["points", "1", "2500"]
     kind = chance.random()
     if kind < 0.3:
-        wrong = ("0", "-1", "2501", "65537", "1.5", "", " 1", "99999999999999999999", "circles", "Points", "points ", b"\xff", "--", "-x")
+        wrong: tuple[str | bytes, ...] = ("0", "-1", "2501", "65537", "1.5", "", " 1", "99999999999999999999", "circles", "Points", "points ", b"\xff", "--", "-x")
         args[chance.randrange(3)] = chance.choice(wrong)
     elif kind < 0.5:
-        args.insert(chance.randint(0, 3), chance.choice((*ASKING, "1", "--frames", "--", b"\xfe")))
+        more: tuple[str | bytes, ...] = (*ASKING, "1", "--frames", "--", b"\xfe")
+        args.insert(chance.randint(0, 3), chance.choice(more))
     elif kind < 0.6:
         args = args[: chance.randint(0, 2)]
     # What is printed without arguments is the program's own, and `clap` answers help and the version alone.

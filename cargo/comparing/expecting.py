@@ -36,12 +36,13 @@ def replay_outcome(
 
 def turned(content: bytes, task: str, is_replies: bool, full: bool = False) -> Outcome:
     """Returns what `batches decode` or `batches show` prints for these frames."""
-    found, fault = frames(content, read_reply if is_replies else read_batch)
-    if task == "decode":
-        lines = [(reply_line(one) if is_replies else batch_line(one)) + "\n" for one in found]
+    if is_replies:
+        replies, fault = frames(content, read_reply)
+        lines = [reply_line(one) + "\n" if task == "decode" else reply_table(one) for one in replies]
     else:
-        lines = [reply_table(one) if is_replies else batch_table(one, full) for one in found]
-    err = f"frame {len(found) + 1}: {fault}\n" if fault else ""
+        batches, fault = frames(content, read_batch)
+        lines = [batch_line(one) + "\n" if task == "decode" else batch_table(one, full) for one in batches]
+    err = f"frame {len(lines) + 1}: {fault}\n" if fault else ""
     return Outcome(1 if fault else 0, "".join(lines).encode(), err.encode())
 
 

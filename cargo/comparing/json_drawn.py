@@ -116,9 +116,9 @@ def draw_encoded(chance: Random) -> Case:
     return Case("", "JSON", files, (run,))
 
 
-PIECES = ('"', "\\", "{", "}", "[", "]", ",", ":", "0", "-", ".", "e", "1e3", "true", "null", "\\u0000", "\\ud800", "\\x", "\t", "\0", "\x1f", "\x7f")
+PIECES: tuple[str, ...] = ('"', "\\", "{", "}", "[", "]", ",", ":", "0", "-", ".", "e", "1e3", "true", "null", "\\u0000", "\\ud800", "\\x", "\t", "\0", "\x1f", "\x7f")
 PIECES += ("\u00e9", "\ufeff", "\u2028", "\U0001f600", "\\u00e9", "\\n", "\\/", "\\b", "\\u12", "//", "NaN", "'", "\n", "\r", " ", "\u00a0", "\v")
-VALUES = ("0", "-0", "-1", "-2", "1", "1.0", "1e3", "1E+2", "0.0", "-", "+1", "01", ".5", "5.", "1e", "9223372036854775807", "9223372036854775808")
+VALUES: tuple[str, ...] = ("0", "-0", "-1", "-2", "1", "1.0", "1e3", "1E+2", "0.0", "-", "+1", "01", ".5", "5.", "1e", "9223372036854775807", "9223372036854775808")
 VALUES += ("-9223372036854775808", "-9223372036854775809", "18446744073709551615", "18446744073709551616", "1" * 400, "0." + "0" * 400, "1e999")
 VALUES += ("null", "true", "false", "True", "nul", '""', '"a"', "[]", "{}", "[[]]", '["a"]', '["a","b","c"]', '{"a":1}', "NaN", "Infinity", '"\\ud83d\\ude00"')
 VALUES += ('"\\ud800"', '"\\udc00"', '"\\ud800\\u0041"', '"\\uD800\\uD800"', '"\\u0000"', '"\\u00"', '"\\q"', '"\\x41"', '"\\\\x4"', '"\\\\"', '"unended')
@@ -209,13 +209,20 @@ def mistaken(chance: Random, line: str) -> bytes:
     return text
 
 
-LIMITS = (
-    lambda count: '{"previous":0,"version":1,"transactions":[' + ",".join(['{"snapshot":0,"reads":[],"writes":[]}'] * (4_095 + count)) + "]}",
-    lambda count: '{"previous":0,"version":1,"transactions":[{"snapshot":0,"reads":[' + ",".join(['"k"'] * (1_023 + count)) + '],"writes":[]}]}',
-    lambda count: '{"previous":0,"version":1,"transactions":[{"snapshot":0,"reads":["' + "k" * (9_999 + count) + '"],"writes":[]}]}',
-    lambda count: '{"previous":0,"version":1,"transactions":[{"snapshot":0,"reads":[["","' + "k" * (10_000 + count) + '"]],"writes":[]}]}',
-    lambda count: '{"version":1,"verdicts":[' + ",".join(['"conflict"'] * (4_095 + count)) + "]}",
-    lambda count: '{"version":1,"verdicts":[{"conflict":[' + ",".join(map(str, range(1_023 + count))) + "]}]}",
+def repeated(front: str, item: str, back: str, most: int) -> Callable[[int], str]:
+    """Returns a line by how many items it has more than the most."""
+    return lambda more: front + ",".join([item] * (most + more)) + back
+
+
+TXNS = '{"previous":0,"version":1,"transactions":['
+READS = TXNS + '{"snapshot":0,"reads":['
+LIMITS: tuple[Callable[[int], str], ...] = (
+    repeated(TXNS, '{"snapshot":0,"reads":[],"writes":[]}', "]}", 4_096),
+    repeated(READS, '"k"', '],"writes":[]}]}', 1_024),
+    repeated('{"version":1,"verdicts":[', '"conflict"', "]}", 4_096),
+    lambda more: READS + '"' + "k" * (10_000 + more) + '"],"writes":[]}]}',
+    lambda more: READS + '["","' + "k" * (10_001 + more) + '"]],"writes":[]}]}',
+    lambda more: '{"version":1,"verdicts":[{"conflict":[' + ",".join(map(str, range(1_024 + more))) + "]}]}",
 )
 
 
@@ -229,7 +236,7 @@ def draw_mistaken(chance: Random) -> Case:
         lines = [batch_line(batch).encode() for batch in draw_batches(chance)] or [speller.batch(Batch(-1, 0)).encode()]
     at = chance.randrange(len(lines))
     if chance.random() < 0.08:
-        lines[at] = chance.choice(LIMITS)(chance.choice((0, 1, 2))).encode()
+        lines[at] = chance.choice(LIMITS)(chance.choice((-1, 0, 1))).encode()
     else:
         lines[at] = mistaken(chance, lines[at].decode())
     text = chance.choice((b"", b"", b"", b"\n", b"\xef\xbb\xbf")) + chance.choice((b"\n", b"\n", b"\r\n")).join(lines)

@@ -50,7 +50,7 @@ class Body:
 
     def number(self, form: str, holds: Callable[[int], bool], fault: str) -> int:
         """Reads a number, which must hold, else this is the fault."""
-        (value,) = struct.unpack(">" + form, self.take(struct.calcsize(">" + form)))
+        value = int(struct.unpack(">" + form, self.take(struct.calcsize(">" + form)))[0])
         if not holds(value):
             raise Fault(fault)
         return value

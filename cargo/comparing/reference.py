@@ -65,14 +65,14 @@ class Resolver:
             self.held.append((proxy, batch))
             return
         self.handle(proxy, batch)
-        while due := self.next_due():
+        while (due := self.next_due()) is not None:
             self.held.remove(due)
             self.handle(*due)
 
     def next_due(self) -> tuple[int, Batch] | None:
         """Returns the held batch that leaves next: the least previous version first, among equals the earliest arrival."""
         due = [one for one in self.held if one[1].previous <= self.version]
-        return min(due, key=lambda one: one[1].previous, default=None)
+        return min(due, key=lambda one: one[1].previous) if due else None
 
     def handle(self, proxy: int, batch: Batch) -> None:
         if batch.previous == self.version:

@@ -8,6 +8,7 @@ Nothing is drawn that the schedule of several workers decides:
 """
 
 from collections.abc import Sequence
+from dataclasses import replace
 from random import Random
 
 from .batches import (
@@ -107,7 +108,8 @@ class ManyKeys:
         lengths = chance.choice(((4,), (5,), (8,), range(1, 10)))
         count = chance.choice((200, 1_000, 1_000, 6_000))
         keys = {prefix + bytes(chance.choices(letters, k=chance.choice(lengths))) for _ in range(count)}
-        self.pool = sorted(keys | chance.choice((set(), {b"", prefix}, {prefix[:-1], prefix + b"\0"})))
+        keys.update(chance.choice(((), (b"", prefix), (prefix[:-1], prefix + b"\0"))))
+        self.pool = sorted(keys)
         self.window = chance.choice((None, 3, 8, 40))
 
     def run(self, most: int) -> Range:
@@ -156,21 +158,21 @@ def draw_stop(chance: Random) -> Case:
     """A limit that writes may exceed. Several proxies have one chain alone, whose batches up to the stop are answered."""
     drawer, window, chain = draw_chain(chance)
     limit = chance.choice((1, 2, 3, 4, 5, 6, 8, 16, 40, 200, 16_777_216))
-    if chance.random() < 0.5:
-        batches = [disturbed(chance, chain, drawer)]
-    else:
-        batches = dealt(chance, chain, draw_proxies(chance))
+    is_alone = chance.random() < 0.5
+    batches = [disturbed(chance, chain, drawer)] if is_alone else dealt(chance, chain, draw_proxies(chance))
     files = [b"".join(draw_bytes(chance, some)) for some in batches]
     is_known = most_boundaries([batch for some in batches for batch in some]) <= limit
     run = draw_run(chance, files, window, is_known)
-    return Case("", "limit", names_of(files), (Run("replay", ("--limit", str(limit), *run.args), expected=run.expected),))
+    run = replace(run, args=("--limit", str(limit), *run.args))
+    return Case("", "limit", names_of(files), (run,))
 
 
 def draw_full_gate(chance: Random) -> Case:
     """About as many held batches of one proxy as the gate holds, and perhaps the chain that frees them."""
     count = chance.choice((1_022, 1_023, 1_024, 1_025))
     held = [Batch(version, version + 1) for version in range(10, 10 + count)]
-    freeing = chance.choice(([], [Batch(0, 10)], [Batch(0, 9), Batch(-1, 0)]))
+    # The last of them leaves the others held, and is a repeat itself.
+    freeing: list[Batch] = chance.choice([[], [Batch(0, 10)], [Batch(0, 9), Batch(-1, 0)]])
     files = [file_of([Batch(-1, 0), *shuffled_near(chance, held, chance.choice((0, 3, 2_000))), *freeing])]
     return Case("", "gate", names_of(files), (draw_run(chance, files, None),))
 

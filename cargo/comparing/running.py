@@ -7,10 +7,11 @@ import subprocess
 import tempfile
 from dataclasses import dataclass
 from pathlib import Path
+from typing import BinaryIO
 
 from .case import Case, Outcome, Run, Text
 
-LIMIT = 20  # seconds
+LIMIT = 60  # seconds
 SHOWN = 600  # bytes of a text
 CLAP_SPEAKS = ("replay", "batches")
 FAULT = re.compile(rb"^replay: proxy \d+: wire .*\n", re.MULTILINE)
@@ -28,8 +29,8 @@ class Difference:
 def played(programs: Programs, run: Run, folder: Path) -> Outcome:
     """Runs a command line."""
     with open("/dev/full", "wb") as full:
-        out = full if run.is_full else subprocess.PIPE
-        command = [programs[run.program], *run.args]
+        out: BinaryIO | int = full if run.is_full else subprocess.PIPE
+        command = [str(programs[run.program]), *run.args]
         try:
             done = subprocess.run(command, input=run.stdin, stdout=out, stderr=subprocess.PIPE, cwd=folder, timeout=LIMIT)
         except subprocess.TimeoutExpired:

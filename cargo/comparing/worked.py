@@ -71,8 +71,8 @@ def wire_cases() -> list[Case]:
     for number, (frame, fault) in enumerate(wire_rows.REPLIES):
         runs = [Run("batches", ("decode", "--replies"), frame, expected=turned(frame, "decode", True))]
         if fault:
-            err = f"replay: replies 0: wire {fault}\n".encode()
-            runs.append(Run("replay", ("file", "--check", "replies"), expected=Outcome(1, b"", err)))
+            err = f"replay: replies 0: wire {fault}\n"
+            runs.append(Run("replay", ("file", "--check", "replies"), expected=Outcome(1, b"", err.encode())))
         cases.append(Case(f"wire reply {number}", "worked rows", {"file": rows.EMPTY_BATCH, "replies": frame}, tuple(runs)))
     return cases
 

@@ -163,8 +163,8 @@ ROWS = VERDICTS + CHAINS + OPTIONS + FAULTS
 
 def sharing(name: str, files: tuple[tuple[tuple[int, int], ...], ...], held: int = 200, rest: bytes = b"", err: str = "") -> tuple[Row, Row]:
     """A row of 64 files, of which the first have the batches of these versions, and a share of 16 each."""
-    batches = [tuple(f"{v - 1}>{v}" for first, end in some for v in range(first, end)) for some in files]
-    batches[-1] += (rest,)
+    batches: list[Parts] = [tuple(f"{v - 1}>{v}" for first, end in some for v in range(first, end)) for some in files]
+    batches[-1] = (*batches[-1], rest)
     lines = [
         f"{proxy} {version} {'empty' if version < held else 'held'}\n"
         for proxy, some in enumerate(files)
