@@ -121,7 +121,7 @@ class ManyKeys:
         kind = self.chance.random()
         if kind < 0.6:
             return single(self.chance.choice(self.pool))
-        return self.run(3) if kind < 0.9 else self.run(len(self.pool) // 10)
+        return self.run(3 if kind < 0.88 else len(self.pool) // (10 if kind < 0.97 else 2))
 
     def ranges(self, most: int) -> tuple[Range, ...]:
         return tuple(self.range() for _ in range(self.chance.randint(0, most)))
