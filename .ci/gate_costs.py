@@ -167,12 +167,12 @@ def comparison(costs: Mapping[str, Cost], before: Mapping[str, Cost], table: str
     """Returns the lines that compare the crates that were proved in this run with the table."""
     found = changes(costs, before)
     then, now = sum(c.before for c in found) / 60, sum(c.now for c in found) / 60
-    lines = [f"proved in this run: {len(found)} crates, {now:.1f} minutes, by {table} {then:.1f}"]
+    lines = [f"crates proved in this run: {len(found)}, {now:.1f} minutes ({table}: {then:.1f})"]
     kept = [crate for crate in before if crate not in proved(costs)]
     if kept:
         minutes = full_seconds(costs, before) / 60
         lines.append(
-            f"kept from earlier runs and not compared: {len(kept)} crates;"
+            f"crates kept from earlier runs, not compared: {len(kept)};"
             f" with their figures from {table}, {minutes:.1f} minutes in all"
         )
     return lines

@@ -154,15 +154,15 @@ class Comparison(unittest.TestCase):
         self.assertEqual(
             lines,
             [
-                "proved in this run: 1 crates, 3.0 minutes, by gate.csv 2.0",
-                "kept from earlier runs and not compared: 3 crates;"
+                "crates proved in this run: 1, 3.0 minutes (gate.csv: 2.0)",
+                "crates kept from earlier runs, not compared: 3;"
                 " with their figures from gate.csv, 8.0 minutes in all",
             ],
         )
 
     def test_every_crate_proved(self) -> None:
         lines = gate_costs.comparison(self.before, self.before, "gate.csv")
-        self.assertEqual(lines, ["proved in this run: 4 crates, 7.0 minutes, by gate.csv 7.0"])
+        self.assertEqual(lines, ["crates proved in this run: 4, 7.0 minutes (gate.csv: 7.0)"])
 
     def test_warning_only_above_budget(self) -> None:
         now = {f"c{n}": Cost(60 + n) for n in range(7)}
