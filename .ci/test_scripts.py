@@ -239,7 +239,7 @@ class MoreEdits(unittest.TestCase):
         self.assertEqual([result.verdict for result in found], ["NOT TRIED", "refused"])
 
     def test_crates_below(self) -> None:
-        text = "# all: these\nkeys: thiserror\nflow:\nwire: keys byteorder\nplayer may=1: wire # x\n"
+        text = "# all: these\nkeys: thiserror\nflow:\nwire: keys hex\nplayer may=1: wire # x\n"
         uses = more_edits.parse_crates(text)
         self.assertEqual(uses["player"], ["wire"])
         self.assertEqual(uses["flow"], [])
