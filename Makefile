@@ -1,13 +1,42 @@
-.PHONY: demo replay batches check test more-edits refused-memory json-examples stalled-pipes readme-runs manual-page library install library-test plant bench profile
+.PHONY: quick demo rust rust-packages rust-package library-unproved eraser-test replay batches check test more-edits \
+	refused-memory json-examples stalled-pipes readme-runs manual-page library install library-test plant bench profile
 
-# Runs the program on the recorded files of examples/, unproved. A file NAME.args names the further files of a run.
-demo: SHELL := bash
-demo:
-	@echo 'The program runs unproved here: `make replay` proves and builds it.'
-	@set -e; folder=$$(mktemp -d); trap 'rm -r "$$folder"' EXIT; \
-	find examples -maxdepth 1 -type f ! -name '*.*' -exec cp {} "$$folder" ';'; \
-	cp examples/*.args "$$folder"; \
-	cd crates/replay; rt try --cases "$$folder" --data second_proxy="$$folder/second_proxy" -- {}
+# The Cargo edition: the same sources, clauses erased, built by rustc. It needs Rust 1.88, cc, make and python3, and no network.
+
+# Builds the programs: out/quick/replay, out/quick/batches, out/quick/workload. Not proved.
+quick:
+	cargo/quick
+
+# Runs the program of the Cargo edition on the recorded files of examples/. A file NAME.args names the further files of a run.
+demo: quick
+	@set -e; cd examples; for file in *; do \
+		case "$$file" in *.*) continue ;; esac; \
+		[ -f "$$file" ] || continue; \
+		echo "== $$file"; \
+		../out/quick/replay "$$file" $$(cat "$$file.args" 2> /dev/null) || echo "status $$?"; \
+	done
+
+# Writes and builds the workspace for Rust programmers in out/rust, over crates.io's crates where one serves.
+rust:
+	cargo/rust
+
+# Installs the crates that out/rust uses as Debian's packages, where crates.io isn't to be reached.
+rust-packages:
+	cargo/packages
+
+# Packages each crate of out/rust, as for crates.io, without building it.
+rust-package: rust
+	cargo/package
+
+# Builds the library for C by cargo: out/quick/libarchcaraway.a and out/quick/libarchcaraway.so. Not proved.
+library-unproved:
+	cargo/library
+
+# Tests the eraser.
+eraser-test:
+	cd cargo && python3 -m unittest
+
+# The proved edition: everything below needs the Rattle toolchain with its command `rt`.
 
 # Proves and builds the program, and runs it once.
 replay:
@@ -15,6 +44,8 @@ replay:
 	@echo 'The proved program: crates/replay/out/replay'
 
 PREFIX ?= /usr/local
+# Where the libraries for C lie that are installed: out, or out/quick for those of the Cargo edition.
+BUILT ?= out
 
 # Proves and builds the library for C: out/libarchcaraway.a, out/libarchcaraway.so, out/archcaraway.pc.
 library:
@@ -24,10 +55,10 @@ library:
 install:
 	install -d '$(PREFIX)/include' '$(PREFIX)/lib/pkgconfig'
 	install -m 644 include/archcaraway.h include/archcaraway_frames.h include/archcaraway.hpp '$(PREFIX)/include'
-	install -m 644 out/libarchcaraway.a '$(PREFIX)/lib'
-	install -m 755 out/libarchcaraway.so '$(PREFIX)/lib/libarchcaraway.so.1'
+	install -m 644 $(BUILT)/libarchcaraway.a '$(PREFIX)/lib'
+	install -m 755 $(BUILT)/libarchcaraway.so '$(PREFIX)/lib/libarchcaraway.so.1'
 	ln -sf libarchcaraway.so.1 '$(PREFIX)/lib/libarchcaraway.so'
-	sed 's|^prefix=.*|prefix=$(abspath $(PREFIX))|' out/archcaraway.pc > '$(PREFIX)/lib/pkgconfig/archcaraway.pc'
+	sed 's|^prefix=.*|prefix=$(abspath $(PREFIX))|' $(BUILT)/archcaraway.pc > '$(PREFIX)/lib/pkgconfig/archcaraway.pc'
 
 # Behind `make test`, tests the library for C: examples, chains beside the program, sanitizers, valgrind, refused memory.
 library-test: library
@@ -66,9 +97,20 @@ refused-memory:
 stalled-pipes:
 	.ci/stalled-pipes
 
-# Behind `make test` or `make bench`, runs the commands of the documents that name a built program, and compares what they print.
+# After `make test` or `make bench`, runs the commands of the documents that call a built program, and compares what they print. After
+# `make quick`, EDITION=cargo runs those of the Cargo edition.
 readme-runs:
 	.ci/readme-runs
+
+.PHONY: figures figures-test
+
+# Redraws the pictures of docs/figures. That of the crates follows crates.txt.
+figures:
+	for script in docs/figures/*.py; do [ "$$script" = docs/figures/svg.py ] || python3 -B "$$script" || exit 1; done
+
+# Redraws them into a temporary folder, and says which picture of the checkout is stale.
+figures-test:
+	.ci/figures
 
 # Behind `make test` or `make replay`, compares the manual page with what the program prints of its options and version.
 manual-page:
@@ -90,8 +132,8 @@ bench:
 		time crates/replay/out/replay "$$folder/batches" > /dev/null; \
 	done
 
-# Times the libraries without their clauses, unproved, on a file of batch frames: make profile FILE=batches. The program stays in out/profile.
+# Times the libraries of the Cargo edition on a file of batch frames: make profile FILE=batches. The program stays in out/profile.
 profile:
-	profile/strip.py . out/profile
-	cd out/profile && RUSTFLAGS="-Awarnings -Ctarget-cpu=x86-64-v2" cargo build --quiet --release --offline
-	out/profile/target/release/detect '$(FILE)'
+	cargo/erase.py out/profile --add profile/detect
+	RUSTFLAGS="-Ctarget-cpu=x86-64-v2 -g" cargo build --manifest-path out/profile/Cargo.toml --quiet --release --offline --bin archcaraway-detect
+	out/profile/target/release/archcaraway-detect '$(FILE)'

@@ -2,7 +2,7 @@
 
 use conflict::ConflictSet;
 use keyspace::{Batch, WINDOW};
-use stand_in::alloc::Global;
+use rattle_std::alloc::Global;
 use std::time::Instant;
 use std::{env, fs};
 use stepmap::MAX_LIMIT;

@@ -1,0 +1,141 @@
+//! The conflict set, for whoever has a chain of versions already.
+
+// Conditions of the proved functions that are called here:
+//
+// | function | condition | how it is met |
+// |---|---|---|
+// | `conflict::ConflictSet::new` | `least_window`, `most_window`, `least_limit`, `most_limit` | `check_set`: `NewError::Window`, `NewError::Limit` |
+// | `conflict::ConflictSet::resolve` | `rising`: the version is above that of the batch resolved last | `ResolveError::Version`, by the field `version` |
+// | `conflict::ConflictSet::boundaries` | none | |
+
+use crate::batch::Batch;
+use crate::reply::Reply;
+use crate::stop::{NewError, Stop, check_set, stop_of_set};
+use rattle_std::alloc::Global;
+use std::error::Error;
+use std::fmt;
+
+/// The committed writes of the batches resolved so far, as far back as the window.
+///
+/// Give it each batch once, in the order of versions. It does not look at the previous version of a
+/// batch: [`Core`](crate::Core) orders batches that arrive out of order.
+///
+/// ```
+/// use archcaraway::{BatchBuilder, ConflictSet, MAX_LIMIT, Txn, Verdict, WINDOW};
+///
+/// let mut set = ConflictSet::new(WINDOW, MAX_LIMIT)?;
+/// let write = BatchBuilder::new(-1, 100).txn(Txn::at(0).write_key("k")).build()?;
+/// let read = BatchBuilder::new(100, 200).txn(Txn::at(99).read_key("k")).build()?;
+/// assert_eq!(set.resolve(&write)?.verdict(0), Some(Verdict::Committed));
+/// assert_eq!(set.resolve(&read)?.verdict(0), Some(Verdict::Conflict));
+/// # Ok::<(), Box<dyn std::error::Error>>(())
+/// ```
+pub struct ConflictSet {
+    set: conflict::ConflictSet,
+    version: i64,
+    stop: Option<Stop>,
+}
+
+impl ConflictSet {
+    /// Creates a set that has resolved nothing.
+    ///
+    /// `window` is how far back it remembers writes, in versions: 1 to
+    /// [`MAX_WINDOW`](crate::MAX_WINDOW), usually [`WINDOW`](crate::WINDOW). It never keeps more
+    /// than `limit` boundaries: 1 to [`MAX_LIMIT`](crate::MAX_LIMIT). A write range within the
+    /// window needs two at most.
+    pub fn new(window: i64, limit: usize) -> Result<Self, NewError> {
+        check_set(window, limit)?;
+        let set = conflict::ConflictSet::new(Global, window, limit);
+        Ok(ConflictSet {
+            set: set.map_err(|_| NewError::Memory)?,
+            version: -1,
+            stop: None,
+        })
+    }
+
+    /// Judges a batch after all writes in the set, and adds the writes that the batch commits.
+    ///
+    /// After [`ResolveError::Version`] the set is unchanged. A stop is final: every later call
+    /// returns it.
+    pub fn resolve(&mut self, batch: &Batch) -> Result<Reply, ResolveError> {
+        if let Some(stop) = self.stop {
+            return Err(ResolveError::Stop(stop));
+        }
+        let (version, last) = (batch.version(), self.version);
+        if version <= last {
+            return Err(ResolveError::Version { version, last });
+        }
+        match self.set.resolve(batch.inner()) {
+            Ok(reply) => {
+                self.version = version;
+                Ok(Reply::over(reply))
+            }
+            Err(stop) => {
+                let stop = stop_of_set(stop);
+                self.stop = Some(stop);
+                Err(ResolveError::Stop(stop))
+            }
+        }
+    }
+
+    /// Returns the number of boundaries, at most the limit. One is at the empty key.
+    pub fn boundaries(&self) -> usize {
+        self.set.boundaries()
+    }
+
+    /// Returns the version of the batch resolved last, or -1.
+    pub fn version(&self) -> i64 {
+        self.version
+    }
+
+    /// Returns the stop, if the set has stopped.
+    pub fn stop(&self) -> Option<Stop> {
+        self.stop
+    }
+}
+
+impl fmt::Debug for ConflictSet {
+    fn fmt(&self, f: &mut fmt::Formatter<'_>) -> fmt::Result {
+        f.debug_struct("ConflictSet")
+            .field("version", &self.version)
+            .field("boundaries", &self.boundaries())
+            .field("stop", &self.stop)
+            .finish_non_exhaustive()
+    }
+}
+
+/// Why a batch was not resolved.
+#[derive(Clone, Copy, Debug, PartialEq, Eq, Hash)]
+pub enum ResolveError {
+    /// The version of the batch is not above that of the batch resolved last.
+    Version {
+        /// The version of the batch.
+        version: i64,
+        /// The version of the batch resolved last.
+        last: i64,
+    },
+    /// The set has stopped.
+    Stop(Stop),
+}
+
+impl fmt::Display for ResolveError {
+    fn fmt(&self, f: &mut fmt::Formatter<'_>) -> fmt::Result {
+        match self {
+            ResolveError::Version { version, last } => {
+                write!(
+                    f,
+                    "version {version} is not above {last}, which was resolved last"
+                )
+            }
+            ResolveError::Stop(stop) => stop.fmt(f),
+        }
+    }
+}
+
+impl Error for ResolveError {}
+
+impl From<Stop> for ResolveError {
+    fn from(stop: Stop) -> Self {
+        ResolveError::Stop(stop)
+    }
+}

@@ -1,0 +1,1 @@
+"""Turns proved Rattle sources into plain Rust: clauses, ghosts and models are removed, and the rest stays as it is written."""

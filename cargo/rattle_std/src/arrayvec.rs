@@ -1,0 +1,81 @@
+//! A vector of at most `N` items, in place, for items that can be copied.
+
+use std::ops::{Deref, DerefMut};
+
+#[derive(Clone, Copy, Debug)]
+pub struct ArrayVec<T, const N: usize> {
+    // None until the first item comes, of which all places are then made. So no place is ever without a value.
+    items: Option<[T; N]>,
+    len: usize,
+}
+
+/// There is no room.
+#[derive(Clone, Copy, Debug, PartialEq, Eq)]
+pub struct CapacityError;
+
+impl<T, const N: usize> ArrayVec<T, N> {
+    pub fn new() -> Self {
+        ArrayVec { items: None, len: 0 }
+    }
+
+    pub fn clear(&mut self) {
+        self.len = 0;
+    }
+
+    pub fn is_full(&self) -> bool {
+        self.len == N
+    }
+
+    #[inline]
+    pub fn as_slice(&self) -> &[T] {
+        self.items.as_ref().map_or(&[], |items| &items[..self.len])
+    }
+
+    #[inline]
+    pub fn as_mut_slice(&mut self) -> &mut [T] {
+        self.items.as_mut().map_or(&mut [], |items| &mut items[..self.len])
+    }
+}
+
+impl<T: Copy, const N: usize> ArrayVec<T, N> {
+    /// Appends an item for which there is room.
+    #[inline]
+    pub fn push(&mut self, item: T) {
+        self.items.get_or_insert([item; N])[self.len] = item;
+        self.len += 1;
+    }
+
+    /// Appends the items, or none of them if there isn't room for all.
+    pub fn try_extend_from_slice(&mut self, more: &[T]) -> Result<(), CapacityError> {
+        let Some(first) = more.first() else {
+            return Ok(());
+        };
+        let end = self.len + more.len();
+        let room = self.items.get_or_insert([*first; N]).get_mut(self.len..end).ok_or(CapacityError)?;
+        room.copy_from_slice(more);
+        self.len = end;
+        Ok(())
+    }
+}
+
+impl<T, const N: usize> Default for ArrayVec<T, N> {
+    fn default() -> Self {
+        ArrayVec::new()
+    }
+}
+
+impl<T, const N: usize> Deref for ArrayVec<T, N> {
+    type Target = [T];
+
+    #[inline]
+    fn deref(&self) -> &[T] {
+        self.as_slice()
+    }
+}
+
+impl<T, const N: usize> DerefMut for ArrayVec<T, N> {
+    #[inline]
+    fn deref_mut(&mut self) -> &mut [T] {
+        self.as_mut_slice()
+    }
+}

@@ -1,0 +1,37 @@
+//! What the erased crates use of the proved toolchain's `std` and crates, over Rust's own.
+//!
+//! Each module has the name and the calls of the one that it replaces. Nothing here is proved: `docs` says where each is tested.
+//! Only [`atomic_table`] and [`boxed`] have unsafe code, with its argument beside it.
+#![deny(unsafe_code)]
+
+pub mod alloc;
+pub mod arrayvec;
+pub mod atomic_table;
+pub mod boxed;
+pub mod byteorder;
+pub mod clap;
+pub mod collections;
+pub mod crossbeam_utils;
+pub mod env;
+pub mod fs;
+pub mod hex;
+pub mod io;
+pub mod itoa;
+pub mod json;
+mod macros;
+pub mod rt;
+pub mod snapshot;
+pub mod string;
+pub mod sync;
+pub mod thread;
+pub mod vec;
+
+pub use std::{array, cmp, convert, error, fmt, hash, iter, marker, mem, num, ops, process, slice, str, time};
+
+/// The names that each erased file has in scope.
+pub mod prelude {
+    pub use crate::boxed::Box;
+    pub use crate::rt::{AllocGlobal, Eprint, HostRuntime, Input};
+    pub use crate::string::String;
+    pub use crate::vec::{SliceWith, Vec};
+}

@@ -1,0 +1,86 @@
+//! The runtime handle, and what is asked of it.
+
+use crate::alloc::Global;
+use crate::fs::{File, Files};
+use std::fs;
+use std::io::{self, IsTerminal, Write};
+use std::os::fd::AsFd;
+
+/// What has an allocator.
+pub trait AllocGlobal {
+    fn alloc(&self) -> Global {
+        Global
+    }
+}
+
+/// What has a standard input.
+pub trait Input {
+    fn reader(&self) -> io::StdinLock<'static> {
+        io::stdin().lock()
+    }
+}
+
+pub trait Eprint {}
+
+/// What has words of a command line.
+pub trait Env {}
+
+/// The handle of the process's runtime, that `main` of a proved program is given.
+#[derive(Clone, Copy, Debug)]
+pub struct HostRuntime(());
+
+impl HostRuntime {
+    #[allow(clippy::new_without_default)]
+    pub fn new() -> Self {
+        HostRuntime(())
+    }
+
+    pub fn alloc(&self) -> Global {
+        Global
+    }
+
+    pub fn stdout(&self) -> Output {
+        Output::over(&io::stdout())
+    }
+
+    pub fn stderr(&self) -> Output {
+        Output::over(&io::stderr())
+    }
+}
+
+impl AllocGlobal for HostRuntime {}
+impl Input for HostRuntime {}
+impl Eprint for HostRuntime {}
+impl Env for HostRuntime {}
+
+impl Files for HostRuntime {
+    type File = File;
+}
+
+/// A stream of the process without a buffer. Each failed write is told.
+#[derive(Debug)]
+pub struct Output(Option<fs::File>);
+
+impl Output {
+    fn over(stream: &impl AsFd) -> Self {
+        Output(stream.as_fd().try_clone_to_owned().map(fs::File::from).ok())
+    }
+
+    pub fn is_terminal(&self) -> bool {
+        self.0.as_ref().is_some_and(IsTerminal::is_terminal)
+    }
+
+    fn stream(&mut self) -> io::Result<&mut fs::File> {
+        self.0.as_mut().ok_or_else(|| io::ErrorKind::NotConnected.into())
+    }
+}
+
+impl Write for Output {
+    fn write(&mut self, bytes: &[u8]) -> io::Result<usize> {
+        self.stream()?.write(bytes)
+    }
+
+    fn flush(&mut self) -> io::Result<()> {
+        self.stream()?.flush()
+    }
+}
