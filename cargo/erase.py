@@ -148,7 +148,7 @@ members = [
 [workspace.package]
 version = "{VERSION}"
 edition = "2024"
-rust-version = "1.88"
+rust-version = "1.85"
 license = "Apache-2.0"
 
 [workspace.dependencies]

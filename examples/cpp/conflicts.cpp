@@ -1,4 +1,4 @@
-// The worked example of docs/RULES.md over archcaraway::ConflictSet: a write, a read of what was overwritten since, a read of what the
+// The worked example of examples/conflicts over archcaraway::ConflictSet: a write, a read of what was overwritten since, a read of what the
 // same batch writes, and a snapshot that is too old.
 #include <cstdio>
 

@@ -9,6 +9,7 @@ pub mod arrayvec;
 pub mod atomic_table;
 pub mod boxed;
 pub mod byteorder;
+mod casts;
 pub mod clap;
 pub mod collections;
 pub mod crossbeam_utils;
@@ -31,6 +32,7 @@ pub use std::{array, cmp, convert, error, fmt, hash, iter, marker, mem, num, ops
 /// The names that each erased file has in scope.
 pub mod prelude {
     pub use crate::boxed::Box;
+    pub use crate::casts::CastUnsigned;
     pub use crate::rt::{AllocGlobal, Eprint, HostRuntime, Input};
     pub use crate::string::String;
     pub use crate::vec::{SliceWith, Vec};
