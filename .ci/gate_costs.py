@@ -69,7 +69,6 @@ class Change:
 
 
 COLUMNS = [field.name for field in dataclasses.fields(Row)]
-NUMBERS = {"processors", *(name for name in COLUMNS if name.endswith("_seconds"))}
 
 
 def classify(arguments: Sequence[str], folder: str) -> Job | None:
@@ -100,11 +99,16 @@ def add_up(jobs: Iterable[tuple[Job, float]]) -> dict[str, Cost]:
 
 
 def parse_table(text: str) -> list[Row]:
-    """Reads the table. A ValueError or a KeyError says that it is none."""
+    """Reads the table. Raises ValueError or KeyError if the text is no table."""
     rows = []
     for record in csv.DictReader(io.StringIO(text)):
-        words = {name: record[name] or "" for name in COLUMNS}
-        rows.append(Row(**{k: int(v) if k in NUMBERS else v for k, v in words.items()}))
+        # A missing value is None.
+        words = [record[name] or "" for name in COLUMNS]
+        date, commit, kit, processors, wall_clock, crate, *seconds = words
+        proof, tests, edits = (int(word) for word in seconds)
+        rows.append(
+            Row(date, commit, kit, int(processors), int(wall_clock), crate, proof, tests, edits)
+        )
     return rows
 
 
@@ -149,16 +153,16 @@ def full_seconds(costs: Mapping[str, Cost], before: Mapping[str, Cost]) -> float
 
 def report(costs: Mapping[str, Cost], wall_clock: float, processors_used: int) -> list[str]:
     """Returns the lines of the report, the crate that cost most first."""
-    whole = Cost(*(sum(getattr(cost, kind) for cost in costs.values()) for kind in KINDS))
+    overall = Cost(*(sum(getattr(cost, kind) for cost in costs.values()) for kind in KINDS))
     ordered = sorted(costs.items(), key=lambda item: (-item[1].total, item[0]))
     width = max([len("processor seconds"), *map(len, costs)]) + 2
     lines = ["processor seconds".ljust(width) + "".join(f"{k:>9}" for k in (*KINDS, "all"))]
-    for name, cost in [*ordered, ("all", whole)]:
+    for name, cost in [*ordered, ("all", overall)]:
         numbers = [*(getattr(cost, kind) for kind in KINDS), cost.total]
         lines.append(name.ljust(width) + "".join(f"{number:9.0f}" for number in numbers))
     lines.append(
         f"{wall_clock:.0f} seconds of wall-clock time on {processors_used} processors,"
-        f" {whole.total / 60:.1f} processor minutes"
+        f" {overall.total / 60:.1f} processor minutes"
     )
     return lines
 
