@@ -3,7 +3,7 @@ use Rattle.std.specs.Prelude.{◌≡◌, ℕ, zero, suc, ◌+◌, ◌<◌, Bool,
 use Rattle.std.specs.List.{All, AllZip}
 use Rattle.std.proofs.Common.{refl, sym, ap, subst, ◌∙◌, arith}
 use Rattle.std.proofs.lemmas.Bool.{false≢true}
-use Rattle.std.proofs.lemmas.List.{map-append}
+use Rattle.std.proofs.lemmas.List.{length-map, map-append}
 use Rattle.std.proofs.lemmas.List.Elements.{All-cons, All-head, All-tail, All-push}
 use Rattle.std.proofs.lemmas.Option.{none-some, same_Some, get_or_from_slice_get}
 use Rattle.keyspace.specs.declared.batch.Batch.{Batch}
@@ -12,9 +12,10 @@ use Rattle.resolver.specs.declared.client.Client.{Client}
 use Rattle.resolver.specs.Resolver.{IsNewClient, SameClients}
 use Rattle.replay_output.specs.declared.options.form.Form.{Form}
 use Rattle.replay_workers.specs.declared.outcome.Outcome.{Outcome}
+use Rattle.replay_workers.specs.declared.threads.Started.{Started}
 use Rattle.replay_workers.specs.declared.worker.Finished.{Finished}
 use Rattle.replay_workers.specs.Worker.{HasWorked, ClientGoesOn}
-use Rattle.replay_workers.specs.Threads.{Given, given_each, HasWorkedOn, HandsBack, IsOutcomeOf, failure_of}
+use Rattle.replay_workers.specs.Threads.{Given, given_each, given_to, HasWorkedOn, HandsBack, IsOutcomeOf, failure_of}
 use Rattle.replay_workers.specs.Run.{HasCapacity}
 
 at_also : {X : Type 0} (xs : List X) (place : ℕ) (x y : X) → slice_get xs place ≡ Some x
@@ -68,6 +69,13 @@ given_count form share first (c ∷ clients) [] same = absurd (omega (arith, sam
 given_count form share first (c ∷ clients) (r ∷ readers) same =
     let rest = given_count form share (first + 1) clients readers (omega (arith, same)) in
     omega (arith, rest)
+
+-- as many workers were started as there are readers
+pub started_count : {S : Type 0} (form : Form) (share : ℕ) (clients : List Client) (readers : List S) (workers : List (Started S))
+    → length readers ≡ length clients → map given_to workers ≡ given_each form share 0 clients readers
+    → length workers ≡ length readers
+started_count form share clients readers workers same given =
+    sym (length-map workers given_to) ∙ ap length given ∙ given_count form share 0 clients readers same ∙ sym same
 
 at_place : {X : Type 0} (xs : List X) (place : ℕ) → place < length xs → (x : X) × (slice_get xs place ≡ Some x)
 at_place [] place inside = absurd (omega (arith, inside))

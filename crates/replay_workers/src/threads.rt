@@ -15,8 +15,8 @@ use resolver::{Client, share};
 use std::alloc::{AllocError, Global};
 use std::snapshot::Snapshot;
 use std::sync::{Arc, Wait};
-use std::thread::{Promise, PromisedHandle, Threads};
 use std::thread;
+use std::thread::{Promise, PromisedHandle, Threads};
 use wire::Source;
 
 // Promises what a worker does with what it is given.

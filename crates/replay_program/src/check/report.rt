@@ -10,7 +10,9 @@ ghost use Rattle.replay_output.specs.declared.options.form.Form.{Form};
 
 use checking::{Checked, check_all};
 use keyspace::Reply;
-use replay_output::{Ending, Line, PrintError, ProxyFailure, Status, note_loss, nothing_failed, print_failures};
+use replay_output::{
+    Ending, Line, PrintError, ProxyFailure, Status, note_loss, nothing_failed, print_failures,
+};
 use std::alloc::{AllocError, Global};
 use wire::{Failed, Sink, write_all};
 

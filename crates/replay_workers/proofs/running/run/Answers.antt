@@ -3,7 +3,6 @@ use Rattle.std.proofs.Common.{◌≡◌, ℕ, List, [], ap, sym, subst, ◌∙�
 use Rattle.std.proofs.lemmas.Int.{ints, to_z-of_z}
 use Rattle.std.specs.Prelude.{map, true, Option, None, IfSome, slice_get, vec_len}
 use Rattle.std.specs.List.{All, AllZip}
-use Rattle.std.proofs.lemmas.List.{length-map}
 use Rattle.resolver.specs.declared.client.Client.{Client}
 use Rattle.resolver.specs.declared.stop.Stop.{Stop}
 use Rattle.resolver.specs.Lanes.{Lanes}
@@ -13,12 +12,12 @@ use Rattle.resolver.specs.Share.{share_of}
 use Rattle.resolver.proofs.callers.Lists.{written_back}
 use Rattle.replay_workers.specs.declared.worker.Finished.{Finished}
 use Rattle.replay_workers.specs.declared.outcome.Outcome.{Outcome}
-use Rattle.replay_workers.specs.Threads.{given_each, given_to, HasWorkedOn, IsOutcomeOf}
+use Rattle.replay_workers.specs.Threads.{given_each, HasWorkedOn, IsOutcomeOf}
 use Rattle.replay_workers.specs.Run.{HasCapacity}
 use Rattle.replay_workers.specs.Stops.{IsStopOf}
 use Rattle.replay_workers.proofs.SameLanes.{clients_go_on}
 use Rattle.replay_workers.proofs.Stopping.{accounted_new}
-use Rattle.replay_workers.proofs.Working.{capacities, capacities_stay, clients_back, clients_ended, given_count}
+use Rattle.replay_workers.proofs.Working.{capacities, capacities_stay, clients_back, clients_ended, started_count}
 use Rattle.replay_workers.proofs.Runs.{is_run}
 use Rattle.replay_workers.proofs.running.run.Goals as goal
 
@@ -45,15 +44,8 @@ join_all-outcome-requires-clause-room g c =
     let clients = c.in_ok-resolver.clients.items in
     let workers = c.in_ok-workers.workers.items in
     let same : length readers ≡ length clients = omega (arith, c.in_ok-resolver.ensures.proxies, c.len-proxies.ensures) in
-    omega (
-      arith,
-      length-map workers given_to,
-      ap length c.in_ok-workers.ensures.given,
-      given_count c.args.options.form share 0 clients readers same,
-      same,
-      c.in_ok-outcome.ensures.room,
-      c.len-proxies.ensures,
-    )
+    let count = started_count c.args.options.form share clients readers workers same c.in_ok-workers.ensures.given in
+    omega (arith, count, c.in_ok-outcome.ensures.room, c.len-proxies.ensures)
 
 pub settle-account-requires : goal.settle-account-requires
 settle-account-requires g c =
