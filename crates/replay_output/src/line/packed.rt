@@ -58,11 +58,12 @@ impl PackedText {
         ensures text { OnOk result (self.new ≡ self.old ++ word_text word) }
         ensures same { OnErr result (self.new ≡ self.old) }
     {
-        if let Some(last) = self.units.last_mut()
-            && let Some(more) = word.behind(*last)
-        {
-            *last = more;
-            return Ok(());
+        // No chain of `let`s, which is newer than the Rust that the Cargo edition asks for.
+        if let Some(last) = self.units.last_mut() {
+            if let Some(more) = word.behind(*last) {
+                *last = more;
+                return Ok(());
+            }
         }
         Ok(self.units.push(word.unit())?)
     }

@@ -4,8 +4,8 @@ use Rattle.replay_output.specs.Packed.{word_text}
 use Rattle.replay_output.proofs.Packing.{with_last_replaced}
 use Rattle.replay_output.proofs.line.packed.PackedText.push_word.Goals as goal
 
-pub returns-clause-text : goal.returns-clause-text
-returns-clause-text c =
+pub returns-in-Some-behind-clause-text : goal.returns-in-Some-behind-clause-text
+returns-in-Some-behind-clause-text c =
     let units = c.self.inside.units in
     let some = c.in-Some.ensures.variant.0 refl in
     with_last_replaced units.items (units.len - 1) c.in-Some.last.now c.in-Some-behind.more (word_text c.args.word)
