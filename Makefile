@@ -1,5 +1,5 @@
-.PHONY: quick demo rust rust-packages rust-package library-unproved eraser-test replay batches test refused-memory json-examples \
-	stalled-pipes readme-runs manual-page library install library-test plant bench profile
+.PHONY: quick demo rust rust-packages rust-package library-unproved eraser-test replay batches check test more-edits \
+	refused-memory json-examples stalled-pipes readme-runs manual-page library install library-test plant bench profile
 
 # The Cargo edition: the same sources, clauses erased, built by rustc. It needs Rust 1.88, cc, make and python3, and no network.
 
@@ -74,9 +74,20 @@ batches:
 json-examples:
 	.ci/json-examples
 
+# The number of crates that `make check` proves at the same time.
+JOBS ?= $(shell nproc)
+
+# Proves every crate, without tests, edits and programs. What hasn't changed since an earlier check isn't proved again.
+check:
+	rt all check --jobs $(JOBS)
+
 # The first part of the full check (.ci/run): every proof from nothing, the must-fail edits, the tests and the programs.
 test:
 	rt ci
+
+# Tries the edits of edits/, which `make test` leaves out: all, or those of CRATES='NAME..'. Best after `make check`.
+more-edits:
+	.ci/more-edits $(CRATES)
 
 # Behind `make test`, refuses each allocation in turn to the tests named for it and to the program, as that has built them.
 refused-memory:
