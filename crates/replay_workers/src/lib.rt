@@ -1,4 +1,4 @@
-//! Runs a worker for each file, in a thread of its own, and turns the resolver between them.
+//! Runs one worker per file, each in its own thread, and turns the resolver between them.
 //!
 //! [`run`] does so over any readers, and returns an [`Outcome`]: what the workers returned. [`work`] is what one worker does: it
 //! reads the batches of its file, sends them and takes the answers. A [`Gatekeeper`] says when workers may send.
