@@ -1,5 +1,5 @@
-.PHONY: quick demo rust rust-packages rust-package library-unproved eraser-test replay batches test refused-memory json-examples \
-	stalled-pipes readme-runs manual-page library install library-test plant bench bench-quick bench-test profile
+.PHONY: quick demo rust rust-packages rust-package library-unproved eraser-test replay batches check test more-edits \
+	refused-memory json-examples stalled-pipes readme-runs manual-page library install library-test plant bench bench-quick bench-test profile
 
 # The Cargo edition: the same sources, clauses erased, built by rustc. It needs Rust 1.88, cc, make and python3, and no network.
 
@@ -74,9 +74,20 @@ batches:
 json-examples:
 	.ci/json-examples
 
+# The number of crates that `make check` proves at the same time.
+JOBS ?= $(shell nproc)
+
+# Proves every crate, without tests, edits and programs. What hasn't changed since an earlier check isn't proved again.
+check:
+	rt all check --jobs $(JOBS)
+
 # The first part of the full check (.ci/run): every proof from nothing, the must-fail edits, the tests and the programs.
 test:
 	rt ci
+
+# Tries the edits of edits/, which `make test` leaves out: all, or those of CRATES='NAME..'. Best after `make check`.
+more-edits:
+	.ci/more-edits $(CRATES)
 
 # Behind `make test`, refuses each allocation in turn to the tests named for it and to the program, as that has built them.
 refused-memory:
@@ -128,3 +139,22 @@ profile:
 	cargo/erase.py out/profile --add profile/detect
 	RUSTFLAGS="-Ctarget-cpu=x86-64-v2 -g" cargo build --manifest-path out/profile/Cargo.toml --quiet --release --offline --bin archcaraway-detect
 	out/profile/target/release/archcaraway-detect '$(FILE)'
+
+.PHONY: rust-test rust-test-long quick-test
+
+# After `make quick` and `make test`, compares the Cargo edition with the proved programs: the worked rows, the examples and 2,000 drawn
+# cases. If the proved programs are not there, it says so, and compares with what the documents say alone.
+rust-test:
+	cargo/compare
+
+# The same with 20,000 drawn cases.
+rust-test-long:
+	cargo/compare --runs 20000
+
+# Tests the Cargo edition without the Rattle toolchain: its tools, and its programs beside what the documents say.
+quick-test: quick
+	cd cargo && python3 -m unittest discover -p 'test_*.py'
+	cargo/compare --alone
+	@if grep -qs '#\[test\]' -r out/quick/workspace --include='*.rs'; then \
+		cargo test --manifest-path out/quick/workspace/Cargo.toml --offline --quiet; \
+	fi

@@ -134,6 +134,12 @@ class Results(unittest.TestCase):
         self.assertEqual([art[f'ratio_{part}'] for part in ('median', 'least', 'greatest')], ['1.00', '0.50', '1.50'])
         self.assertEqual(art['p50_us_median'], '')
 
+    def test_a_table_has_a_column_per_measure(self) -> None:
+        rows = results.rows_of('wide', 80, (2, 600), Rounds({'replay': [Run(1.0, 4.0), Run(3.0, 6.0)]}))
+        self.assertEqual(results.table(rows).splitlines(), [
+            '        seconds              ratio             transactions_per_second  p50_us  p99_us  peak_mib',
+            'replay  2.000 (1.000-3.000)  1.00 (1.00-1.00)  300 (200-600)                            5.0 (4.0-6.0)'])
+
     def test_the_machine_is_read(self) -> None:
         self.assertEqual(results.processor('processor : 0\nmodel name\t: Some CPU @ 2.5GHz\nmodel name\t: Other\n'), 'Some CPU @ 2.5GHz')
         self.assertEqual(results.memory_gib('MemTotal:       25165824 kB\nMemFree: 1 kB\n'), 24)

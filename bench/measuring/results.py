@@ -113,9 +113,9 @@ def write(file: pathlib.Path, comments: Iterable[str], rows: Iterable[Row]) -> N
 
 def table(rows: list[Row]) -> str:
     """Returns the rows of one workload as a table: medians, with the least and the greatest value after them."""
-    lines = [f'{"":16}' + ''.join(f'{measure:>30}' for measure in MEASURES)]
+    lines = [['', *MEASURES]]
     for row in rows:
         cells = (row.measure_cells(measure) for measure in MEASURES)
-        spreads = (f'{median} ({least} .. {greatest})' if median else '-' for median, least, greatest in cells)
-        lines.append(f'{row.program:16}' + ''.join(f'{cell:>30}' for cell in spreads))
-    return '\n'.join(lines)
+        lines.append([row.program, *(f'{median} ({least}-{greatest})' if median else '' for median, least, greatest in cells)])
+    widths = [max(map(len, column)) for column in zip(*lines)]
+    return '\n'.join('  '.join(cell.ljust(width) for cell, width in zip(line, widths)).rstrip() for line in lines)

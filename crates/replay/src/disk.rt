@@ -2,7 +2,7 @@
 
 ghost use Rattle.std.specs.Prelude.{None, ⊤};
 
-use player::{FileError, Files};
+use replay_program::{FileError, Files};
 use std::fs;
 use std::fs::File;
 use std::io::BufReader;

@@ -1,16 +1,16 @@
 //! The program `replay` reads a recorded file of batch frames, resolves the batches in order and prints the verdicts.
 //!
-//! The library `player` does all of it, over any words, files and streams. Here it is given those of the process.
+//! The library `replay_program` does all of it, over any words, files and streams. Here it is given those of the process.
 #![tactic(auto)]
 
 ghost use Rattle.std.specs.Prelude.{◌≡◌, ◌<◌, ◌⊎◌, IsErr};
 ghost use Rattle.std.specs.Io.KnownBytes.{Appends, Keeps};
-ghost use Rattle.player.specs.Start.{start_line};
+ghost use Rattle.replay_output.specs.Start.{start_line};
 
 mod disk;
 
 use disk::Disk;
-use player::{StartError, Status, fail_to_start, run_in};
+use replay_program::{StartError, Status, fail_to_start, run_in};
 use std::fs::{File, Files};
 use std::io;
 use std::io::{BufWriter, Write};

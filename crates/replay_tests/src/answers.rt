@@ -2,7 +2,7 @@
 
 use fixtures::{Unmade, entry, reply};
 use keyspace::{Answer, Entry, Places, Verdict};
-use player::{Form, Line};
+use replay_program::{Form, Line};
 use std::alloc::{AllocError, Global};
 use wire::encode_reply;
 

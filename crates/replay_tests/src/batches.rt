@@ -2,7 +2,7 @@
 
 use crate::runs::{ends, gives, opened, prints, push_batch};
 use fixtures::Unmade;
-use player::Options;
+use replay_program::Options;
 use std::alloc::Global;
 use std::test::Fail;
 

@@ -1,7 +1,7 @@
 //! A gatekeeper that counts.
 
 use flow::{Stand, Told};
-use player::Gatekeeper;
+use replay_program::Gatekeeper;
 use std::sync::atomic::{AtomicU64, Ordering};
 
 /// Lets every batch of two proxies pass, and counts for each the batches that it has read and the answers that it has taken.

@@ -2,7 +2,7 @@
 
 use crate::runs::ended;
 use fixtures::Unmade;
-use player::{Ending, Line, ProxyFailure, StartError, fail_to_start, print_report};
+use replay_program::{Ending, Line, ProxyFailure, StartError, fail_to_start, print_report};
 use resolver::{OpenError, Stop};
 use std::alloc::{AllocError, Global};
 use std::process::Abort;

@@ -3,7 +3,7 @@
 use crate::failing::Failing;
 use crate::runs::{ended, ends, file_of, gives, opened, reader, replayed_from, waiting_room};
 use fixtures::Unmade;
-use player::{Options, replay_over};
+use replay_program::{Options, replay_over};
 use std::alloc::{AllocError, Global};
 use std::io;
 use std::io::Read;

@@ -1,4 +1,4 @@
-//! Tests of what the program `replay` does once its files are open, by the public calls of `player` alone.
+//! Tests of what the program `replay` does once its files are open, by the public calls of `replay_program` alone.
 //!
 //! `verdicts`, `reports`, `batches`, `options`, `proxies` and `files` are the worked rows, played over memory by `runs`, each a
 //! test of its row's name, and `sharing` those of files that use up their share; `meeting` holds back two proxies that wait for each

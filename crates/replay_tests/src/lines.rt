@@ -3,7 +3,7 @@
 use crate::answers::{line_of, received_of};
 use crate::failing::Failing;
 use fixtures::Unmade;
-use player::{Form, PrintError, print_answers};
+use replay_program::{Form, PrintError, print_answers};
 use std::alloc::Global;
 use std::test::Fail;
 use wire::StdSink;

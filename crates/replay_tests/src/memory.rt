@@ -7,7 +7,7 @@ use crate::rows::{
 };
 use crate::runs::{Reader, file_of, reader};
 use fixtures::Unmade;
-use player::{Options, Status, replay_over};
+use replay_program::{Options, Status, replay_over};
 use resolver::MAX_PROXIES;
 use std::alloc::{AllocError, Global};
 use std::process::Abort;

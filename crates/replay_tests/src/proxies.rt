@@ -2,7 +2,7 @@
 
 use crate::runs::{file_of, gives, opened, push_batch};
 use fixtures::Unmade;
-use player::Options;
+use replay_program::Options;
 use std::alloc::{AllocError, Global};
 use std::test::Fail;
 

@@ -5,7 +5,7 @@ use crate::failing::Failing;
 use crate::failures::{CLEAN, LOST, SHORT};
 use crate::runs::ended;
 use fixtures::Unmade;
-use player::{Ending, Form, Line, ProxyFailure, Report, Status, print_report};
+use replay_program::{Ending, Form, Line, ProxyFailure, Report, Status, print_report};
 use resolver::Stop;
 use std::alloc::{AllocError, Global};
 use std::io::{BufWriter, Write};

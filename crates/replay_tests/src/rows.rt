@@ -1,6 +1,6 @@
 //! Rows that are also played with memory refused: their files, and their lines where a file is cut, too.
 
-use player::Form;
+use replay_program::Form;
 
 /// The files of a row and what they give.
 pub struct Row<'a> {

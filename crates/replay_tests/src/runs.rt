@@ -2,7 +2,7 @@
 
 use fixtures::{Unmade, batch};
 use flow::WaitingRoom;
-use player::{Gatekeeper, Options, Status, replay_over};
+use replay_program::{Gatekeeper, Options, Status, replay_over};
 use resolver::MAX_PROXIES;
 use std::alloc::{AllocError, Global};
 use std::io::Cursor;

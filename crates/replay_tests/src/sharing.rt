@@ -5,7 +5,7 @@
 
 use crate::runs::{gives, push_batch};
 use fixtures::Unmade;
-use player::Options;
+use replay_program::Options;
 use resolver::MAX_PROXIES;
 use std::alloc::{AllocError, Global};
 use std::process::Abort;

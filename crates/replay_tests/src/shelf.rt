@@ -7,7 +7,7 @@ use crate::files::first_run;
 use crate::runs::{ended, file_of, opened};
 use crate::sharing;
 use fixtures::Unmade;
-use player::{FileError, Files, Status, run_in};
+use replay_program::{FileError, Files, Status, run_in};
 use std::alloc::{AllocError, Global};
 use std::env::FillError;
 use std::io;

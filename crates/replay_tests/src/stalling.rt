@@ -3,7 +3,7 @@
 use crate::runs::{push_batch, replayed_from};
 use fixtures::Unmade;
 use flow::{Stand, Told, WaitingRoom};
-use player::{Gatekeeper, Options};
+use replay_program::{Gatekeeper, Options};
 use std::alloc::{AllocError, Global};
 use std::io::{Cursor, Read};
 use std::process::Abort;

@@ -4,7 +4,7 @@
 use crate::runs::{file_of, reader, replayed_from};
 use fixtures::Unmade;
 use flow::{Stand, Told};
-use player::{Gatekeeper, Options};
+use replay_program::{Gatekeeper, Options};
 use std::alloc::{AllocError, Global};
 use std::process::Abort;
 use std::sync::atomic::{AtomicU64, Ordering};

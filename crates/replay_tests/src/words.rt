@@ -3,7 +3,7 @@
 use crate::failing::Failing;
 use crate::runs::ended;
 use fixtures::Unmade;
-use player::{CommandLine, Form, Options, Refusal, Status, read_words};
+use replay_program::{CommandLine, Form, Options, Refusal, Status, read_words};
 use std::alloc::{AllocError, Global};
 use std::process::Abort;
 use std::test::Fail;

@@ -4,7 +4,7 @@ use crate::runs::{file_of, push_batch, reader};
 use fixtures::Unmade;
 use keyspace::{Answer, Batch};
 use lane::{Intake, Port, Taken, lane};
-use player::{AlwaysOpen, Assignment, Finished, Form, work};
+use replay_program::{AlwaysOpen, Assignment, Finished, Form, work};
 use resolver::Client;
 use std::alloc::Global;
 use std::process::Abort;

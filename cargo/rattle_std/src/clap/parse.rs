@@ -35,7 +35,7 @@ impl<'a> Command<'a> {
                 Some("") => options = false,
                 Some(option) => self.take_option(option, &mut rest, &mut found)?,
                 None if options && word.len() > 1 && word.starts_with('-') => return Err(self.short(word)),
-                None if !self.subcommands.is_empty() => {
+                None if options && !self.subcommands.is_empty() => {
                     let rest: Vec<_> = rest.copied().collect();
                     return self.take_subcommand(word, &rest);
                 }
@@ -107,14 +107,26 @@ impl<'a> Command<'a> {
 
     fn take_subcommand(&self, name: &'a str, rest: &[&'a str]) -> Result<ArgMatches<'a>, Error> {
         if name == "help" {
-            let named = rest.first().and_then(|name| self.subcommands.iter().find(|command| command.name == *name));
-            return Err(named.unwrap_or(self).help(ErrorKind::DisplayHelp));
+            return Err(self.help_of(rest));
         }
         let Some(command) = self.subcommands.iter().find(|command| command.name == name) else {
             return Err(self.refuse(ErrorKind::UnknownArgument, format!("unrecognized subcommand '{name}'")));
         };
         let matches = Box::new(command.take(rest)?);
         Ok(ArgMatches { values: Vec::new(), subcommand: Some((name, matches)) })
+    }
+
+    // Returns the help of the subcommand that these words name, one below the other. `help` itself is one at the top.
+    fn help_of(&self, names: &[&'a str]) -> Error {
+        let mut command = self;
+        for name in names {
+            match command.subcommands.iter().find(|below| below.name == *name) {
+                Some(below) => command = below,
+                None if names == ["help"] => {}
+                None => return self.refuse(ErrorKind::UnknownArgument, format!("unrecognized subcommand '{name}'")),
+            }
+        }
+        command.help(ErrorKind::DisplayHelp)
     }
 
     // Adds defaults, and looks that nothing required is missing.

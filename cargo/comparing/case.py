@@ -1,0 +1,45 @@
+"""What is run on both builds."""
+
+from dataclasses import dataclass, field
+from enum import Enum
+
+
+class Text(Enum):
+    """How the text of a run is compared."""
+
+    EXACT = "exact"
+    # Help, and what `clap` says of a wrong command line: only which of the two streams is empty is compared.
+    OF_CLAP = "of clap"
+
+
+@dataclass(frozen=True)
+class Outcome:
+    """What a program printed and returned."""
+
+    status: int
+    out: bytes
+    err: bytes
+
+
+@dataclass(frozen=True)
+class Run:
+    """A command line. File names in it are relative to the case's folder."""
+
+    program: str
+    args: tuple[str | bytes, ...]
+    stdin: bytes = b""
+    text: Text = Text.EXACT
+    # Whether standard output takes no bytes.
+    is_full: bool = False
+    # What is known beforehand, by a worked row or by the rules.
+    expected: Outcome | None = None
+
+
+@dataclass(frozen=True)
+class Case:
+    """Command lines over the same files. A name that ends in a slash is that of an empty folder."""
+
+    name: str
+    feature: str
+    files: dict[str, bytes]
+    runs: tuple[Run, ...] = field(default=())

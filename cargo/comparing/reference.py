@@ -1,0 +1,193 @@
+"""What the rules of docs/RULES.md say of a log of batches, by plain lists, and the lines that docs/REPLAY.md makes of it.
+
+It keeps all writes, and has no limit on boundaries. Of a gate that fills it says nothing.
+"""
+
+from bisect import bisect_left, bisect_right
+from collections.abc import Sequence
+from dataclasses import dataclass, field
+
+from .lines import entry_json
+from .wire import Batch, Entry, Range, Reply, Txn, reply_frame
+
+WINDOW = 5_000_000
+MAX_HELD = 1_024
+
+
+class Unspecified(Exception):
+    """The documents leave open what comes of the run."""
+
+
+@dataclass(frozen=True)
+class Answer:
+    version: int
+    # `never` or `held` if there is no reply.
+    reply: Reply | None
+    word: str = ""
+
+
+@dataclass
+class History:
+    """The version that wrote each key last: from each of the keys in order up to the next one."""
+
+    keys: list[bytes] = field(default_factory=lambda: [b""])
+    versions: list[int] = field(default_factory=lambda: [-1])
+
+    def greatest_in(self, of: Range) -> int:
+        """Returns the greatest version in the range, or -1 if the range is empty."""
+        first = bisect_right(self.keys, of.begin) - 1
+        return -1 if of.is_empty else max(self.versions[first : bisect_left(self.keys, of.end)])
+
+    def write(self, of: Range, version: int) -> None:
+        if of.is_empty:
+            return
+        first = bisect_left(self.keys, of.begin)
+        after = bisect_right(self.keys, of.end)
+        last = self.versions[after - 1]
+        self.keys[first:after] = [of.begin, of.end]
+        self.versions[first:after] = [version, last]
+
+
+@dataclass
+class Resolver:
+    window: int = WINDOW
+    version: int = -1
+    history: History = field(default_factory=History)
+    held: list[tuple[int, Batch]] = field(default_factory=list)
+    kept: dict[tuple[int, int], Reply] = field(default_factory=dict)
+    answers: dict[int, list[Answer]] = field(default_factory=dict)
+
+    def admit(self, proxy: int, batch: Batch) -> None:
+        """Takes a batch, and each held one that is due after it."""
+        if batch.previous > self.version:
+            if len(self.held) == MAX_HELD:
+                raise Unspecified("the gate is full")
+            self.held.append((proxy, batch))
+            return
+        self.handle(proxy, batch)
+        while (due := self.next_due()) is not None:
+            self.held.remove(due)
+            self.handle(*due)
+
+    def next_due(self) -> tuple[int, Batch] | None:
+        """Returns the held batch that leaves next: the least previous version first, among equals the earliest arrival."""
+        due = [one for one in self.held if one[1].previous <= self.version]
+        return min(due, key=lambda one: one[1].previous) if due else None
+
+    def handle(self, proxy: int, batch: Batch) -> None:
+        if batch.previous == self.version:
+            self.process(proxy, batch)
+        elif (proxy, batch.version) in self.kept:
+            self.answer(proxy, batch.version, self.kept[proxy, batch.version])
+        else:
+            self.answer(proxy, batch.version, None, "never")
+
+    def process(self, proxy: int, batch: Batch) -> None:
+        reply = self.judge(batch)
+        self.version = batch.version
+        for other, version in list(self.kept):
+            if other == proxy and version <= batch.received:
+                del self.kept[other, version]
+        self.kept[proxy, batch.version] = reply
+        self.answer(proxy, batch.version, reply)
+
+    def answer(self, proxy: int, version: int, reply: Reply | None, word: str = "") -> None:
+        self.answers.setdefault(proxy, []).append(Answer(version, reply, word))
+
+    def judge(self, batch: Batch) -> Reply:
+        edge = max(0, batch.version - self.window)
+        committed: list[Range] = []
+        entries = []
+        for txn in batch.txns:
+            entry = self.verdict(txn, edge, committed)
+            entries.append(entry)
+            if entry.verdict == "committed":
+                committed += txn.writes
+        for written in committed:
+            self.history.write(written, batch.version)
+        return Reply(batch.version, tuple(entries))
+
+    def verdict(self, txn: Txn, edge: int, committed: list[Range]) -> Entry:
+        if txn.reads and txn.snapshot < edge:
+            return Entry("tooold")
+        history = [index for index, read in enumerate(txn.reads) if self.history.greatest_in(read) > txn.snapshot]
+        batch = [index for index, read in enumerate(txn.reads) if any(read.meets(written) for written in committed)]
+        if not history and not batch:
+            return Entry("committed")
+        indices = history or batch[:1]
+        return Entry("conflict", tuple(indices) if txn.report else ())
+
+    def finish(self) -> None:
+        for proxy, batch in self.held:
+            self.answer(proxy, batch.version, None, "held")
+        self.held.clear()
+
+
+def resolve(files: Sequence[Sequence[Batch]], window: int = WINDOW) -> list[list[Answer]]:
+    """Returns the answers to each proxy, sorted by version. The files are read in sequence."""
+    resolver = Resolver(window)
+    for proxy, batches in enumerate(files):
+        for batch in batches:
+            resolver.admit(proxy, batch)
+    resolver.finish()
+    return [sorted(resolver.answers.get(proxy, []), key=lambda one: one.version) for proxy in range(len(files))]
+
+
+def words_of(reply: Reply) -> str:
+    words = [entry.verdict + (":" + ",".join(map(str, entry.indices)) if entry.indices else "") for entry in reply.entries]
+    return " ".join(words) or "empty"
+
+
+
+def line_of(proxy: int, answer: Answer, form: str) -> str:
+    """Returns the line of an answer: in the form `words`, `frames` or `json`."""
+    if form == "json":
+        body = f'"answer":"{answer.word}"'
+        if answer.reply is not None:
+            body = f'"verdicts":[{",".join(entry_json(entry) for entry in answer.reply.entries)}]'
+        return f'{{"proxy":{proxy},"version":{answer.version},{body}}}\n'
+    if answer.reply is None:
+        return f"{proxy} {answer.version} {answer.word}\n"
+    shown = reply_frame(answer.reply).hex() if form == "frames" else words_of(answer.reply)
+    return f"{proxy} {answer.version} {shown}\n"
+
+
+def lines_of(answers: Sequence[Sequence[Answer]], form: str) -> str:
+    return "".join(line_of(proxy, answer, form) for proxy, some in enumerate(answers) for answer in some)
+
+
+def differences_of(expected: Reply, found: Reply) -> list[str]:
+    """Returns how two replies of one version differ."""
+    if len(expected.entries) != len(found.entries):
+        return [f"expected {len(expected.entries)} verdicts, found {len(found.entries)}"]
+    lines = []
+    for index, (ours, theirs) in enumerate(zip(expected.entries, found.entries)):
+        if ours.verdict != theirs.verdict:
+            lines.append(f"{index} expected {ours.verdict}, found {theirs.verdict}")
+        elif ours.indices != theirs.indices:
+            shown = [",".join(map(str, one.indices)) or "none" for one in (ours, theirs)]
+            lines.append(f"{index} places expected {shown[0]} found {shown[1]}")
+    return lines
+
+
+def checked_proxy(answers: Sequence[Answer], recorded: Sequence[Reply]) -> list[str]:
+    """Returns the differences of one proxy, without its number."""
+    left = sorted(recorded, key=lambda reply: reply.version)
+    lines = []
+    for answer in answers:
+        if answer.reply is None:
+            continue
+        found = next((one for one in left if one.version == answer.version), None)
+        if found is None:
+            lines.append(f"{answer.version} missing")
+            continue
+        left.remove(found)
+        lines += [f"{answer.version} {difference}" for difference in differences_of(answer.reply, found)]
+    return lines + [f"{one.version} unexpected" for one in left]
+
+
+def checked(answers: Sequence[Sequence[Answer]], recorded: Sequence[Sequence[Reply]]) -> tuple[str, int]:
+    """Returns the text of a comparison with recorded replies, and the number of differences."""
+    lines = [f"{proxy} {line}\n" for proxy, some in enumerate(answers) for line in checked_proxy(some, recorded[proxy])]
+    count = sum(len(some) for some in answers)
+    return "".join(lines) + f"checked {count} batches, {len(lines)} differences\n", len(lines)

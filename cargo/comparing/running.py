@@ -1,0 +1,125 @@
+"""Runs a case on both builds, and compares what comes of it."""
+
+import re
+import shlex
+import shutil
+import subprocess
+import tempfile
+from dataclasses import dataclass
+from pathlib import Path
+from typing import BinaryIO
+
+from .case import Case, Outcome, Run, Text
+
+LIMIT = 60  # seconds
+SHOWN = 600  # bytes of a text
+CLAP_SPEAKS = ("replay", "batches")
+FAULT = re.compile(rb"^replay: proxy \d+: wire .*\n", re.MULTILINE)
+
+Programs = dict[str, Path]
+
+
+@dataclass(frozen=True)
+class Difference:
+    run: Run
+    # What each side printed, by its name.
+    outcomes: dict[str, Outcome]
+
+
+def played(programs: Programs, run: Run, folder: Path) -> Outcome:
+    """Runs a command line."""
+    with open("/dev/full", "wb") as full:
+        out: BinaryIO | int = full if run.is_full else subprocess.PIPE
+        command = [str(programs[run.program]), *run.args]
+        try:
+            done = subprocess.run(command, input=run.stdin, stdout=out, stderr=subprocess.PIPE, cwd=folder, timeout=LIMIT)
+        except subprocess.TimeoutExpired:
+            return Outcome(-1, b"", f"no end after {LIMIT} seconds".encode())
+    return Outcome(done.returncode, done.stdout or b"", done.stderr)
+
+
+def is_of_clap(run: Run, outcome: Outcome) -> bool:
+    """Whether the text is that of `clap`: help, or a refused command line. `workload` prints its own text."""
+    return run.text is Text.OF_CLAP or (outcome.status == 2 and run.program in CLAP_SPEAKS)
+
+
+def fixed(run: Run, outcome: Outcome) -> Outcome:
+    """Returns what the documents fix of an outcome."""
+    if is_of_clap(run, outcome):
+        return Outcome(outcome.status, b"text" if outcome.out else b"", b"text" if outcome.err else b"")
+    if b"replay: stop " in outcome.err:
+        # After a stop the schedule decides whether a worker still reads its file up to a fault.
+        return Outcome(outcome.status, outcome.out, FAULT.sub(b"", outcome.err))
+    return outcome
+
+
+def differs(run: Run, outcomes: dict[str, Outcome]) -> bool:
+    return len({fixed(run, outcome) for outcome in outcomes.values()}) > 1
+
+
+def write_files(case: Case, folder: Path) -> None:
+    for name, content in case.files.items():
+        path = folder / name
+        if name.endswith("/"):
+            path.mkdir()
+        else:
+            path.write_bytes(content)
+
+
+def compared(case: Case, sides: dict[str, Programs], room: Path) -> list[Difference]:
+    """Runs a case on each side, and returns the runs that differ from each other or from what is expected."""
+    found = []
+    with tempfile.TemporaryDirectory(dir=room) as name:
+        folder = Path(name)
+        write_files(case, folder)
+        for run in case.runs:
+            outcomes = {side: played(programs, run, folder) for side, programs in sides.items()}
+            if run.expected is not None:
+                outcomes["expected"] = run.expected
+            if differs(run, outcomes):
+                found.append(Difference(run, outcomes))
+    return found
+
+
+def command_line(run: Run) -> str:
+    words = [arg if isinstance(arg, str) else arg.decode("utf-8", "backslashreplace") for arg in run.args]
+    return shlex.join([run.program, *words]) + (" < stdin" if run.stdin else "") + (" > /dev/full" if run.is_full else "")
+
+
+def shortened(text: bytes) -> str:
+    front = text[:SHOWN].decode("utf-8", "backslashreplace")
+    return front if len(text) <= SHOWN else f"{front}.. ({len(text)} bytes)"
+
+
+def first_line_apart(outcomes: dict[str, Outcome]) -> str:
+    """Names the first line of standard output in which the sides differ."""
+    texts = [outcome.out.splitlines() for outcome in outcomes.values()]
+    for number in range(max(len(lines) for lines in texts)):
+        if len({lines[number] if number < len(lines) else None for lines in texts}) > 1:
+            return f"  first apart in line {number + 1} of standard output\n"
+    return ""
+
+
+def shown(difference: Difference) -> str:
+    """Returns the text of a difference."""
+    lines = [f"  {command_line(difference.run)}\n", first_line_apart(difference.outcomes)]
+    for side, outcome in difference.outcomes.items():
+        lines.append(f"  {side}: status {outcome.status}\n")
+        for name, text in (("out", outcome.out), ("err", outcome.err)):
+            lines += [f"    {name}: {line}\n" for line in shortened(text).splitlines()]
+    return "".join(lines)
+
+
+def save(case: Case, differences: list[Difference], folder: Path) -> None:
+    """Keeps the inputs of a case and what came of it."""
+    shutil.rmtree(folder, ignore_errors=True)
+    folder.mkdir(parents=True)
+    write_files(case, folder)
+    for number, difference in enumerate(differences):
+        (folder / f"command.{number}").write_text(command_line(difference.run) + "\n")
+        if difference.run.stdin:
+            (folder / f"stdin.{number}").write_bytes(difference.run.stdin)
+        for side, outcome in difference.outcomes.items():
+            (folder / f"{side}.{number}.out").write_bytes(outcome.out)
+            (folder / f"{side}.{number}.err").write_bytes(outcome.err)
+            (folder / f"{side}.{number}.status").write_text(f"{outcome.status}\n")

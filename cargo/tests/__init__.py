@@ -1,0 +1,1 @@
+"""The worked rows, as data."""

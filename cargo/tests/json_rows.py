@@ -1,0 +1,105 @@
+"""Lines of JSON: what `batches encode` makes of them, or why it refuses them."""
+
+# A line, and the member and the cause that the refusal names.
+REFUSED = r'''{ => not JSON
+{"previous":01} => not JSON
+[] => not an object
+7 => not an object
+{} => previous: missing
+{"previous":0} => version: missing
+{"previous":0,"version":1} => transactions: missing
+{"previous":0,"version":1,"transactions":[],"colour":1} => unknown member "colour"
+{"previous":0,"version":1,"transactions":[],"\u00e9\n":1} => unknown member "\xc3\xa9\x0a"
+{"previous":0,"version":1,"transactions":[],"version":1} => doubled member "version"
+{"previous":0,"version":1,"transactions":[{"snapshot":0,"snapshot":0}]} => transactions[0]: doubled member "snapshot"
+{"previous":0,"version":1,"transactions":[{"snapshot":0,"reeds":[]}]} => transactions[0]: unknown member "reeds"
+{"previous":1e2,"version":101,"transactions":[]} => previous: not a whole number of 64 bits
+{"previous":1.0,"version":2,"transactions":[]} => previous: not a whole number of 64 bits
+{"previous":9223372036854775808,"version":2,"transactions":[]} => previous: not a whole number of 64 bits
+{"previous":"0","version":2,"transactions":[]} => previous: not a number
+{"previous":-2,"version":2,"transactions":[]} => previous: below -1
+{"previous":2,"version":2,"transactions":[]} => version: not above the previous version
+{"previous":0,"version":2,"received":-2,"transactions":[]} => received: below -1
+{"previous":0,"version":2,"received":2,"transactions":[]} => received: not below the version
+{"previous":0,"version":2,"received":null,"transactions":[]} => received: not a number
+{"previous":0,"version":1,"transactions":{}} => transactions: not an array
+{"previous":0,"version":1,"transactions":[[]]} => transactions[0]: not an object
+{"previous":0,"version":1,"transactions":[{}]} => transactions[0].snapshot: missing
+{"previous":0,"version":1,"transactions":[{"snapshot":0}]} => transactions[0].reads: missing
+{"previous":0,"version":1,"transactions":[{"snapshot":0,"reads":[]}]} => transactions[0].writes: missing
+{"previous":0,"version":1,"transactions":[{"snapshot":-1,"reads":[],"writes":[]}]} => transactions[0].snapshot: below 0
+{"previous":0,"version":1,"transactions":[{"snapshot":0,"report":1,"reads":[],"writes":[]}]} => transactions[0].report: neither true nor false
+{"previous":0,"version":1,"transactions":[{"snapshot":0,"reads":"a","writes":[]}]} => transactions[0].reads: not an array
+{"previous":0,"version":1,"transactions":[{"snapshot":0,"reads":[7],"writes":[]}]} => transactions[0].reads[0]: neither a key nor a pair of keys
+{"previous":0,"version":1,"transactions":[{"snapshot":0,"reads":["a",["b"]],"writes":[]}]} => transactions[0].reads[1]: neither a key nor a pair of keys
+{"previous":0,"version":1,"transactions":[{"snapshot":0,"reads":[["a","b","c"]],"writes":[]}]} => transactions[0].reads[0]: neither a key nor a pair of keys
+{"previous":0,"version":1,"transactions":[{"snapshot":0,"reads":["a",["b","a"]],"writes":[]}]} => transactions[0].reads[1]: begin is above end
+{"previous":0,"version":1,"transactions":[{"snapshot":0,"reads":[["a",7]],"writes":[]}]} => transactions[0].reads[0][1]: not a string
+{"previous":0,"version":1,"transactions":[{"snapshot":0,"reads":[],"writes":[["é","b"]]}]} => transactions[0].writes[0][0]: character that isn't printable ASCII: write its bytes as \\xNN
+{"previous":0,"version":1,"transactions":[{"snapshot":0,"reads":[],"writes":["a\u0001"]}]} => transactions[0].writes[0]: character that isn't printable ASCII: write its bytes as \\xNN
+{"previous":0,"version":1,"transactions":[{"snapshot":0,"reads":[],"writes":["\u007f"]}]} => transactions[0].writes[0]: character that isn't printable ASCII: write its bytes as \\xNN
+{"previous":0,"version":1,"transactions":[{"snapshot":0,"reads":[],"writes":["\\"]}]} => transactions[0].writes[0]: backslash that begins neither \\\\ nor \\xNN
+{"previous":0,"version":1,"transactions":[{"snapshot":0,"reads":[],"writes":["\\n"]}]} => transactions[0].writes[0]: backslash that begins neither \\\\ nor \\xNN
+{"previous":0,"version":1,"transactions":[{"snapshot":0,"reads":[],"writes":["\\x4"]}]} => transactions[0].writes[0]: backslash that begins neither \\\\ nor \\xNN
+{"previous":0,"version":1,"transactions":[{"snapshot":0,"reads":[],"writes":["\\x4g"]}]} => transactions[0].writes[0]: backslash that begins neither \\\\ nor \\xNN'''
+
+# The same of lines of replies.
+REFUSED_REPLIES = r'''{"version":-1,"verdicts":[]} => version: below 0
+{"version":0,"verdicts":[],"previous":0} => unknown member "previous"
+{"verdicts":[]} => version: missing
+{"version":0} => verdicts: missing
+{"version":0,"verdicts":{}} => verdicts: not an array
+{"version":0,"verdicts":["Committed"]} => verdicts[0]: not "committed", "conflict", "tooold" or an object
+{"version":0,"verdicts":["tooold",2]} => verdicts[1]: not "committed", "conflict", "tooold" or an object
+{"version":0,"verdicts":[{}]} => verdicts[0].conflict: missing
+{"version":0,"verdicts":[{"tooold":[]}]} => verdicts[0]: unknown member "tooold"
+{"version":0,"verdicts":[{"conflict":[],"conflict":[]}]} => verdicts[0]: doubled member "conflict"
+{"version":0,"verdicts":[{"conflict":0}]} => verdicts[0].conflict: not an array
+{"version":0,"verdicts":[{"conflict":[0,0]}]} => verdicts[0].conflict[1]: not a place above the one before it and below 1,024
+{"version":0,"verdicts":[{"conflict":[-1]}]} => verdicts[0].conflict[0]: not a place above the one before it and below 1,024
+{"version":0,"verdicts":[{"conflict":[5,1024]}]} => verdicts[0].conflict[1]: not a place above the one before it and below 1,024
+{"version":0,"verdicts":[{"conflict":[1e2]}]} => verdicts[0].conflict[0]: not a whole number of 64 bits'''
+
+# A line, and the batch that it spells.
+READ = r'''{"previous":-1,"version":0,"transactions":[]} => -1>0
+{"previous":0,"version":100,"received":-1,"transactions":[{"snapshot":0,"report":true,"reads":[["a","b"],"k"],"writes":[["c","d"]]}]} => 0>100: m R[a,b) R[k] W[c,d)
+ { "transactions" : [ { "writes" : [ ] , "reads" : [ ] , "snapshot" : 7 } ] , "version" : 9223372036854775807 , "previous" : 5 , "received" : 6 }  => 5>9223372036854775807 received 6: @7
+{"previous":0,"version":1,"transactions":[{"snapshot":0,"report":false,"reads":[["",""],["a","a\\x00"]],"writes":["","\\\\","\\x5C","\"","\\xfF\\x41 ~"]}]} => 0>1: R[,) R[a] W[] W[\x5c] W[\x5c] W["] W[\xff\x41\x20~]
+{"previous":0,"version":1,"transactions":[{"snapshot":-0,"reads":["\u0061"],"writes":[]}]} => 0>1: R[a]'''
+
+# A line of a reply, and the reply that it spells.
+READ_REPLIES = r'''{"version":0,"verdicts":[]} => 0 empty
+{"version":100,"verdicts":["committed","conflict",{"conflict":[0,2]},"tooold"]} => 100 committed conflict conflict:0,2 tooold
+{"verdicts":[{"conflict":[]},{"conflict":[1023]}],"version":9223372036854775807} => 9223372036854775807 conflict conflict:1023'''
+
+# A line, and the line that `batches decode` makes of its frame.
+WRITTEN = r'''{"version":0,"previous":-1,"transactions":[]} => {"previous":-1,"version":0,"received":-1,"transactions":[]}
+{"previous":0,"version":100,"received":-1,"transactions":[{"snapshot":0,"report":true,"reads":[["a","b"],["k","k\\x00"]],"writes":[["c","d"]]}]} => {"previous":0,"version":100,"received":-1,"transactions":[{"snapshot":0,"report":true,"reads":[["a","b"],"k"],"writes":[["c","d"]]}]}
+{"previous":0,"version":1,"transactions":[{"snapshot":0,"reads":["\\x5c\\x41\\x7F\\xFF\\x20\\x00"],"writes":[["","\\x22"]]}]} => {"previous":0,"version":1,"received":-1,"transactions":[{"snapshot":0,"report":false,"reads":["\\\\A\\x7f\\xff \\x00"],"writes":[["","\""]]}]}'''
+
+# A batch, and its line.
+KEYS = r'''0>1: W[tuple\x20"k"\x20~] => tuple \"k\" ~
+0>1: W[\x5c] => \\\\
+0>1: W[\x5cx41] => \\\\x41
+0>1: W[\x00\x1f\x7f\x80\xff] => \\x00\\x1f\\x7f\\x80\\xff
+0>1: W[\xc3\xa9\x0a] => \\xc3\\xa9\\x0a'''
+
+# Batches, and the table that `batches show` prints of them.
+TABLE = (
+    ("-1>0", '0>100: m R[a,b) R[k] W[c,d) W[\\x00\\x5c]'),
+    """\
+batch -1 > 0, received -1, transactions 0
+batch 0 > 100, received -1, transactions 1
+     0  snapshot 0, report
+        read   "a" .. "b"
+        read   "k"
+        write  "c" .. "d"
+        write  "\\x00\\\\"
+""",
+)
+WIDE = "0>1: R[0123456789012345678901234567890123456789]"
+WIDE_HEAD = "batch 0 > 1, received -1, transactions 1\n     0  snapshot 0\n        read   "
+WIDE_CUT = WIDE_HEAD + '"01234567890123456789012345678..."\n'
+WIDE_FULL = WIDE_HEAD + '"0123456789012345678901234567890123456789"\n'
+REPLY = "100 committed conflict conflict:0,2 tooold"
+REPLY_TABLE = "reply 100, verdicts 4\n     0  committed\n     1  conflict\n     2  conflict 0 2\n     3  too old\n"

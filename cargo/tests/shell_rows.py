@@ -1,0 +1,166 @@
+"""Rows of the command line of `replay`: files by their names, arguments, and what the program prints and returns.
+
+The help and what `clap` says of refused arguments are not here, only that it says something.
+"""
+
+from dataclasses import dataclass
+
+from .rows import FIRST_RUN, SHORT, Parts
+
+# The files of batches.
+BATCHES: dict[str, Parts] = {
+    "first": (FIRST_RUN,),
+    "second": ("100>200: R[a,b) @99",),
+    "third": ("200>300",),
+    "conflict": ("-1>0", "0>100: W[a,b)", "100>101: R[a,b) @99; R[a,b) @100"),
+    "writes": ("-1>0", "0>100: W[a,b)", "100>200: W[c,d) @100"),
+    "cut": ("-1>0", b"\0"),
+    "late": (*(f"{version - 1}>{version}" for version in range(20, 36)), "-1>0"),
+    "empty": (),
+    "--frames": (FIRST_RUN,),
+    "n\u00e4me of words": (FIRST_RUN,),
+}
+
+# The files of replies.
+REPLIES: dict[str, Parts] = {
+    "same": ("100 committed", "0 empty"),
+    "fewer": ("0 empty",),
+    "others": ("50 empty", "0 tooold", "100 tooold"),
+    "nothing": (),
+    "conflicts": ("200 conflict",),
+    "places": ("200 conflict:0,2",),
+    "short": ("0 empty", b"\0"),
+}
+
+
+@dataclass(frozen=True)
+class ShellRow:
+    args: tuple[str | bytes, ...]
+    out: str
+    err: str = ""
+    status: int = 0
+
+
+FIRST = "0 0 empty\n0 100 committed\n"
+
+ANSWERS = (
+    ShellRow(("first",), FIRST),
+    ShellRow(("first", "second"), FIRST + "1 200 conflict\n"),
+    ShellRow(("second", "first"), "0 200 conflict\n1 0 empty\n1 100 committed\n"),
+    ShellRow(("third", "first", "second"), "0 300 empty\n1 0 empty\n1 100 committed\n2 200 conflict\n"),
+    ShellRow(("second", "third"), "0 200 held\n1 300 held\n"),
+    ShellRow(("conflict",), "0 0 empty\n0 100 committed\n0 101 conflict committed\n"),
+    ShellRow(("--window", "1", "conflict"), "0 0 empty\n0 100 committed\n0 101 tooold committed\n"),
+    ShellRow(("writes",), "0 0 empty\n0 100 committed\n0 200 committed\n"),
+    ShellRow(("writes", "--limit", "3"), FIRST, "replay: stop 3 ArenaFull\n", 1),
+    ShellRow(("--frames", "first"), "0 0 0000000b0200000000000000000000\n0 100 0000000e0200000000000000640001020000\n"),
+    ShellRow(("--capacity", "1", "first", "second"), FIRST + "1 200 conflict\n"),
+    ShellRow(("late", *63 * ("empty",)), "0 0 empty\n" + "".join(f"0 {version} held\n" for version in range(20, 36))),
+    ShellRow(
+        ("--json", "first", "second"),
+        '{"proxy":0,"version":0,"verdicts":[]}\n{"proxy":0,"version":100,"verdicts":["committed"]}\n'
+        '{"proxy":1,"version":200,"verdicts":["conflict"]}\n',
+    ),
+    ShellRow(("--", "--frames"), FIRST),
+    ShellRow(("--capacity=+1", "--window", "+1", "first", "--limit=00003"), FIRST),
+    ShellRow(("n\u00e4me of words",), FIRST),
+)
+
+FAILURES = (
+    ShellRow(("none",), "", "replay: proxy 0: cannot open\n", 1),
+    ShellRow(("first", "none"), "", "replay: proxy 1: cannot open\n", 1),
+    ShellRow(("none", "first"), "", "replay: proxy 0: cannot open\n", 1),
+    ShellRow(("first", "second", "none", "third", "nowhere"), "", "replay: proxy 2: cannot open\n", 1),
+    ShellRow(("cut",), "0 0 empty\n", SHORT, 1),
+    ShellRow((".",), "", "replay: proxy 0: wire 12 Read\n", 1),
+    ShellRow(("first", "."), FIRST, "replay: proxy 1: wire 12 Read\n", 1),
+    ShellRow(("",), "", "replay: proxy 0: cannot open\n", 1),
+)
+
+CHECKS = (
+    ShellRow(("--check", "same", "first"), "checked 2 batches, 0 differences\n"),
+    ShellRow(("--check", "same", "first", "--check", "conflicts", "second"), "checked 3 batches, 0 differences\n"),
+    ShellRow(("first", "--check", "fewer"), "0 100 missing\nchecked 2 batches, 1 differences\n", "", 3),
+    ShellRow(
+        ("first", "--check", "others"),
+        "0 0 expected 0 verdicts, found 1\n0 100 0 expected committed, found tooold\n0 50 unexpected\n"
+        "checked 2 batches, 3 differences\n",
+        "",
+        3,
+    ),
+    ShellRow(
+        ("first", "--check", "same", "second", "--check", "places"),
+        "1 200 0 places expected none found 0,2\nchecked 3 batches, 1 differences\n",
+        "",
+        3,
+    ),
+    ShellRow(("second", "--check", "nothing"), "checked 1 batches, 0 differences\n"),
+    ShellRow(("second", "--check", "conflicts"), "0 200 unexpected\nchecked 1 batches, 1 differences\n", "", 3),
+    ShellRow(("first", "--check", "nowhere"), "", "replay: replies 0: cannot open\n", 1),
+    ShellRow(("nowhere", "--check", "nowhere"), "", "replay: proxy 0: cannot open\n", 1),
+    ShellRow(("first", "second", "--check", "same", "--check", "short"), "", "replay: replies 1: wire 1 Short\n", 1),
+    ShellRow(("cut", "--check", "same"), "0 100 unexpected\nchecked 1 batches, 1 differences\n", SHORT, 1),
+)
+
+ROWS = ANSWERS + FAILURES + CHECKS
+
+# Refused with status 2 and a text of `clap` on standard error. Nothing is on standard output.
+REFUSED: tuple[tuple[str | bytes, ...], ...] = (
+    (),
+    ("--frames",),
+    ("--capacity", "0", "first"),
+    ("--capacity", "1025", "first"),
+    ("--capacity", "sixteen", "first"),
+    ("--capacity", "-1", "first"),
+    ("--capacity", "1", "--capacity", "2", "first"),
+    ("--capacity", "", "first"),
+    ("--capacity", "1 ", "first"),
+    ("--capacity", "0x1", "first"),
+    ("--capacity", "99999999999999999999999", "first"),
+    ("--window", "0", "first"),
+    ("--window", "1099511627777", "first"),
+    ("--window", "-9223372036854775809", "first"),
+    ("--window", "1.5", "first"),
+    ("--limit", "0", "first"),
+    ("--limit", "16777217", "first"),
+    ("--limit", "many", "first"),
+    ("first", "--limit"),
+    ("--frames=yes", "first"),
+    ("-x", "first"),
+    ("--none", "first"),
+    ("--Frames", "first"),
+    ("--json", "--frames", "first"),
+    ("--json", "--check", "same", "first"),
+    ("--frames", "--check", "same", "first"),
+    ("--json", "--json", "first"),
+    ("--check", "first"),
+    ("--check", "same", "--check", "same", "first"),
+    ("--check", "same", "first", "second"),
+    65 * ("first",),
+    (b"\xff",),
+    ("first", b"sec\xc3ond"),
+    ("--help", b"\xff"),
+)
+
+# What `workload` prints without arguments, and for mistaken ones.
+USAGE = """\
+usage: workload SHAPE BATCHES TRANSACTIONS
+Writes the frames of one chain of batches to standard output. The same words give the same bytes.
+  SHAPE         skiplisttest or points
+  BATCHES       1 to 65536
+  TRANSACTIONS  1 to 2500, in each batch
+"""
+EXPECTED = "workload: SHAPE (skiplisttest or points), BATCHES (1 to 65536) and TRANSACTIONS (1 to 2500) are expected\n"
+MISTAKEN: tuple[tuple[str | bytes, ...], ...] = (
+    ("circles", "1", "1"),
+    ("points", "0", "1"),
+    ("points", "65537", "1"),
+    ("points", "1", "2501"),
+    ("points", "1"),
+    ("points", "1", "1", "1"),
+    ("", "1", "1"),
+    (b"\xff", "1", "1"),
+)
+
+# Answered with status 0 and a text on standard output. Nothing is on standard error.
+SHOWN: tuple[tuple[str, ...], ...] = (("--help",), ("-h",), ("first", "--help"), ("--version",), ("-V",), ("first", "-V"))

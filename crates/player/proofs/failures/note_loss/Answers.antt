@@ -1,5 +1,0 @@
-use Rattle.player.proofs.Clean.{with_loss-set}
-use Rattle.player.proofs.failures.note_loss.Goals as goal
-
-pub returns : goal.returns
-returns c = record { loss = with_loss-set c.args.failures.now c.args.proxy _ c.requires.known }

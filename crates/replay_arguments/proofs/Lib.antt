@@ -1,0 +1,4 @@
+pub mod Numbers
+pub mod Getters
+pub mod Refusals
+pub mod Openings

@@ -1,0 +1,31 @@
+use Rattle.std.proofs.Common.{◌≡◌, ◌∙◌, ap, ap₂, true}
+use Rattle.std.proofs.lemmas.Result.{IfOk-weaker}
+use Rattle.clap.specs.Words.{App, app_of, with_rule}
+use Rattle.clap.specs.Simple.{app_of_fields}
+use Rattle.replay_arguments.specs.Words.{plain_app, replay_app}
+use Rattle.replay_arguments.proofs.arguments.command.command.Goals as goal
+
+abbrev with_version : App → App
+with_version app = record app { top = record app.top { has_version = true } }
+
+pub returns : goal.returns
+unfolding replay_app
+returns c =
+    let version : app_of c.version.result ≡ with_version (app_of c.new.result) =
+    ap app_of_fields c.version.ensures in
+    let about : app_of c.about.result ≡ app_of c.version.result = ap app_of_fields c.about.ensures in
+    let help : app_of c.after_long_help-command.result ≡ app_of c.about.result =
+    ap app_of_fields c.after_long_help-command.ensures in
+    let plain : app_of c.after_long_help-command.result ≡ with_version plain_app =
+    help ∙ about ∙ version ∙ ap with_version c.new.ensures.app in
+    let one = c.in_ok-arg.ensures.shape c.capacity.ensures.local ∙ ap₂ with_rule plain c.capacity.ensures.rule in
+    let two = c.in_ok-arg-2.ensures.shape c.window.ensures.local ∙ ap₂ with_rule one c.window.ensures.rule in
+    let three = c.in_ok-arg-3.ensures.shape c.limit.ensures.local ∙ ap₂ with_rule two c.limit.ensures.rule in
+    let four = c.in_ok-arg-4.ensures.shape c.frames.ensures.local ∙ ap₂ with_rule three c.frames.ensures.rule in
+    let five = c.in_ok-arg-5.ensures.shape c.json.ensures.local ∙ ap₂ with_rule four c.json.ensures.rule in
+    let six = c.in_ok-arg-6.ensures.shape c.check.ensures.local ∙ ap₂ with_rule five c.check.ensures.rule in
+    record {
+      app = IfOk-weaker c.arg-7.result _ _
+          (λ command added. added.shape c.file.ensures.local ∙ ap₂ with_rule six c.file.ensures.rule)
+          c.arg-7.ensures;
+    }

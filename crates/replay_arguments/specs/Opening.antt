@@ -1,0 +1,24 @@
+-- The opening of the files of a command line. This project's own.
+use Rattle.std.specs.Prelude.{ℕ, ◌<◌, List, ◌++◌, codes, map, length, take, Option, IfSome, slice_get}
+use Rattle.std.specs.List.{All}
+use Rattle.std.specs.Fmt.{decimal}
+use Rattle.replay_arguments.specs.declared.opening.OpeningError.{OpeningError}
+use Rattle.replay_arguments.specs.declared.opening.OpeningError.TheVariants as opening
+use Rattle.replay_output.specs.declared.start.StartError.TheVariants as start
+use Rattle.replay_output.specs.Start.{start_line}
+
+-- the bytes of the files of these names, in their order, one file a name
+abbrev pub contents_each : (List ℕ → Option (List ℕ)) → List (List ℕ) → List (Option (List ℕ))
+contents_each contents names = map contents names
+
+-- The file of this proxy can't be opened, and those of the proxies before it were.
+pub record IsFirstRefused (has_opened cannot_open : List ℕ → Type 0) (names : List (List ℕ)) (proxy : ℕ) :
+    Type 0 where
+  pub inside : proxy < length names
+  pub before : All has_opened (take proxy names)
+  pub refused : IfSome (slice_get names proxy) cannot_open
+
+-- the line of standard error where the files were not opened
+abbrev pub opening_line : OpeningError → List ℕ
+opening_line (opening.CannotOpen proxy) = codes "replay: proxy " ++ decimal proxy ++ codes ": cannot open\n"
+opening_line opening.Memory = start_line start.Memory

@@ -1,0 +1,178 @@
+-- What the words of a command line ask for: the command as `clap` sees it, and what its matches hold.
+use Rattle.std.specs.Prelude.{◌≡◌, ◌≢◌, ◌⊎◌, ℕ, ◌≤◌, pos, Bool, true, List, [], ◌∷◌, codes, false, length, IfSome, Some, is_some, option_map, ⊤}
+use Rattle.std.specs.Str.Parse.{digits_value, signed_digits_value, without_leading_plus}
+use Rattle.clap.specs.Values.{IsSignedIn, IsUnsignedIn, bool_text}
+use Rattle.clap.specs.Words.{App, IsAmong, Kinds, Row, Rule, all_of, fault_of, matches_of, new_app, new_rule, one_of, with_rule}
+use Rattle.clap.specs.declared.builder.action.ArgAction.TheVariants.{Append, SetTrue}
+use Rattle.clap.specs.declared.builder.value_parser.ValueParser.{ValueParser}
+use Rattle.clap.specs.declared.builder.value_parser.ValueParser.TheVariants.{Signed, Unsigned}
+use Rattle.clap.specs.declared.error.kind.ErrorKind.{ErrorKind}
+use Rattle.clap.specs.declared.error.kind.ErrorKind.TheVariants.{DisplayHelp, DisplayVersion, OutOfMemory}
+use Rattle.lane.specs.declared.ends.TheConstants.{MAX_CAPACITY}
+use Rattle.conflict.specs.declared.conflict_set.TheConstants.{MAX_WINDOW}
+use Rattle.stepmap.specs.declared.step_map.TheConstants.{MAX_LIMIT}
+use Rattle.resolver.specs.declared.resolver_core.TheConstants.{MAX_PROXIES}
+use Rattle.replay_output.specs.declared.options.form.Form.{Form}
+use Rattle.replay_output.specs.declared.options.form.Form.TheVariants.{Frames, Json, Kept}
+use Rattle.replay_output.specs.declared.options.Options.{Options}
+use Rattle.replay_arguments.specs.declared.arguments.refusal.Refusal.{Refusal}
+use Rattle.replay_arguments.specs.declared.arguments.refusal.Refusal.TheVariants.{Memory, Refused, Shown}
+
+-- an option `--name N` with this default
+abbrev pub number_rule : List ℕ → List ℕ → ValueParser → Rule
+number_rule name default_text parser = record (new_rule name) {
+  long = Some name;
+  value_names = 1;
+  defaults = default_text ∷ [];
+  parser = Some parser;
+}
+
+abbrev pub capacity_rule : Rule
+capacity_rule = number_rule (codes "capacity") (codes "16") (Unsigned 1 MAX_CAPACITY)
+
+abbrev pub window_rule : Rule
+window_rule = number_rule (codes "window") (codes "5000000") (Signed (pos 1) MAX_WINDOW)
+
+abbrev pub limit_rule : Rule
+limit_rule = number_rule (codes "limit") (codes "1000000") (Unsigned 1 MAX_LIMIT)
+
+abbrev pub frames_rule : Rule
+frames_rule = record (new_rule (codes "frames")) { long = Some (codes "frames"); action = Some SetTrue }
+
+abbrev pub json_rule : Rule
+json_rule = record (new_rule (codes "json")) { long = Some (codes "json"); action = Some SetTrue }
+
+-- an option `--check REPLIES`, any number of times
+abbrev pub check_rule : Rule
+check_rule = record (new_rule (codes "check")) {
+  long = Some (codes "check");
+  value_names = 1;
+  action = Some Append;
+}
+
+-- the files: one word or more, anywhere among the options
+abbrev pub file_rule : Rule
+file_rule = record (new_rule (codes "FILE")) { action = Some Append; required = true }
+
+abbrev pub plain_app : App
+plain_app = new_app (codes "replay")
+
+-- `replay [--capacity N] [--window N] [--limit N] [--frames] [--json] [--check REPLIES].. FILE..`, with `--help` and
+-- `--version`
+unfoldable pub replay_app : App
+replay_app =
+    with_rule (with_rule (with_rule (with_rule (with_rule (with_rule (with_rule (record plain_app {
+      top = record plain_app.top { has_version = true };
+    }) capacity_rule) window_rule) limit_rule) frames_rule) json_rule) check_rule) file_rule
+
+abbrev pub is_frames : Form → Bool
+is_frames Frames = true
+is_frames _ = false
+
+abbrev pub is_json : Form → Bool
+is_json Json = true
+is_json _ = false
+
+abbrev pub is_kept : Form → Bool
+is_kept Kept = true
+is_kept _ = false
+
+-- the form that these switches ask for, of which at most one is on
+abbrev pub IsFormOf : Form → Bool → Bool → Bool → Type 0
+IsFormOf form frames json check = (is_frames form ≡ frames) × (is_json form ≡ json) × (is_kept form ≡ check)
+
+-- what is found for the form: replies are kept exactly where some are named to be checked
+pub record HoldsForm (rows : List Row) (form : Form) : Type 0 where
+  pub frames : one_of (codes "frames") rows ≡ Some (bool_text (is_frames form))
+  pub json : one_of (codes "json") rows ≡ Some (bool_text (is_json form))
+  pub check : is_some (all_of (codes "check") rows) ≡ is_kept form
+
+-- what is found for the numbers
+pub record HoldsNumbers (rows : List Row) (options : Options) : Type 0 where
+  pub capacity : option_map (λ text. digits_value 10 (without_leading_plus text)) (one_of (codes "capacity") rows)
+      ≡ Some options.capacity
+  pub window : option_map (signed_digits_value 10) (one_of (codes "window") rows) ≡ Some options.window
+  pub limit : option_map (λ text. digits_value 10 (without_leading_plus text)) (one_of (codes "limit") rows)
+      ≡ Some options.limit
+
+-- what is found for the options
+pub record HoldsOptions (rows : List Row) (options : Options) : Type 0 where
+  pub numbers : HoldsNumbers rows options
+  pub form : HoldsForm rows options.form
+
+-- the matches of a command line, defaults included
+unfoldable pub rows_of_words : List (List ℕ) → List Row
+rows_of_words = matches_of replay_app
+
+-- the kind of an error by which the user is shown a text that was asked for: help or the version
+abbrev pub IsRequest : ErrorKind → Type 0
+IsRequest kind = (kind ≡ DisplayHelp) ⊎ (kind ≡ DisplayVersion)
+
+-- the kind of an error by which the words are mistaken
+abbrev pub IsMistake : ErrorKind → Type 0
+IsMistake kind = (kind ≢ DisplayHelp) × (kind ≢ DisplayVersion) × (kind ≢ OutOfMemory)
+
+-- the refusal is that of an error of this kind; no other refusal is
+abbrev pub IsRefusalOf : ErrorKind → Refusal → Type 0
+IsRefusalOf kind (Shown text) = IsRequest kind
+IsRefusalOf kind (Refused text) = IsMistake kind
+IsRefusalOf kind Memory = kind ≡ OutOfMemory
+
+-- the refusal is that of words of which `clap` finds these faults; memory may be refused at any words
+abbrev pub IsRefusalBy : Kinds → Refusal → Type 0
+IsRefusalBy kinds (Shown text) = (kind : ErrorKind) × IsAmong kind kinds × IsRequest kind
+IsRefusalBy kinds (Refused text) = (kind : ErrorKind) × IsAmong kind kinds × IsMistake kind
+IsRefusalBy kinds Memory = ⊤
+
+-- what `clap` finds at fault in the words
+unfoldable pub faults_of : List (List ℕ) → Kinds
+faults_of = fault_of replay_app
+
+-- `clap` takes the words
+abbrev pub IsTaken : List (List ℕ) → Type 0
+IsTaken words = faults_of words ≡ []
+
+-- the words ask for help or the version
+abbrev pub AsksForText : List (List ℕ) → Type 0
+AsksForText words = (kind : ErrorKind) × IsAmong kind (faults_of words) × IsRequest kind
+
+-- what is found for an option is of these texts
+abbrev pub Has : (List ℕ → Type 0) → List ℕ → List Row → Type 0
+Has is_text name rows = (text : List ℕ) × (one_of name rows ≡ Some text) × is_text text
+
+-- each number that is found is within its range
+pub record HasNumbers (rows : List Row) : Type 0 where
+  pub capacity : Has (IsUnsignedIn 1 MAX_CAPACITY) (codes "capacity") rows
+  pub window : Has (IsSignedIn (pos 1) MAX_WINDOW) (codes "window") rows
+  pub limit : Has (IsUnsignedIn 1 MAX_LIMIT) (codes "limit") rows
+
+-- some form is found
+abbrev pub HasForm : List Row → Type 0
+HasForm rows = (form : Form) × HoldsForm rows form
+
+-- from 1 to `MAX_PROXIES` files are found
+pub record HasFiles (rows : List Row) : Type 0 where
+  pub names : List (List ℕ)
+  pub found : all_of (codes "FILE") rows ≡ Some names
+  pub least : 1 ≤ length names
+  pub most : length names ≤ MAX_PROXIES
+
+-- as many files of replies are found as there are files
+pub record HasReplies (files : ℕ) (rows : List Row) : Type 0 where
+  pub names : List (List ℕ)
+  pub found : all_of (codes "check") rows ≡ Some names
+  pub as_many : length names ≡ files
+
+-- where replies are to be checked, as many files of them are found as there are files
+abbrev pub HasRepliesEach : List Row → Type 0
+HasRepliesEach rows = is_some (all_of (codes "check") rows) ≡ true
+    → IfSome (all_of (codes "FILE") rows) (λ names. HasReplies (length names) rows)
+
+-- what is found is of no use: two forms, a number out of its range, no files or too many, or other than one file of replies
+-- a file
+abbrev pub IsOfNoUse : List Row → Type 0
+IsOfNoUse rows = (¬ HasForm rows) ⊎ ((¬ HasNumbers rows) ⊎ ((¬ HasFiles rows) ⊎ (¬ HasRepliesEach rows)))
+
+-- The words are mistaken: `clap` finds a mistake, or else what it finds is of no use.
+abbrev pub IsMistaken : List (List ℕ) → Type 0
+IsMistaken words = ((kind : ErrorKind) × IsAmong kind (faults_of words) × IsMistake kind) ⊎ IsOfNoUse (rows_of_words words)

@@ -1,0 +1,181 @@
+//! The words of the command line.
+
+ghost use Rattle.std.specs.Prelude.{◌≡◌, ◌≢◌, ◌≤◌, IfErr, IfOk, IfSome, OnOk, Some, codes, length, map, string_bytes, vec_len};
+ghost use Rattle.clap.specs.Words.{all_of, found_of, rows_of};
+ghost use Rattle.replay_arguments.specs.Words.{AsksForText, HasFiles, HasForm, HasNumbers, HasReplies, HoldsForm, HoldsNumbers, HoldsOptions, IsFormOf, IsMistaken, IsRefusalBy, IsRefusalOf, IsTaken, faults_of, rows_of_words};
+ghost use Rattle.clap.specs.declared.error.kind.ErrorKind.{ErrorKind};
+ghost use Rattle.replay_output.specs.declared.options.form.Form.{Form as FormValue};
+
+use clap::ArgMatches;
+use clap::error::ErrorKind;
+use replay_output::{Form, Options};
+use resolver::MAX_PROXIES;
+use std::alloc::{AllocError, Global};
+
+mod command;
+mod refusal;
+
+pub use refusal::Refusal;
+
+/// What the command line asks for. `Options` keeps its numbers within their ranges.
+#[derive(Debug, Drop)]
+pub struct CommandLine<'a> {
+    /// The names of the files, from 1 to [`MAX_PROXIES`].
+    pub files: Vec<&'a str>,
+    /// The names of the files of replies, one a file where replies are kept to be checked, and else none.
+    pub replies: Vec<&'a str>,
+    pub options: Options,
+}
+
+/// Reads the words of the command line, of which the first is the program's name. An error says how the program ends in place of
+/// replaying, by [`Refusal::end`].
+pub fn read_words<'a>(alloc: Global, words: &'a [String]) -> Result<CommandLine<'a>, Refusal>
+    ensures options { IfOk result (λ line.
+        HoldsOptions (rows_of_words (map string_bytes words.entry.now)) line.options) }
+    ensures files { IfOk result (λ line.
+        all_of (codes "FILE") (rows_of_words (map string_bytes words.entry.now))
+        ≡ Some (map (λ name. name.now) line.files.items)) }
+    ensures least { IfOk result (λ line. 1 ≤ vec_len line.files) }
+    ensures most { IfOk result (λ line. vec_len line.files ≤ MAX_PROXIES) }
+    ensures replies { IfOk result (λ line. line.options.form ≡ Form.Kept
+        → all_of (codes "check") (rows_of_words (map string_bytes words.entry.now))
+        ≡ Some (map (λ name. name.now) line.replies.items)) }
+    ensures as_many { IfOk result (λ line. line.options.form ≡ Form.Kept → vec_len line.replies ≡ vec_len line.files) }
+    ensures taken { OnOk result (IsTaken (map string_bytes words.entry.now)) }
+    ensures shown { (text : _) → result ≡ Err (Refusal.Shown text) → AsksForText (map string_bytes words.entry.now) }
+    ensures refused { (text : _) → result ≡ Err (Refusal.Refused text) → IsMistaken (map string_bytes words.entry.now) }
+{
+    let matches = parse(alloc, words)?;
+    let Some(form) = form_of(&matches) else {
+        let message = "at most one of --frames, --json and --check is wanted";
+        return Err(refuse(alloc, ErrorKind::ArgumentConflict, message)?);
+    };
+    let Some(options) = options_of(&matches, form) else {
+        let message = "a number is out of its range";
+        return Err(refuse(alloc, ErrorKind::ValueValidation, message)?);
+    };
+    let Some(files) = files_of(&matches) else {
+        let message = "from 1 to 64 files are wanted";
+        return Err(refuse(alloc, ErrorKind::TooManyValues, message)?);
+    };
+    let replies = replies_of(alloc, &matches, form, files.len())?;
+    let files = Vec::from_slice(alloc, files)?;
+    Ok(CommandLine {
+        files,
+        replies,
+        options,
+    })
+}
+
+// Refuses words that `clap` has taken.
+fn refuse(alloc: Global, kind: ErrorKind, message: &str) -> Result<Refusal, AllocError>
+    ensures refusal { IfOk result (IsRefusalOf kind) }
+{
+    let error = command::command(alloc)?.error(kind, message)?;
+    Refusal::of_clap(alloc, &error)
+}
+
+fn parse<'a>(alloc: Global, words: &'a [String]) -> Result<ArgMatches<'a>, Refusal>
+    ensures rows { IfOk result (λ matches.
+        rows_of (found_of matches) ≡ rows_of_words (map string_bytes words.entry.now)) }
+    ensures taken { OnOk result (IsTaken (map string_bytes words.entry.now)) }
+    ensures refusal { IfErr result (IsRefusalBy (faults_of (map string_bytes words.entry.now))) }
+{
+    match command::command(alloc)?.try_get_matches_from(words) {
+        Ok(matches) => Ok(matches),
+        Err(error) => Err(Refusal::of_clap(alloc, &error)?),
+    }
+}
+
+// Returns the files, unless there are none or more than [`MAX_PROXIES`].
+fn files_of<'m, 'a>(matches: &'m ArgMatches<'a>) -> Option<&'m [&'a str]>
+    ensures files { IfSome result (λ files. all_of (codes "FILE") (rows_of (found_of matches.entry.now))
+        ≡ Some (map (λ name. name.now) files.now)) }
+    ensures least { IfSome result (λ files. 1 ≤ length files.now) }
+    ensures most { IfSome result (λ files. length files.now ≤ MAX_PROXIES) }
+    ensures none { result ≡ None → ¬ HasFiles (rows_of (found_of matches.entry.now)) }
+{
+    let files = matches.get_strs("FILE")?;
+    if files.is_empty() || files.len() > MAX_PROXIES {
+        return None;
+    }
+    Some(files)
+}
+
+// Returns the files of replies, where replies are kept to be checked, and else none.
+fn replies_of<'a>(
+    alloc: Global,
+    matches: &ArgMatches<'a>,
+    form: Form,
+    files: usize,
+) -> Result<Vec<&'a str>, Refusal>
+    ensures replies { IfOk result (λ replies. form ≡ Form.Kept → all_of (codes "check") (rows_of (found_of matches.now))
+        ≡ Some (map (λ name. name.now) replies.items)) }
+    ensures as_many { IfOk result (λ replies. form ≡ Form.Kept → vec_len replies ≡ files) }
+    ensures shown { (text : _) → result ≢ Err (Refusal.Shown text) }
+    ensures refused { (text : _) → result ≡ Err (Refusal.Refused text)
+        → (form ≡ Form.Kept) × ¬ HasReplies files (rows_of (found_of matches.now)) }
+{
+    if form != Form::Kept {
+        return Ok(Vec::new(alloc));
+    }
+    let Some(names) = named_replies(matches, files) else {
+        let message = "--check REPLIES is wanted once a file";
+        return Err(refuse(alloc, ErrorKind::WrongNumberOfValues, message)?);
+    };
+    Ok(Vec::from_slice(alloc, names)?)
+}
+
+// Returns the files of replies, unless they are another number than there are files.
+fn named_replies<'m, 'a>(matches: &'m ArgMatches<'a>, files: usize) -> Option<&'m [&'a str]>
+    ensures replies { IfSome result (λ replies. all_of (codes "check") (rows_of (found_of matches.entry.now))
+        ≡ Some (map (λ name. name.now) replies.now)) }
+    ensures as_many { IfSome result (λ replies. length replies.now ≡ files) }
+    ensures none { result ≡ None → ¬ HasReplies files (rows_of (found_of matches.entry.now)) }
+{
+    let replies = matches.get_strs("check")?;
+    if replies.len() != files {
+        return None;
+    }
+    Some(replies)
+}
+
+// Returns how answers are to be told, unless two ways are asked for.
+fn form_of(matches: &ArgMatches) -> Option<Form>
+    ensures form { IfSome result (HoldsForm (rows_of (found_of matches.now))) }
+    ensures none { result ≡ None → ¬ HasForm (rows_of (found_of matches.now)) }
+{
+    one_form(
+        matches.get_one("frames")?,
+        matches.get_one("json")?,
+        matches.get_strs("check").is_some(),
+    )
+}
+
+// Returns the form of these switches, of which at most one is on.
+fn one_form(frames: bool, json: bool, check: bool) -> Option<Form>
+    ensures form { IfSome result (λ form. IsFormOf form frames json check) }
+    ensures none { (form : FormValue) → result ≡ None → ¬ IsFormOf form frames json check }
+{
+    match (frames, json, check) {
+        (false, false, false) => Some(Form::Words),
+        (true, false, false) => Some(Form::Frames),
+        (false, true, false) => Some(Form::Json),
+        (false, false, true) => Some(Form::Kept),
+        _ => None,
+    }
+}
+
+// Returns the options with this form, unless a number is out of its range. `clap` refuses such numbers itself.
+fn options_of(matches: &ArgMatches, form: Form) -> Option<Options>
+    ensures numbers { IfSome result (HoldsNumbers (rows_of (found_of matches.now))) }
+    ensures form { IfSome result (λ options. options.form ≡ form) }
+    ensures none { result ≡ None → ¬ HasNumbers (rows_of (found_of matches.now)) }
+{
+    Options::new(
+        matches.get_one("capacity")?,
+        matches.get_one("window")?,
+        matches.get_one("limit")?,
+        form,
+    )
+}

@@ -1,0 +1,119 @@
+//! The command line as `clap` sees it.
+
+ghost use Rattle.std.specs.Prelude.{◌≡◌, IfOk, false};
+ghost use Rattle.clap.specs.Words.{app_of, rule_of};
+ghost use Rattle.replay_arguments.specs.Words.{capacity_rule, check_rule, file_rule, frames_rule, json_rule, limit_rule, number_rule, replay_app, window_rule};
+
+use clap::builder::ValueParser;
+use clap::{Arg, ArgAction, Command};
+use conflict::MAX_WINDOW;
+use lane::MAX_CAPACITY;
+use std::alloc::{AllocError, Global};
+use stepmap::MAX_LIMIT;
+
+/// The version, and the toolchain and the logic that prove it, as `rt version` prints them.
+const VERSION: &str = "0.2.0 (rattle-kit-13f logic dac8208d650f15bf)";
+
+const EXAMPLE: &str =
+    "Example:\n  replay --capacity 1 --frames examples/two_proxies examples/second_proxy";
+
+/// Returns the command of the program.
+pub fn command<'a>(alloc: Global) -> Result<Command<'a>, AllocError>
+    ensures app { IfOk result (λ command. app_of command ≡ replay_app) }
+{
+    let command = Command::new(alloc, "replay")
+        .version(VERSION)
+        .about("Resolves recorded batches of transactions and prints the verdicts")
+        .after_long_help(EXAMPLE);
+    command
+        .arg(capacity(alloc))?
+        .arg(window(alloc))?
+        .arg(limit(alloc))?
+        .arg(frames(alloc))?
+        .arg(json(alloc))?
+        .arg(check(alloc))?
+        .arg(file(alloc))
+}
+
+fn capacity<'a>(alloc: Global) -> Arg<'a>
+    ensures rule { rule_of result ≡ capacity_rule }
+    ensures local { result.global ≡ false }
+{
+    let parser = ValueParser::unsigned(1, MAX_CAPACITY as u64);
+    number(alloc, "capacity", "16", parser).help(
+        "Batches, or answers, that a lane holds at most, from 1 to 1024",
+    )
+}
+
+fn window<'a>(alloc: Global) -> Arg<'a>
+    ensures rule { rule_of result ≡ window_rule }
+    ensures local { result.global ≡ false }
+{
+    let parser = ValueParser::signed(1, MAX_WINDOW);
+    number(alloc, "window", "5000000", parser).help(
+        "Versions that the resolver looks back, from 1 to 1099511627776",
+    )
+}
+
+fn limit<'a>(alloc: Global) -> Arg<'a>
+    ensures rule { rule_of result ≡ limit_rule }
+    ensures local { result.global ≡ false }
+{
+    let parser = ValueParser::unsigned(1, MAX_LIMIT as u64);
+    number(alloc, "limit", "1000000", parser).help(
+        "Boundaries that the conflict set keeps at most, from 1 to 16777216",
+    )
+}
+
+// An option `--name N`.
+fn number<'a>(alloc: Global, name: &'a str, default: &'a str, parser: ValueParser<'a>) -> Arg<'a>
+    ensures rule { rule_of result ≡ number_rule name.entry.now default.entry.now parser.entry }
+    ensures local { result.global ≡ false }
+{
+    Arg::new(alloc, name)
+        .long(name)
+        .value_name("N")
+        .default_value(default)
+        .value_parser(parser)
+}
+
+fn frames<'a>(alloc: Global) -> Arg<'a>
+    ensures rule { rule_of result ≡ frames_rule }
+    ensures local { result.global ≡ false }
+{
+    Arg::new(alloc, "frames")
+        .long("frames")
+        .action(ArgAction::SetTrue)
+        .help("Prints each reply as its frame in hexadecimal, in place of words")
+}
+
+fn json<'a>(alloc: Global) -> Arg<'a>
+    ensures rule { rule_of result ≡ json_rule }
+    ensures local { result.global ≡ false }
+{
+    Arg::new(alloc, "json")
+        .long("json")
+        .action(ArgAction::SetTrue)
+        .help("Prints each answer as a line of JSON")
+}
+
+fn check<'a>(alloc: Global) -> Arg<'a>
+    ensures rule { rule_of result ≡ check_rule }
+    ensures local { result.global ≡ false }
+{
+    Arg::new(alloc, "check")
+        .long("check")
+        .value_name("REPLIES")
+        .action(ArgAction::Append)
+        .help("Compares with the reply frames of another resolver; once a FILE, in order")
+}
+
+fn file<'a>(alloc: Global) -> Arg<'a>
+    ensures rule { rule_of result ≡ file_rule }
+    ensures local { result.global ≡ false }
+{
+    Arg::new(alloc, "FILE")
+        .action(ArgAction::Append)
+        .required(true)
+        .help("Files of batch frames, from 1 to 64; the file at place p is proxy p")
+}

@@ -1,0 +1,81 @@
+//! The files of a command line, opened before anything else is done.
+
+ghost use Rattle.std.specs.Prelude.{◌≡◌, ◌↔◌, ◌<◌, ◌≤◌, ◌⊎◌, ℕ, map, IfOk, IsErr, OnOk};
+ghost use Rattle.std.specs.Io.KnownBytes.{Appends};
+ghost use Rattle.replay_arguments.specs.Opening.{IsFirstRefused, contents_each, opening_line};
+
+use replay_output::{StartError, Status, begin_line, print_start_error};
+use std::alloc::{AllocError, Global};
+use wire::{Failed, Sink, write_all};
+
+mod files;
+
+pub use files::{FileError, Files};
+
+/// Why the files were not opened.
+#[derive(Clone, Copy, Debug, PartialEq, Eq)]
+pub enum OpeningError {
+    /// The file of this proxy can't be opened.
+    CannotOpen(usize),
+    /// Memory was refused.
+    Memory,
+}
+
+impl OpeningError {
+    fn new(proxy: usize, error: FileError) -> Self
+        ensures place { (at : ℕ) → result ≡ OpeningError.CannotOpen at → (at ≡ proxy) × (error ≡ FileError.CannotOpen) }
+        ensures memory { result ≡ OpeningError.Memory → error ≡ FileError.Memory }
+    {
+        match error {
+            FileError::CannotOpen => OpeningError::CannotOpen(proxy),
+            FileError::Memory => OpeningError::Memory,
+        }
+    }
+}
+
+/// Opens the files of these names, of which each is that of the proxy at its place. The first that can't be opened is the error.
+/// A folder opens, and fails when it is read.
+pub fn open_files<F: Files>(
+    alloc: Global,
+    files: &F,
+    names: &[&str],
+) -> Result<Vec<F::Reader>, OpeningError>
+    ensures contents { IfOk result (λ readers.
+        map F.Reader.remaining readers.items ≡ contents_each (F.contents files.now) (map (λ name. name.now) names.now)) }
+    ensures refused { (proxy : ℕ) → result ≡ Err (OpeningError.CannotOpen proxy)
+        → IsFirstRefused (F.has_opened files.now) (F.cannot_open files.now) (map (λ name. name.now) names.now) proxy }
+{
+    let mut readers = Vec::with_capacity(alloc, names.len()).map_err(|_| OpeningError::Memory)?;
+    for (proxy, name) in names.iter().enumerate() {
+        let reader = match files.open(name) {
+            Ok(reader) => reader,
+            Err(error) => return Err(OpeningError::new(proxy, error)),
+        };
+        readers.push(reader).map_err(|_| OpeningError::Memory)?;
+    }
+    Ok(readers)
+}
+
+/// Prints the line of the cause, and returns how the program ends. A failed write changes nothing. Takes no memory.
+pub fn fail_to_open<W: Sink>(error: &mut W, cause: OpeningError) -> Status
+    ensures status { result ≡ Status.Failed }
+    ensures line { (W.failures error.old < W.failures error.new)
+        ⊎ Appends (W.given error.old) (W.given error.new) (opening_line cause) }
+{
+    let _ = print_opening_error(error, cause);
+    Status::Failed
+}
+
+fn print_opening_error<W: Sink>(error: &mut W, cause: OpeningError) -> Result<(), Failed>
+    ensures text { OnOk result (Appends (W.given error.old) (W.given error.new) (opening_line cause)) }
+    ensures failed { IsErr result ↔ (W.failures error.old < W.failures error.new) }
+    ensures least_failures { W.failures error.old ≤ W.failures error.new }
+{
+    match cause {
+        OpeningError::CannotOpen(proxy) => {
+            begin_line(error, proxy)?;
+            write_all(error, b": cannot open\n")
+        }
+        OpeningError::Memory => print_start_error(error, StartError::Memory),
+    }
+}

@@ -1,0 +1,101 @@
+-- Letters are spelled as they are, words so many times, and the text of units is that of one run after another.
+use Rattle.std.specs.Prelude.{◌≡◌, ℕ, zero, suc, ◌+◌, ◌-◌, ◌%◌, ◌<◌, ◌≤◌, List, [], ◌∷◌, ◌++◌, length, take, drop, slice_index_or as get_or, slice_set as set, slice_range, Option}
+use Rattle.std.specs.List.{repeat}
+use Rattle.std.specs.Str.{IsAscii}
+use Rattle.std.specs.Io.KnownBytes.{Appends}
+use Rattle.std.proofs.Math.Seq.{take-length}
+use Rattle.std.proofs.lemmas.List.{take-take, take-append-drop}
+use Rattle.std.proofs.lemmas.List.Concat.{flat_map-append}
+use Rattle.std.proofs.lemmas.List.Folds.{drop_split}
+use Rattle.std.proofs.lemmas.Slice.{between_is}
+use Rattle.std.proofs.Common.{refl, sym, ap, ◌∙◌, subst, append-nil, append_assoc, arith}
+use Rattle.replay_output.specs.declared.line.packed.word.TheConstants.{FIRST_WORD, WORDS}
+use Rattle.replay_output.specs.declared.line.packed.word.Word.{Word}
+use Rattle.replay_output.specs.Packed.{numbered, spelled, spelled_all, times_of, word_of, word_text}
+use Rattle.replay_output.proofs.Known.{Begins, begins_then, begins_within}
+
+spelled_letter : (letter : ℕ) → letter < FIRST_WORD → spelled letter ≡ letter ∷ []
+spelled_letter letter ascii = grind arith
+
+letters : (bytes : List ℕ) → IsAscii bytes → spelled_all bytes ≡ bytes
+letters [] ascii = refl
+letters (byte ∷ bytes) ascii =
+    ap (λ (text : List ℕ). text ++ spelled_all bytes) (spelled_letter byte (ascii 0))
+    ∙ ap (λ (text : List ℕ). byte ∷ text) (letters bytes (λ i. ascii (suc i)))
+
+-- the text after letters are put behind it
+pub with_letters : (units bytes text now : List ℕ) → spelled_all units ≡ text → IsAscii bytes → now ≡ units ++ bytes
+    → spelled_all now ≡ text ++ take (length bytes) bytes
+with_letters units bytes text now is ascii pushed =
+    ap spelled_all pushed
+    ∙ flat_map-append spelled units bytes
+    ∙ ap (λ (front : List ℕ). front ++ spelled_all bytes) is
+    ∙ ap (λ (back : List ℕ). text ++ back) (letters bytes ascii ∙ sym (take-length bytes))
+
+spelled_word : (unit : ℕ) → FIRST_WORD ≤ unit → spelled unit ≡ repeat (times_of unit) (word_text (word_of unit))
+spelled_word unit word = grind arith
+
+repeat_suc : (n : ℕ) (text : List ℕ) → repeat n text ++ text ≡ repeat (suc n) text
+repeat_suc zero text = sym (append-nil text)
+repeat_suc (suc n) text = append_assoc text (repeat n text) text ∙ ap (λ (more : List ℕ). text ++ more) (repeat_suc n text)
+
+-- a text so many times, and once more
+pub repeat_more : (front : List ℕ) (n : ℕ) (text : List ℕ) → (front ++ repeat n text) ++ text ≡ front ++ repeat (n + 1) text
+repeat_more front n text =
+    let more : suc n ≡ n + 1 = omega arith in
+    append_assoc front (repeat n text) text
+    ∙ ap (λ (back : List ℕ). front ++ back) (repeat_suc n text ∙ ap (λ (m : ℕ). repeat m text) more)
+
+-- the unit that stands for the same word once more
+pub once_more : (unit : ℕ) (word : Word) → FIRST_WORD ≤ unit → word_of unit ≡ word
+    → spelled (unit + WORDS) ≡ spelled unit ++ word_text word
+once_more unit word behind is =
+    let times : times_of (unit + WORDS) ≡ times_of unit + 1 = omega arith in
+    let number : (unit + WORDS - FIRST_WORD) % WORDS ≡ (unit - FIRST_WORD) % WORDS = omega arith in
+    let text = word_text (word_of unit) in
+    spelled_word (unit + WORDS) (omega arith)
+    ∙ ap (λ (n : ℕ). repeat (times_of (unit + WORDS)) (word_text (numbered n))) number
+    ∙ ap (λ (n : ℕ). repeat n text) times
+    ∙ sym (repeat_more [] (times_of unit) text)
+    ∙ ap (λ (front : List ℕ). front ++ text) (sym (spelled_word unit behind))
+    ∙ ap (λ (w : Word). spelled unit ++ word_text w) is
+
+-- the text after the last unit is replaced by one that stands for more
+pub with_last_replaced : (units : List ℕ) (i last more : ℕ) (text : List ℕ) → suc i ≡ length units → last ≡ get_or units i last
+    → spelled more ≡ spelled last ++ text → spelled_all (set units i more) ≡ spelled_all units ++ text
+with_last_replaced [] i last more text end is means = absurd (omega arith)
+with_last_replaced (unit ∷ []) zero last more text end is means =
+    append-nil (spelled more) ∙ means ∙ ap (λ (u : ℕ). spelled u ++ text) is
+    ∙ ap (λ (front : List ℕ). front ++ text) (sym (append-nil (spelled unit)))
+with_last_replaced (unit ∷ next ∷ units) zero last more text end is means = absurd (omega arith)
+with_last_replaced (unit ∷ units) (suc i) last more text end is means =
+    ap (λ (back : List ℕ). spelled unit ++ back) (with_last_replaced units i last more text (omega arith) is means)
+    ∙ sym (append_assoc (spelled unit) (spelled_all units) text)
+
+-- what was printed, and then a run
+pub run_printed : (units : List ℕ) (i j : ℕ) → i ≤ j
+    → spelled_all (take i units) ++ spelled_all (slice_range units i j) ≡ spelled_all (take j units)
+run_printed units i j le =
+    let run = slice_range units i j in
+    sym (flat_map-append spelled (take i units) run)
+    ∙ ap (λ (front : List ℕ). spelled_all (front ++ run)) (sym (take-take i j units le))
+    ∙ ap (λ (back : List ℕ). spelled_all (take i (take j units) ++ back)) (between_is units i j)
+    ∙ ap spelled_all (take-append-drop i (take j units))
+
+split_run : (units : List ℕ) (i j : ℕ) → i ≤ j
+    → spelled_all (take i units) ++ (spelled_all (slice_range units i j) ++ spelled_all (drop j units)) ≡ spelled_all units
+split_run units i j le =
+    let run = slice_range units i j in
+    ap (λ (back : List ℕ). spelled_all (take i units) ++ back) (sym (flat_map-append spelled run (drop j units)))
+    ∙ ap (λ (back : List ℕ). spelled_all (take i units) ++ spelled_all back) (sym (drop_split units i j le))
+    ∙ sym (flat_map-append spelled (take i units) (drop i units))
+    ∙ ap spelled_all (take-append-drop i units)
+
+-- the units before a run were printed whole, and of the run a beginning
+pub begins_run : (units : List ℕ) (i j : ℕ) → i ≤ j → (old between new : Option (List ℕ))
+    → Appends old between (spelled_all (take i units)) → Begins between new (spelled_all (slice_range units i j))
+    → Begins old new (spelled_all units)
+begins_run units i j le old between new whole begins =
+    subst (Begins old new) (split_run units i j le)
+    (begins_then old between new _ _ whole
+    (begins_within between new (spelled_all (slice_range units i j)) (spelled_all (drop j units)) begins))

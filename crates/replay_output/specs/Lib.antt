@@ -1,0 +1,6 @@
+-- In reading order.
+pub mod Lines
+pub mod Packed
+pub mod Line
+pub mod Failures
+pub mod Start

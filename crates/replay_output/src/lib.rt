@@ -1,0 +1,24 @@
+//! What a run of the program `replay` prints, and how it ends.
+//!
+//! [`Options`] says how a run is set up, its [`Form`] how answers are printed. [`Line`] is the line of one answer, ready to be
+//! printed. [`print_report`] prints the lines of all answers in order, and then what failed, of each proxy ([`ProxyFailure`]) and of
+//! the run ([`Ending`]). [`fail_to_start`] prints why a run could not start. [`Status`] is how the program ends.
+//!
+//! The texts are defined in `specs/Lines.antt`, `specs/Failures.antt` and `specs/Start.antt`.
+#![tactic(auto)]
+
+mod failures;
+mod line;
+mod options;
+mod report;
+mod start;
+mod status;
+
+pub use failures::{
+    Ending, ProxyFailure, begin_line, fault_text, note_loss, nothing_failed, print_failures,
+};
+pub use line::{Line, PackedText};
+pub use options::{Form, Options};
+pub use report::{PrintError, Report, print_answers, print_report};
+pub use start::{StartError, fail_to_start, print_start_error};
+pub use status::Status;

@@ -1,0 +1,173 @@
+//! The line of one answer.
+
+ghost use Rattle.std.specs.Prelude.{◌≡◌, ◌++◌, IfSome, OnOk, codes, false};
+ghost use Rattle.keyspace.specs.Answer.{version_of_answer};
+ghost use Rattle.replay_output.specs.Lines.{conflict_word, entry_word, words, frame_word, line, outcome, plain_line};
+ghost use Rattle.replay_output.specs.Line.{IsLineOf, answer_of, kept_of, version_of_line};
+
+use crate::options::Form;
+use checking::Versioned;
+use json::print_json;
+use keyspace::{Answer, Entry, Reply, Verdict};
+use packed::Word;
+use std::alloc::Global;
+use std::io;
+use std::io::Write;
+use std::snapshot::Snapshot;
+use wire::encode_reply;
+
+mod json;
+mod packed;
+
+pub use packed::PackedText;
+
+/// The line of an answer to a proxy, ready to be printed, or the reply where it is kept.
+#[derive(Drop)]
+pub struct Line {
+    /// The answer that the line tells of. It has no bytes.
+    pub answer: Snapshot<Answer>,
+    /// The version that lines are sorted by.
+    pub version: i64,
+    /// The text, its newline included. Empty where replies are kept.
+    pub text: PackedText,
+    /// The reply, where replies are kept.
+    pub reply: Option<Reply>,
+}
+
+impl Line {
+    /// Makes the line of an answer to this proxy, in this form.
+    ///
+    /// Returns none where memory is refused, or where the frame exceeds [`MAX_BODY_LENGTH`](wire::MAX_BODY_LENGTH). The right
+    /// reply to a batch that was read doesn't exceed it.
+    pub fn new(alloc: Global, form: Form, proxy: usize, answer: Answer) -> Option<Self>
+        ensures line { IfSome result (IsLineOf form proxy) }
+        ensures answer { IfSome result (λ line. answer_of line ≡ answer) }
+    {
+        let text = text_of(alloc, form, proxy, &answer)?;
+        Some(Line {
+            answer: Snapshot::of(&answer),
+            version: version(&answer),
+            text,
+            reply: kept_of(form, answer),
+        })
+    }
+}
+
+impl Versioned for Line {
+    ghost version_told = { version_of_line };
+
+    fn version(&self) -> i64 {
+        self.version
+    }
+}
+
+// Returns the text of an answer to this proxy.
+fn text_of(alloc: Global, form: Form, proxy: usize, answer: &Answer) -> Option<PackedText>
+    ensures text { IfSome result (λ text. text ≡ line form proxy answer.now) }
+{
+    let mut text = PackedText::new(alloc);
+    match form {
+        Form::Words => print_plain(alloc, &mut text, false, proxy, answer)?,
+        Form::Frames => print_plain(alloc, &mut text, true, proxy, answer)?,
+        Form::Json => print_json(&mut text, proxy, version(answer), answer).ok()?,
+        Form::Kept => {}
+    }
+    Some(text)
+}
+
+// Returns the reply, where it is to be kept.
+fn kept_of(form: Form, answer: Answer) -> Option<Reply>
+    ensures kept { result ≡ kept_of form answer }
+{
+    match (form, answer) {
+        (Form::Kept, Answer::Reply(reply)) => Some(reply),
+        _ => None,
+    }
+}
+
+// Puts the line of words behind the text. With `frames` a reply is told as its frame.
+fn print_plain(
+    alloc: Global,
+    text: &mut PackedText,
+    frames: bool,
+    proxy: usize,
+    answer: &Answer,
+) -> Option<()>
+    ensures text { IfSome result (λ _. text.new ≡ text.old ++ plain_line frames proxy answer.now) }
+{
+    let version = version(answer);
+    write!(text, "{proxy} {version}").ok()?;
+    match answer {
+        Answer::Reply(reply) if frames => print_frame(alloc, text, reply)?,
+        _ => print_outcome(text, answer).ok()?,
+    }
+    text.write_all(b"\n").ok()
+}
+
+fn version(answer: &Answer) -> i64
+    ensures version { result ≡ version_of_answer answer.now }
+{
+    match answer {
+        Answer::Reply(reply) => reply.version,
+        Answer::Never(version) | Answer::Held(version) => *version,
+    }
+}
+
+// Puts a blank and the frame of a reply behind the text, in lower-case hexadecimal. There is room for the end of the line.
+fn print_frame(alloc: Global, text: &mut PackedText, reply: &Reply) -> Option<()>
+    ensures text { IfSome result (λ _. text.new ≡ text.old ++ codes " " ++ frame_word reply.now) }
+{
+    let frame = encode_reply(alloc, reply).ok()?;
+    let word = hex::encode(alloc, frame).ok()?;
+    text.reserve(word.len().saturating_add(2)).ok()?;
+    text.write_all(b" ").ok()?;
+    text.write_all(word.as_bytes()).ok()
+}
+
+// Puts a blank and what became of the batch behind the text.
+fn print_outcome(text: &mut PackedText, answer: &Answer) -> io::Result<()>
+    ensures text { OnOk result (text.new ≡ text.old ++ codes " " ++ outcome false answer.now) }
+{
+    match answer {
+        Answer::Reply(reply) => print_words(text, reply.entries.as_slice()),
+        Answer::Never(_) => text.write_all(b" never"),
+        Answer::Held(_) => text.write_all(b" held"),
+    }
+}
+
+// Puts the words of the entries behind the text, a blank before each.
+fn print_words(text: &mut PackedText, entries: &[Entry]) -> io::Result<()>
+    ensures text { OnOk result (text.new ≡ text.old ++ codes " " ++ words entries.now) }
+{
+    if entries.is_empty() {
+        return text.write_all(b" empty");
+    }
+    for entry in entries {
+        print_word(text, entry)?;
+    }
+    Ok(())
+}
+
+fn print_word(text: &mut PackedText, entry: &Entry) -> io::Result<()>
+    ensures text { OnOk result (text.new ≡ text.old ++ codes " " ++ entry_word entry.now) }
+{
+    match entry.verdict {
+        Verdict::Committed => text.push_word(Word::Committed),
+        Verdict::TooOld => text.push_word(Word::TooOld),
+        Verdict::Conflict => print_conflict(text, entry.places.as_slice()),
+    }
+}
+
+fn print_conflict(text: &mut PackedText, places: &[u16]) -> io::Result<()>
+    ensures text { OnOk result (text.new ≡ text.old ++ codes " " ++ conflict_word places.now) }
+{
+    text.push_word(Word::Conflict)?;
+    let Some((first, rest)) = places.split_first() else {
+        return Ok(());
+    };
+    write!(text, ":{first}")?;
+    for place in rest {
+        write!(text, ",{place}")?;
+    }
+    Ok(())
+}

@@ -1,0 +1,4 @@
+pub mod Replaying
+pub mod Programs
+pub mod ReadingReplies
+pub mod KeptReplies

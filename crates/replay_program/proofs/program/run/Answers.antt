@@ -1,0 +1,101 @@
+use Rattle.std.proofs.Common.{◌∙◌, List, ℕ, Err, ap, map, arith}
+use Rattle.std.specs.Prelude.{string_bytes, IsTrue}
+use Rattle.stepmap.proofs.callers.Booleans.{is_false}
+use Rattle.std.proofs.lemmas.List.{length-map}
+use Rattle.replay_program.specs.Replayed.{written}
+use Rattle.replay_program.proofs.Programs.{ends_by, ends_checked, ends_replayed, not_kept}
+use Rattle.replay_program.proofs.program.run.Goals as goal
+
+pub returns-in-Err : goal.returns-in-Err
+returns-in-Err g c =
+    let files = c.args.files.now in
+    let words : List (List ℕ) = map string_bytes c.args.words.now in
+    let out = written (g.O.Sink.given c.args.out.now) (g.O.Sink.given c.end.new.out)
+    (g.O.Sink.failures c.args.out.now) (g.O.Sink.failures c.end.new.out) in
+    let error = written (g.E.Sink.given c.args.error.now) (g.E.Sink.given c.end.new.error)
+    (g.E.Sink.failures c.args.error.now) (g.E.Sink.failures c.end.new.error) in
+    let end = c.end.ensures in
+    let ends = ends_by (g.F.Files.has_opened files) (g.F.Files.cannot_open files) (g.F.Files.contents files) out error
+    words c.end.result c.in-Err.refusal (λ text is. c.read_words.ensures.shown text (c.in-Err.is ∙ ap Err is)) (λ text is. c.read_words.ensures.refused text (c.in-Err.is ∙ ap Err is))
+    end.shown end.not_shown end.quiet end.refused end.told end.memory end.memory_told in
+    record {
+      done = ends.done;
+      quiet = ends.quiet;
+      failed = ends.failed;
+      mistaken = ends.mistaken;
+      nothing = ends.nothing;
+      usage = ends.usage;
+      differs = ends.differs;
+      quiet_too = ends.quiet_too;
+    }
+
+pub returns-in-Ok : goal.returns-in-Ok
+returns-in-Ok g c =
+    let files = c.args.files.now in
+    let words : List (List ℕ) = map string_bytes c.args.words.now in
+    let line = c.in-Ok.line in
+    let names : List (List ℕ) = map (λ name. name.now) line.files.items in
+    let replies : List (List ℕ) = map (λ name. name.now) line.replies.items in
+    let out = written (g.O.Sink.given c.args.out.now) (g.O.Sink.given c.check_files.new.out)
+    (g.O.Sink.failures c.args.out.now) (g.O.Sink.failures c.check_files.new.out) in
+    let error = written (g.E.Sink.given c.args.error.now) (g.E.Sink.given c.check_files.new.error)
+    (g.E.Sink.failures c.args.error.now) (g.E.Sink.failures c.check_files.new.error) in
+    let checked = c.check_files.ensures in
+    let kept = c.is_kept.ensures.kept.0 c.if-is_kept.true in
+    let ends = ends_checked (g.F.Files.has_opened files) (g.F.Files.cannot_open files) (g.F.Files.contents files) out error
+    words c.check_files.result line.options names replies
+    (record {
+      taken = c.in-Ok.ensures.taken;
+      holds_options = c.in-Ok.ensures.options;
+      holds_names = c.in-Ok.ensures.files;
+      holds_replies = c.in-Ok.ensures.replies kept;
+      least = omega (arith, c.in-Ok.ensures.least, length-map line.files.items (λ name. name.now));
+      most = omega (arith, c.in-Ok.ensures.most, length-map line.files.items (λ name. name.now));
+      as_many = omega (arith, c.in-Ok.ensures.as_many kept, length-map line.files.items (λ name. name.now), length-map line.replies.items (λ name. name.now));
+      kept = kept;
+    })
+    checked.done checked.differs checked.quiet checked.failed checked.ends in
+    record {
+      done = ends.done;
+      quiet = ends.quiet;
+      failed = ends.failed;
+      mistaken = ends.mistaken;
+      nothing = ends.nothing;
+      usage = ends.usage;
+      differs = ends.differs;
+      quiet_too = ends.quiet_too;
+    }
+
+pub returns-in-Ok-2 : goal.returns-in-Ok-2
+returns-in-Ok-2 g c =
+    let files = c.args.files.now in
+    let words : List (List ℕ) = map string_bytes c.args.words.now in
+    let line = c.in-Ok.line in
+    let names : List (List ℕ) = map (λ name. name.now) line.files.items in
+    let out = written (g.O.Sink.given c.args.out.now) (g.O.Sink.given c.replay_files.new.out)
+    (g.O.Sink.failures c.args.out.now) (g.O.Sink.failures c.replay_files.new.out) in
+    let error = written (g.E.Sink.given c.args.error.now) (g.E.Sink.given c.replay_files.new.error)
+    (g.E.Sink.failures c.args.error.now) (g.E.Sink.failures c.replay_files.new.error) in
+    let replayed = c.replay_files.ensures in
+    let no : ¬ IsTrue c.is_kept.result = is_false c.is_kept.result c.if-is_kept.false in
+    let ends = ends_replayed (g.F.Files.has_opened files) (g.F.Files.cannot_open files) (g.F.Files.contents files) out error
+    words c.replay_files.result line.options names
+    (record {
+      taken = c.in-Ok.ensures.taken;
+      holds_options = c.in-Ok.ensures.options;
+      holds_names = c.in-Ok.ensures.files;
+      least = omega (arith, c.in-Ok.ensures.least, length-map line.files.items (λ name. name.now));
+      most = omega (arith, c.in-Ok.ensures.most, length-map line.files.items (λ name. name.now));
+      plain = not_kept line.options.form (λ is. no (c.is_kept.ensures.kept.1 is));
+    })
+    replayed.done replayed.quiet replayed.failed replayed.ends replayed.same in
+    record {
+      done = ends.done;
+      quiet = ends.quiet;
+      failed = ends.failed;
+      mistaken = ends.mistaken;
+      nothing = ends.nothing;
+      usage = ends.usage;
+      differs = ends.differs;
+      quiet_too = ends.quiet_too;
+    }

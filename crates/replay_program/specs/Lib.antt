@@ -1,0 +1,5 @@
+-- In reading order.
+pub mod Checked
+pub mod Replies
+pub mod Replayed
+pub mod Program

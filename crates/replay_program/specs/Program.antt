@@ -1,0 +1,160 @@
+-- How the program ends, beside the words of its command line and the bytes of its files. This project's own.
+use Rattle.std.specs.Prelude.{◌≡◌, ◌≢◌, ◌⊎◌, ℕ, ◌≤◌, false, List, codes, length, Option, Some}
+use Rattle.std.specs.List.{AllZip}
+use Rattle.clap.specs.Words.{all_of}
+use Rattle.keyspace.specs.declared.reply.Reply.{Reply}
+use Rattle.resolver.specs.declared.resolver_core.TheConstants.{MAX_PROXIES}
+use Rattle.replay_arguments.specs.declared.opening.OpeningError.TheVariants as opening
+use Rattle.replay_output.specs.declared.options.form.Form.TheVariants.{Kept}
+use Rattle.replay_output.specs.declared.options.Options.{Options}
+use Rattle.replay_program.specs.declared.check.replies.RepliesError.{RepliesError}
+use Rattle.replay_output.specs.declared.start.StartError.TheVariants as start
+use Rattle.replay_arguments.specs.Opening.{IsFirstRefused, contents_each, opening_line}
+use Rattle.replay_program.specs.Checked.{TakesToCompare, check_lines}
+use Rattle.replay_program.specs.Replayed.{DidNotStart, FailsToPrint, FailsToReplay, HasFailed, IsChecked, IsReplayed, Took, Written}
+use Rattle.replay_program.specs.Replies.{IsCauseOf, IsReplyFile, replies_line}
+use Rattle.replay_output.specs.Start.{start_line}
+use Rattle.replay_arguments.specs.Words.{AsksForText, HoldsOptions, IsTaken, is_kept, rows_of_words}
+
+-- the line was told, or standard error failed
+abbrev pub Told : Written → List ℕ → Type 0
+Told error line = HasFailed error ⊎ Took error line
+
+-- a file can't be opened: nothing was printed, and the first such file was told
+pub record DidNotOpen (has_opened cannot_open : List ℕ → Type 0) (names : List (List ℕ)) (out error : Written) :
+    Type 0 where
+  pub proxy : ℕ
+  pub first : IsFirstRefused has_opened cannot_open names proxy
+  pub nothing_printed : out.after ≡ out.before
+  pub told : Told error (opening_line (opening.CannotOpen proxy))
+
+-- the files of replies were not read: nothing was printed, and the cause was told
+pub record DidNotReadReplies (has_opened cannot_open : List ℕ → Type 0) (contents : List ℕ → Option (List ℕ))
+    (names : List (List ℕ)) (out error : Written) : Type 0 where
+  pub cause : RepliesError
+  pub why : IsCauseOf has_opened cannot_open contents names cause
+  pub nothing_printed : out.after ≡ out.before
+  pub told : Told error (replies_line cause)
+
+-- the files of these names were not replayed, or something failed
+abbrev pub FailsOnFiles : (List ℕ → Type 0) → (List ℕ → Type 0) → (List ℕ → Option (List ℕ)) → Options
+    → List (List ℕ) → Written → Written → Type 0
+FailsOnFiles has_opened cannot_open contents options names out error =
+    DidNotOpen has_opened cannot_open names out error
+    ⊎ FailsToReplay options (contents_each contents names) out error
+
+-- the replies that were read of the files of these names
+abbrev pub AreRecorded : (List ℕ → Option (List ℕ)) → List (List ℕ) → List (List Reply) → Type 0
+AreRecorded contents names recorded = AllZip IsReplyFile (contents_each contents names) recorded
+
+-- the replies were read, and then the program failed
+pub record FailsBeside (contents : List ℕ → Option (List ℕ)) (options : Options) (names replies : List (List ℕ))
+    (out error : Written) : Type 0 where
+  pub recorded : List (List Reply)
+  pub read : AreRecorded contents replies recorded
+  pub failed : FailsToPrint (check_lines recorded) (TakesToCompare recorded) options (contents_each contents names) out error
+
+-- the files of these names were not compared with those of replies, or something failed
+abbrev pub FailsToCheck : (List ℕ → Type 0) → (List ℕ → Type 0) → (List ℕ → Option (List ℕ)) → Options
+    → List (List ℕ) → List (List ℕ) → Written → Written → Type 0
+FailsToCheck has_opened cannot_open contents options names replies out error =
+    DidNotOpen has_opened cannot_open names out error
+    ⊎ (DidNotReadReplies has_opened cannot_open contents replies out error
+    ⊎ (DidNotStart out error ⊎ FailsBeside contents options names replies out error))
+
+-- the words are taken, and ask for a replay of the files of these names with these options
+pub record AsksToReplay (words : List (List ℕ)) (options : Options) (names : List (List ℕ)) : Type 0 where
+  pub taken : IsTaken words
+  pub holds_options : HoldsOptions (rows_of_words words) options
+  pub holds_names : all_of (codes "FILE") (rows_of_words words) ≡ Some names
+  pub least : 1 ≤ length names
+  pub most : length names ≤ MAX_PROXIES
+  pub plain : is_kept options.form ≡ false
+
+-- the words are taken, and ask for a check of the files of these names beside those of replies
+pub record AsksToCheck (words : List (List ℕ)) (options : Options) (names replies : List (List ℕ)) : Type 0 where
+  pub taken : IsTaken words
+  pub holds_options : HoldsOptions (rows_of_words words) options
+  pub holds_names : all_of (codes "FILE") (rows_of_words words) ≡ Some names
+  pub holds_replies : all_of (codes "check") (rows_of_words words) ≡ Some replies
+  pub least : 1 ≤ length names
+  pub most : length names ≤ MAX_PROXIES
+  pub as_many : length replies ≡ length names
+  pub kept : options.form ≡ Kept
+
+-- what is told of words that aren't text
+abbrev pub not_text : List ℕ
+not_text = codes "error: invalid UTF-8 was detected in one or more arguments\n\nUsage: replay [OPTIONS] <FILE>...\n\nFor more information, try '--help'.\n"
+
+-- the words could not be read as text: nothing was printed, and that was told
+abbrev pub HasReadNoText : Written → Written → Type 0
+HasReadNoText out error = (out.after ≡ out.before) × Told error not_text
+
+-- help or the version was asked for, and shown
+abbrev pub HasShown : List (List ℕ) → Written → Type 0
+HasShown words out = AsksForText words × ((text : List ℕ) × Took out text)
+
+-- all that the words ask for was read, resolved and printed
+pub record HasReplayed (contents : List ℕ → Option (List ℕ)) (words : List (List ℕ)) (out : Written) : Type 0 where
+  pub options : Options
+  pub names : List (List ℕ)
+  pub asked : AsksToReplay words options names
+  pub replayed : IsReplayed options (contents_each contents names) out.before out.after
+
+-- the files of these names were resolved and compared with those of replies, and there are so many differences
+pub record ChecksFiles (So_many : ℕ → Type 0) (contents : List ℕ → Option (List ℕ)) (options : Options)
+    (names replies : List (List ℕ)) (before after : Option (List ℕ)) : Type 0 where
+  pub recorded : List (List Reply)
+  pub read : AreRecorded contents replies recorded
+  pub checked : IsChecked So_many recorded options (contents_each contents names) before after
+
+-- all that the words ask for was read, resolved and compared, and there are so many differences
+pub record HasChecked (So_many : ℕ → Type 0) (contents : List ℕ → Option (List ℕ)) (words : List (List ℕ)) (out : Written) :
+    Type 0 where
+  pub options : Options
+  pub names : List (List ℕ)
+  pub replies : List (List ℕ)
+  pub asked : AsksToCheck words options names replies
+  pub checked : ChecksFiles So_many contents options names replies out.before out.after
+
+-- there are differences
+abbrev pub HasDifferences : (List ℕ → Option (List ℕ)) → List (List ℕ) → Written → Type 0
+HasDifferences = HasChecked (λ count. count ≢ 0)
+
+-- The program is done.
+abbrev pub IsDone : (List ℕ → Option (List ℕ)) → List (List ℕ) → Written → Type 0
+IsDone contents words out =
+    HasShown words out ⊎ (HasReplayed contents words out ⊎ HasChecked (λ count. count ≡ 0) contents words out)
+
+-- what the words ask for failed on the files
+pub record HasFailedOnFiles (has_opened cannot_open : List ℕ → Type 0) (contents : List ℕ → Option (List ℕ))
+    (words : List (List ℕ)) (out error : Written) : Type 0 where
+  pub options : Options
+  pub names : List (List ℕ)
+  pub asked : AsksToReplay words options names
+  pub failed : FailsOnFiles has_opened cannot_open contents options names out error
+
+-- what the words ask to be checked failed
+pub record HasFailedToCheck (has_opened cannot_open : List ℕ → Type 0) (contents : List ℕ → Option (List ℕ))
+    (words : List (List ℕ)) (out error : Written) : Type 0 where
+  pub options : Options
+  pub names : List (List ℕ)
+  pub replies : List (List ℕ)
+  pub asked : AsksToCheck words options names replies
+  pub failed : FailsToCheck has_opened cannot_open contents options names replies out error
+
+-- help or the version was asked for, and standard output failed
+abbrev pub HasNotShown : List (List ℕ) → Written → Type 0
+HasNotShown words out = AsksForText words × HasFailed out
+
+-- memory was refused before anything was done
+abbrev pub HasNoMemory : Written → Written → Type 0
+HasNoMemory out error = (out.after ≡ out.before) × Told error (start_line start.Memory)
+
+-- The program has failed.
+abbrev pub IsFailed : (List ℕ → Type 0) → (List ℕ → Type 0) → (List ℕ → Option (List ℕ)) → List (List ℕ)
+    → Written → Written → Type 0
+IsFailed has_opened cannot_open contents words out error =
+    HasNoMemory out error
+    ⊎ (HasNotShown words out ⊎ (HasFailedOnFiles has_opened cannot_open contents words out error
+    ⊎ HasFailedToCheck has_opened cannot_open contents words out error))

@@ -1,0 +1,134 @@
+-- What the program prints, beside the bytes of its files. This project's own.
+use Rattle.std.specs.Prelude.{◌≡◌, ℕ, ◌<◌, ℤ, Bool, if◌then◌else◌, ◌⊎◌, List, length, map, take, Option, None, Some, IfSome, slice_get}
+use Rattle.std.specs.List.{range_with_len}
+use Rattle.std.specs.Io.KnownBytes.{IsAtEnd, Appends}
+use Rattle.keyspace.specs.declared.batch.Batch.{Batch}
+use Rattle.keyspace.specs.declared.answer.Answer.{Answer}
+use Rattle.keyspace.specs.declared.reply.Reply.{Reply}
+use Rattle.keyspace.specs.Chain.{IsChain}
+use Rattle.keyspace.specs.Run.{Step, run, answers, part}
+use Rattle.resolver.specs.declared.stop.Stop.{Stop}
+use Rattle.resolver.specs.Resolver.{TakesOnlyFrom, FinishesLast}
+use Rattle.replay_output.specs.declared.failures.Ending.{Ending}
+use Rattle.replay_output.specs.declared.failures.Ending.TheVariants.{Complete, Incomplete, Stopped}
+use Rattle.replay_output.specs.declared.failures.ProxyFailure.{ProxyFailure}
+use Rattle.replay_output.specs.declared.line.Line.{Line}
+use Rattle.replay_output.specs.declared.options.Options.{Options}
+use Rattle.replay_output.specs.declared.start.StartError.{StartError}
+use Rattle.replay_program.specs.Checked.{check_lines, differences_of}
+use Rattle.replay_output.specs.Failures.{failure_lines, with_loss, NothingFailed}
+use Rattle.replay_output.specs.Line.{TakesToSort, answers_of}
+use Rattle.replay_output.specs.Lines.{lines}
+use Rattle.replay_workers.specs.Run.{IsRun}
+use Rattle.replay_output.specs.Start.{start_line}
+use Rattle.replay_workers.specs.Worker.{TakesFrames}
+
+-- the bytes are the frames of these batches, each once, in order, and nothing else
+pub record IsFileOf (bytes : Option (List ℕ)) (batches : List Batch) : Type 0 where
+  pub left : Option (List ℕ)
+  pub frames : TakesFrames bytes left batches
+  pub at_end : IsAtEnd left
+
+-- what the reference resolver answers by this log, to each of so many proxies
+abbrev pub answers_each : ℤ → List Step → ℕ → List (List Answer)
+answers_each window log proxies = map (answers window log) (range_with_len 0 proxies)
+
+-- All was read and resolved, and what is to be printed of the answers was. There is one log of the reference resolver that
+-- holds the batches of each file once, in order, and no others. What was printed is of its answers, all of them.
+pub record IsReplayedBy (Printed : List (List Answer) → Type 0) (options : Options) (files : List (Option (List ℕ))) :
+    Type 0 where
+  pub log : List Step
+  pub proxies : TakesOnlyFrom (length files) log
+  pub each_file :
+      (proxy : ℕ) (bytes : Option (List ℕ)) → slice_get files proxy ≡ Some bytes →
+      IsFileOf bytes (part log proxy)
+  -- what was processed follows the chain of versions
+  pub chain : IsChain options.window (run options.window log).processed
+  -- no batch is left unanswered
+  pub finish : FinishesLast log
+  pub printed : Printed (answers_each options.window log (length files))
+
+-- all was read, resolved and printed: the text printed is the lines of the answers
+abbrev pub IsReplayed : Options → List (Option (List ℕ)) → Option (List ℕ) → Option (List ℕ) → Type 0
+IsReplayed options files before after =
+    IsReplayedBy (λ answers. Appends before after (lines options.form answers)) options files
+
+-- all was read, resolved and compared: the text printed is the lines of the differences, and there are so many
+abbrev pub IsChecked : (ℕ → Type 0) → List (List Reply) → Options → List (Option (List ℕ)) → Option (List ℕ) → Option (List ℕ)
+    → Type 0
+IsChecked So_many recorded options files before after =
+    IsReplayedBy (λ answers. Appends before after (check_lines recorded answers) × So_many (differences_of recorded answers))
+    options files
+
+-- what became of a writer
+pub record Written : Type 0 where
+  -- the bytes that it was given, where it tells them
+  pub before : Option (List ℕ)
+  pub after : Option (List ℕ)
+  -- how often it had failed, and has failed
+  pub failures_before : ℕ
+  pub failures_after : ℕ
+
+abbrev pub written : Option (List ℕ) → Option (List ℕ) → ℕ → ℕ → Written
+written before after failures_before failures_after = record {
+  before = before;
+  after = after;
+  failures_before = failures_before;
+  failures_after = failures_after;
+}
+
+abbrev pub HasFailed : Written → Type 0
+HasFailed writer = writer.failures_before < writer.failures_after
+
+-- it was given this text
+abbrev pub Took : Written → List ℕ → Type 0
+Took writer text = Appends writer.before writer.after text
+
+-- a beginning of this text, where it still tells its bytes
+abbrev pub TookBeginning : Written → List ℕ → Type 0
+TookBeginning writer text = IfSome writer.after (λ _. (n : ℕ) × Took writer (take n text))
+
+-- how a run ends that is complete or not, and that met a stop or none
+abbrev pub ending_of : Bool → Option Stop → Ending
+ending_of complete None = if complete then Complete else Incomplete
+ending_of complete (Some stop) = Stopped stop
+
+-- the run could not start: nothing was printed, and the cause was told
+pub record DidNotStart (out error : Written) : Type 0 where
+  pub cause : StartError
+  pub nothing_printed : out.after ≡ out.before
+  pub told : HasFailed error ⊎ Took error (start_line cause)
+
+-- the same failures, with the loss of one of so many proxies, for which memory is taken
+abbrev pub IsWithLoss : ℕ → (ℕ → Type 0) → List ProxyFailure → List ProxyFailure → Type 0
+IsWithLoss proxies Takes failures told =
+    (proxy : ℕ) × (proxy < proxies) × Takes proxy × (told ≡ with_loss proxy failures)
+
+-- The files were replayed, and something failed. `told` is what failed, with the loss of a proxy whose lines could not
+-- be sorted, or whose replies could not be compared; then nothing was printed. `text` is what is to be printed of answers, and
+-- `Takes` says of which proxies' lines memory is taken for it.
+pub record RanAndFailed (text : List (List Answer) → List ℕ) (Takes : List (List Line) → ℕ → Type 0) (options : Options)
+    (files : List (Option (List ℕ))) (out error : Written) : Type 0 where
+  pub received : List (List Line)
+  pub failures : List ProxyFailure
+  pub complete : Bool
+  pub stop : Option Stop
+  pub run : IsRun options files received failures complete stop
+  pub told : List ProxyFailure
+  pub failures_told : (told ≡ failures) ⊎ IsWithLoss (length files) (Takes received) failures told
+  pub printed :
+      (HasFailed out × TookBeginning out (text (map answers_of received)))
+      ⊎ (((told ≡ failures) × Took out (text (map answers_of received)))
+      ⊎ (IsWithLoss (length files) (Takes received) failures told × (out.after ≡ out.before)))
+  pub lines_of_failures : HasFailed error ⊎ Took error (failure_lines told (ending_of complete stop))
+  pub why : HasFailed out ⊎ (HasFailed error ⊎ ¬ (NothingFailed told (ending_of complete stop)))
+
+-- the program failed, which was to print this text of the answers, and takes memory for it where `Takes` says so
+abbrev pub FailsToPrint : (List (List Answer) → List ℕ) → (List (List Line) → ℕ → Type 0) → Options
+    → List (Option (List ℕ)) → Written → Written → Type 0
+FailsToPrint text Takes options files out error =
+    DidNotStart out error ⊎ RanAndFailed text Takes options files out error
+
+-- The program failed.
+abbrev pub FailsToReplay : Options → List (Option (List ℕ)) → Written → Written → Type 0
+FailsToReplay options files out error = FailsToPrint (lines options.form) TakesToSort options files out error

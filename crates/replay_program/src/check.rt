@@ -1,0 +1,73 @@
+//! All that follows the opening of the files of a check: their batches are resolved, and the answers compared.
+
+ghost use Rattle.std.specs.Prelude.{◌≡◌, ◌≢◌, ◌≤◌, map, vec_items, vec_len};
+ghost use Rattle.std.specs.Io.KnownBytes.{Keeps};
+ghost use Rattle.replay_program.specs.Replayed.{FailsToPrint, IsChecked, written};
+ghost use Rattle.replay_program.specs.Checked.{TakesToCompare, check_lines};
+ghost use Rattle.replay_output.specs.declared.options.form.Form.TheVariants.{Kept};
+
+use keyspace::Reply;
+use replay_output::{Ending, Options, Status, fail_to_start};
+use replay_workers::{Gatekeeper, Outcome, run};
+use resolver::MAX_PROXIES;
+use std::alloc::Global;
+use std::sync::{Arc, Wait};
+use std::thread::Threads;
+use wire::{Sink, Source};
+
+mod replies;
+mod report;
+
+pub use replies::{RepliesError, fail_to_read_replies, read_replies};
+pub use report::{CheckReport, print_check};
+
+/// Replays the files of these readers as [`replay_over`](crate::replay_over) does, and compares the answers with the replies that
+/// were recorded of each proxy, at its place. Prints a line for each difference and a last line to `out`, and one line a failure to
+/// `error`.
+pub fn check_over<
+    S: Source + Send + Drop + 'static,
+    G: Gatekeeper + Send + Sync + Drop + 'static,
+    R: Threads + Wait + Copy + Send + 'static,
+    O: Sink,
+    E: Sink,
+>(
+    rt: &R,
+    alloc: Global,
+    readers: Vec<S>,
+    recorded: Vec<Vec<Reply>>,
+    options: Options,
+    gatekeeper: &Arc<G, Global>,
+    out: &mut O,
+    error: &mut E,
+) -> Status
+    requires least_files { 1 ≤ vec_len readers }
+    requires most_files { vec_len readers ≤ MAX_PROXIES }
+    requires as_many { vec_len recorded ≡ vec_len readers }
+    requires kept { options.form ≡ Kept }
+    ensures done { result ≡ Status.Done → IsChecked (λ count. count ≡ 0) (map vec_items recorded.items) options
+        (map S.remaining readers.items) (O.given out.old) (O.given out.new) }
+    ensures differs { result ≡ Status.Differs → IsChecked (λ count. count ≢ 0) (map vec_items recorded.items) options
+        (map S.remaining readers.items) (O.given out.old) (O.given out.new) }
+    ensures quiet { result ≢ Status.Failed → Keeps (E.given error.old) (E.given error.new) }
+
+    // Something failed, and its lines were written, or the writer failed.
+    ensures failed { result ≡ Status.Failed
+        → FailsToPrint (check_lines (map vec_items recorded.items)) (TakesToCompare (map vec_items recorded.items))
+        options (map S.remaining readers.items)
+        (written (O.given out.old) (O.given out.new) (O.failures out.old) (O.failures out.new))
+        (written (E.given error.old) (E.given error.new) (E.failures error.old) (E.failures error.new)) }
+    ensures ends { result ≢ Status.Usage }
+{
+    let (outcome, account) = match run(rt, alloc, readers, options, gatekeeper) {
+        Ok(ended) => ended,
+        Err(cause) => return fail_to_start(error, cause),
+    };
+    let Outcome {
+        lines,
+        mut failures,
+        all_sent,
+        ..
+    } = outcome;
+    let ending = Ending::new(account.complete && all_sent, account.stop);
+    print_check(alloc, out, error, lines, recorded, &mut failures, ending).status
+}

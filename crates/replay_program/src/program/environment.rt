@@ -1,0 +1,94 @@
+//! The words of the program's environment.
+
+ghost use Rattle.std.specs.Prelude.{◌≡◌, ◌<◌, ◌⊎◌, ℕ, List};
+ghost use Rattle.std.specs.Io.KnownBytes.{Appends, Keeps};
+ghost use Rattle.replay_program.specs.Program.{HasDifferences, HasNoMemory, HasReadNoText, IsDone, IsFailed, Told, not_text};
+ghost use Rattle.replay_program.specs.Replayed.{written};
+ghost use Rattle.replay_output.specs.Start.{start_line};
+ghost use Rattle.replay_arguments.specs.Words.{IsMistaken};
+
+use super::run;
+use replay_arguments::Files;
+use replay_output::{StartError, Status, fail_to_start};
+use std::alloc::Global;
+use std::rt::Env;
+use std::sync::Wait;
+use std::thread::Threads;
+use std::{env, io};
+use wire::{Sink, write_all};
+
+// Why the words can't be read.
+#[derive(Clone, Copy)]
+enum WordsError {
+    // A word isn't UTF-8. The toolchain opens files by text names alone.
+    NotText,
+    // Memory was refused.
+    Memory,
+}
+
+/// Runs the program on the words of its environment, as [`run`] does. Words that can't be read as text are refused, as mistaken
+/// ones are.
+pub fn run_in<R: Threads + Wait + Copy + Send + 'static, V: Env, F: Files, O: Sink, E: Sink>(
+    rt: &R,
+    alloc: Global,
+    environment: &V,
+    files: &F,
+    out: &mut O,
+    error: &mut E,
+) -> Status
+    ensures done { result ≡ Status.Done → (words : List (List ℕ)) × IsDone (F.contents files.now) words
+        (written (O.given out.old) (O.given out.new) (O.failures out.old) (O.failures out.new)) }
+    ensures quiet { result ≡ Status.Done → Keeps (E.given error.old) (E.given error.new) }
+    ensures differs { result ≡ Status.Differs → (words : List (List ℕ)) × HasDifferences (F.contents files.now) words
+        (written (O.given out.old) (O.given out.new) (O.failures out.old) (O.failures out.new)) }
+    ensures quiet_too { result ≡ Status.Differs → Keeps (E.given error.old) (E.given error.new) }
+    ensures failed { result ≡ Status.Failed → HasNoMemory
+        (written (O.given out.old) (O.given out.new) (O.failures out.old) (O.failures out.new))
+        (written (E.given error.old) (E.given error.new) (E.failures error.old) (E.failures error.new))
+        ⊎ ((words : List (List ℕ)) × IsFailed (F.has_opened files.now) (F.cannot_open files.now) (F.contents files.now) words
+        (written (O.given out.old) (O.given out.new) (O.failures out.old) (O.failures out.new))
+        (written (E.given error.old) (E.given error.new) (E.failures error.old) (E.failures error.new))) }
+    ensures mistaken { result ≡ Status.Usage → HasReadNoText
+        (written (O.given out.old) (O.given out.new) (O.failures out.old) (O.failures out.new))
+        (written (E.given error.old) (E.given error.new) (E.failures error.old) (E.failures error.new))
+        ⊎ ((words : List (List ℕ)) × IsMistaken words) }
+    ensures nothing { result ≡ Status.Usage → O.given out.new ≡ O.given out.old }
+    ensures usage { result ≡ Status.Usage → (text : List ℕ)
+        × Told (written (E.given error.old) (E.given error.new) (E.failures error.old) (E.failures error.new)) text }
+{
+    match command_line(alloc, environment) {
+        Ok(words) => run(rt, alloc, files, &words, out, error),
+        Err(cause) => fail_to_read(error, cause),
+    }
+}
+
+// Returns the words of the command line.
+fn command_line(alloc: Global, environment: &impl Env) -> Result<Vec<String>, WordsError> {
+    let words = env::args(&(environment, alloc)).and_then(|words| Ok(words.collect(alloc)?));
+    words.map_err(|cause| match cause.kind() {
+        io::ErrorKind::OutOfMemory => WordsError::Memory,
+        _ => WordsError::NotText,
+    })
+}
+
+// What is told of words that aren't text, in the form of `clap`'s refusals.
+const NOT_TEXT: &[u8] = b"error: invalid UTF-8 was detected in one or more arguments\n\n\
+    Usage: replay [OPTIONS] <FILE>...\n\nFor more information, try '--help'.\n";
+
+// Prints why the words can't be read, and returns how the program ends. A failed write changes nothing. Takes no memory.
+fn fail_to_read<W: Sink>(error: &mut W, cause: WordsError) -> Status
+    ensures not_text { cause ≡ WordsError.NotText → (result ≡ Status.Usage)
+        × ((W.failures error.old < W.failures error.new)
+        ⊎ Appends (W.given error.old) (W.given error.new) not_text) }
+    ensures memory { cause ≡ WordsError.Memory → (result ≡ Status.Failed)
+        × ((W.failures error.old < W.failures error.new)
+        ⊎ Appends (W.given error.old) (W.given error.new) (start_line StartError.Memory)) }
+{
+    match cause {
+        WordsError::NotText => {
+            let _ = write_all(error, NOT_TEXT);
+            Status::Usage
+        }
+        WordsError::Memory => fail_to_start(error, StartError::Memory),
+    }
+}

@@ -1,0 +1,64 @@
+//! All that follows the opening of the files: their batches are resolved and the answers printed.
+
+ghost use Rattle.std.specs.Prelude.{◌≡◌, ◌≤◌, ◌≢◌, map, vec_len};
+ghost use Rattle.std.specs.Io.KnownBytes.{Keeps};
+ghost use Rattle.replay_program.specs.Replayed.{IsReplayed, FailsToReplay, written};
+
+use replay_output::{Ending, Options, Status, fail_to_start, print_report};
+use replay_workers::{Gatekeeper, Outcome, run};
+use resolver::MAX_PROXIES;
+use std::alloc::Global;
+use std::sync::{Arc, Wait};
+use std::thread::Threads;
+use wire::{Sink, Source};
+
+/// Replays the files of these readers, of which each is that of the proxy at its place. Prints one line an answer to `out`,
+/// sorted, and one line a failure to `error`. After a fault of a file, a failed read included, the lines of the frames before it
+/// still stand, and the other files go on.
+///
+/// A batch that is still held when all files have ended is answered `Held`. After a stop it isn't answered.
+pub fn replay_over<
+    S: Source + Send + Drop + 'static,
+    G: Gatekeeper + Send + Sync + Drop + 'static,
+    R: Threads + Wait + Copy + Send + 'static,
+    O: Sink,
+    E: Sink,
+>(
+    rt: &R,
+    alloc: Global,
+    readers: Vec<S>,
+    options: Options,
+    gatekeeper: &Arc<G, Global>,
+    out: &mut O,
+    error: &mut E,
+) -> Status
+    requires least_files { 1 ≤ vec_len readers }
+    requires most_files { vec_len readers ≤ MAX_PROXIES }
+    // There is one log of the reference resolver that holds the batches of each file once, in order, and nothing
+    // else; the text is the lines of its answers.
+    ensures done { result ≡ Status.Done
+        → IsReplayed options (map S.remaining readers.items) (O.given out.old) (O.given out.new) }
+    ensures quiet { result ≡ Status.Done → Keeps (E.given error.old) (E.given error.new) }
+
+    // Something failed, and its lines were written, or the writer failed.
+    ensures failed { result ≡ Status.Failed → FailsToReplay options (map S.remaining readers.items)
+        (written (O.given out.old) (O.given out.new) (O.failures out.old) (O.failures out.new))
+        (written (E.given error.old) (E.given error.new) (E.failures error.old) (E.failures error.new)) }
+    ensures ends { result ≢ Status.Usage }
+    ensures same { result ≢ Status.Differs }
+{
+    let (outcome, account) = match run(rt, alloc, readers, options, gatekeeper) {
+        Ok(ended) => ended,
+        Err(cause) => return fail_to_start(error, cause),
+    };
+    let Outcome {
+        mut lines,
+        mut failures,
+        all_sent,
+        ..
+    } = outcome;
+    // Without a stop no run leaves a batch unsent: a worker hands one back only where its answers have ended before.
+    // That isn't to be seen in what its lanes were given, so such a run counts as incomplete.
+    let ending = Ending::new(account.complete && all_sent, account.stop);
+    print_report(alloc, out, error, &mut lines, &mut failures, ending).status
+}

@@ -1,0 +1,9 @@
+pub mod callers
+pub mod Reading
+pub mod SameLanes
+pub mod Serving
+pub mod Working
+pub mod Watching
+pub mod Stopping
+pub mod Runs
+pub mod Keeping

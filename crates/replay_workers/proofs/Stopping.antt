@@ -1,0 +1,147 @@
+-- A resolver from turn to turn, with what the stop that it meets tells of its log.
+use Rattle.std.specs.Prelude.{◌≡◌, ℕ, ℤ, ◌<ℤ◌, ◌⊎◌, List, [], ◌∷◌, ◌++◌, length, Option, None, Some, IsSome, IfSome, Result, Ok, Err, OnOk, IfOk, IfErr, is_some}
+use Rattle.std.proofs.Common.{refl, sym, ap, subst, ◌∙◌, inl, inr}
+use Rattle.keyspace.specs.declared.batch.Batch.{Batch}
+use Rattle.keyspace.specs.Run.{Step, Take, Finish, run}
+use Rattle.chain.specs.declared.gate.TheConstants.{MAX_HELD}
+use Rattle.resolver.specs.declared.stop.Stop.{Stop}
+use Rattle.resolver.specs.declared.stop.Stop.TheVariants as resolver
+use Rattle.resolver.specs.declared.turn.Turn.{Turn}
+use Rattle.resolver.specs.declared.turn.Turn.TheVariants as turn
+use Rattle.resolver.specs.Core.{CoreState, Given, GoesOn, StopsAtLimit}
+use Rattle.resolver.specs.Lanes.{sent_to}
+use Rattle.resolver.specs.Resolver.{ResolverState, StandsOver, TakesFrom, Finishes, TakesNoStep, StepsBy}
+use Rattle.resolver.proofs.callers.Standing.{IsIn-standing}
+use Rattle.replay_workers.specs.Stops.{FillsArena, IsStopOf, IsAccountedFor}
+
+pub core_goes_on : (a b c : CoreState) → GoesOn a b → GoesOn b c → GoesOn a c
+core_goes_on a b c first second = record {
+  window = second.window ∙ first.window;
+  limit = second.limit ∙ first.limit;
+  proxies = second.proxies ∙ first.proxies;
+}
+
+-- a resolver that has taken nothing
+pub accounted_new : (r : ResolverState) → StandsOver r [] → r.core.stop ≡ None → IsAccountedFor r
+accounted_new r stands none = record {
+  log = [];
+  stands = stands;
+  met = subst (λ (stop : Option Stop). IfSome stop (IsStopOf r.core.set.map.limit r.core.set.window [])) (sym none) tt;
+}
+
+at_limit : (limit : ℕ) (window : ℤ) (before : List Step) (proxy : ℕ) (batch : Batch) (given : Given) (core : CoreState)
+    → StopsAtLimit limit window proxy batch (run window before) given core
+    → FillsArena limit window (before ++ Take proxy batch ∷ [])
+at_limit limit window before proxy batch given core stops = record {
+  last = record { before = before; proxy = proxy; batch = batch; log_is = refl };
+  exceeds = elim stops [
+    | inl here ↦ inl (record { next = here.next; over = here.exceeds })
+    | inr later ↦ inr (record {
+      turns = later.turns;
+      batch = later.batch;
+      others = later.others;
+      leaves = later.leaves;
+      exceeds = record { next = later.stops.next; over = later.stops.exceeds };
+    })
+  ];
+}
+
+module _ (old new : ResolverState) (goes : GoesOn old.core new.core) where
+  abbrev Met : List Step → Option Stop → Type 0
+  Met log stop = IfSome stop (IsStopOf old.core.set.map.limit old.core.set.window log)
+
+  -- the new one stands for this log, by the window and the limit of the old
+  accounted : (log : List Step) → StandsOver new log → (stop : Option Stop) → new.core.stop ≡ stop → Met log stop
+      → IsAccountedFor new
+  accounted log stands stop is met = record {
+    log = log;
+    stands = stands;
+    met =
+        subst (λ (limit : ℕ). IfSome new.core.stop (IsStopOf limit new.core.set.window log)) (sym goes.limit)
+        (subst (λ (window : ℤ). IfSome new.core.stop (IsStopOf old.core.set.map.limit window log)) (sym goes.window)
+        (subst (Met log) (sym is) met));
+  }
+
+  -- no step, or the last
+  finished_or_none : Finishes old new ⊎ TakesNoStep old new → new.core.stop ≡ None → IsAccountedFor old → IsAccountedFor new
+  finished_or_none (inl step) none before =
+      accounted (before.log ++ Finish ∷ []) (step.adds before.log before.stands) None none tt
+  finished_or_none (inr step) none before =
+      accounted before.log (step.adds before.log before.stands) None none tt
+
+  turned : (t : Turn) → StepsBy t old new → new.core.stop ≡ None → IsAccountedFor old → IsAccountedFor new
+  turned (turn.Took proxy) step none before =
+      accounted (before.log ++ Take proxy step.batch ∷ []) (step.adds before.log before.stands) None none tt
+  turned turn.Idle step none before = finished_or_none step none before
+  turned turn.Done step none before = finished_or_none step none before
+
+  -- the gate's and the arena's stops, as a turn tells them
+  abbrev AtFullGate : Type 0
+  AtFullGate =
+      (proxy : ℕ) × (took : TakesFrom proxy old new)
+      × (old.core.version <ℤ took.batch.previous) × (length old.core.held ≡ MAX_HELD)
+
+  abbrev AtFullArena : List Step → Type 0
+  AtFullArena log =
+      (proxy : ℕ) × (took : TakesFrom proxy old new)
+      × StopsAtLimit old.core.set.map.limit old.core.set.window proxy took.batch
+      (run old.core.set.window log) (sent_to new.lanes) new.core
+
+  stopped_now : (stop : Stop) → new.core.stop ≡ Some stop → old.core.stop ≡ None
+      → ((proxy : ℕ) × TakesFrom proxy old new) ⊎ Finishes old new
+      → (stop ≡ resolver.GateFull → AtFullGate)
+      → (stop ≡ resolver.ArenaFull → (log : List Step) → StandsOver old log → AtFullArena log)
+      → IsAccountedFor old → IsAccountedFor new
+  stopped_now resolver.Memory is was (inl took) gate arena before =
+      accounted (before.log ++ Take took.0 took.1.batch ∷ []) (took.1.adds before.log before.stands)
+      (Some resolver.Memory) is tt
+  stopped_now resolver.Memory is was (inr step) gate arena before =
+      accounted (before.log ++ Finish ∷ []) (step.adds before.log before.stands) (Some resolver.Memory) is tt
+  stopped_now resolver.GateFull is was met gate arena before =
+      let at = gate refl in
+      let state = IsIn-standing old.core.stop before.log (sent_to old.lanes) old.core was before.stands.core in
+      let log = before.log ++ Take at.0 at.1.batch ∷ [] in
+      accounted log (at.1.adds before.log before.stands) (Some resolver.GateFull) is (record {
+        last = record { before = before.log; proxy = at.0; batch = at.1.batch; log_is = refl };
+        ahead = subst (λ (version : ℤ). version <ℤ at.1.batch.previous) state.version at.2;
+        full = ap length (sym state.held) ∙ at.3;
+      })
+  stopped_now resolver.ArenaFull is was met gate arena before =
+      let at = arena refl before.log before.stands in
+      let log = before.log ++ Take at.0 at.1.batch ∷ [] in
+      accounted log (at.1.adds before.log before.stands) (Some resolver.ArenaFull) is
+      (at_limit old.core.set.map.limit old.core.set.window before.log at.0 at.1.batch (sent_to new.lanes)
+      new.core at.2)
+
+  -- after a stop nothing is taken, and the stop is the same
+  stopped_before : (was : Option Stop) → old.core.stop ≡ was → IsSome was → (TakesNoStep old new)
+      → new.core.stop ≡ was → IsAccountedFor old → IsAccountedFor new
+  stopped_before was is some step stays before =
+      accounted before.log (step.adds before.log before.stands) was stays (subst (Met before.log) is before.met)
+
+  erred : (stop : Stop) → (was : Option Stop) → old.core.stop ≡ was → new.core.stop ≡ Some stop
+      → (old.core.stop ≡ None → ((proxy : ℕ) × TakesFrom proxy old new) ⊎ Finishes old new)
+      → (IsSome old.core.stop → TakesNoStep old new)
+      → IfSome was (λ (met : Stop). ◌≡◌ {A = Result Turn Stop} (Err stop) (Err met))
+      → (old.core.stop ≡ None → stop ≡ resolver.GateFull → AtFullGate)
+      → (old.core.stop ≡ None → stop ≡ resolver.ArenaFull → (log : List Step) → StandsOver old log → AtFullArena log)
+      → IsAccountedFor old → IsAccountedFor new
+  erred stop None is now met no_step stays gate arena before =
+      stopped_now stop now is (met is) (gate is) (arena is) before
+  erred stop (Some first) is now met no_step stays gate arena before =
+      let both = stays in
+      let same : stop ≡ first = cc in
+      stopped_before (Some first) is refl (no_step (ap is_some is)) (now ∙ ap (λ (s : Stop). Some s) same) before
+
+  pub accounted_turn : (result : Result Turn Stop) → IfOk result (λ turn. StepsBy turn old new)
+      → IfErr result (λ _. old.core.stop ≡ None → ((proxy : ℕ) × TakesFrom proxy old new) ⊎ Finishes old new)
+      → (IsSome old.core.stop → TakesNoStep old new) → IfErr result (λ stop. new.core.stop ≡ Some stop)
+      → IfSome old.core.stop (λ stop. result ≡ Err stop) → OnOk result (new.core.stop ≡ None)
+      → (old.core.stop ≡ None → result ≡ Err resolver.GateFull → AtFullGate)
+      → (old.core.stop ≡ None → result ≡ Err resolver.ArenaFull → (log : List Step) → StandsOver old log
+      → AtFullArena log)
+      → IsAccountedFor old → IsAccountedFor new
+  accounted_turn (Ok turn) step met no_step now stays none gate arena before = turned turn step none before
+  accounted_turn (Err stop) step met no_step now stays none gate arena before =
+      erred stop old.core.stop refl now met no_step stays (λ was is. gate was (ap Err is))
+      (λ was is. arena was (ap Err is)) before

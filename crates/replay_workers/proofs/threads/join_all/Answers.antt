@@ -1,0 +1,48 @@
+use Rattle.std.proofs.Common.{◌≡◌, [], ◌∷◌, ◌++◌, rules, ap, sym, subst, ◌∙◌, append_assoc, append-nil, arith}
+use Rattle.std.specs.Prelude.{map}
+use Rattle.std.specs.List.{AllZip}
+use Rattle.std.specs.Vec.Iter.{into_iter_items}
+use Rattle.std.proofs.lemmas.Grind.{common_steps}
+use Rattle.replay_workers.specs.Threads.{given_to, HasWorkedOn}
+use Rattle.replay_workers.proofs.callers.Lists.{AllZip-also}
+use Rattle.replay_workers.proofs.Working.{outcome_also}
+use Rattle.replay_workers.proofs.threads.join_all.Goals as goal
+
+pub loop-worker-init : goal.loop-worker-init
+loop-worker-init g c =
+    let items = c.into_iter-worker-iterator.ensures.into_iter_gives in
+    record {
+      joined = ([], [], ap (λ workers. map given_to workers) items.0, tt, c.requires.empty);
+      room = grind (arith, common_steps);
+    }
+
+pub loop-worker-preserved : goal.loop-worker-preserved
+loop-worker-preserved g c =
+    let before = c.loop-worker.invariant.joined in
+    let given = given_to c.in-Some.worker in
+    let rest = into_iter_items c.next.new.self in
+    record {
+      joined = (
+        before.0 ++ given ∷ [],
+        before.1 ++ c.join.result ∷ [],
+        append_assoc before.0 (given ∷ []) (map given_to rest)
+            ∙ ap (λ workers. before.0 ++ map given_to workers) (sym c.in-Some.ensures.steps.0) ∙ before.2,
+        AllZip-also (HasWorkedOn g.S.Source.remaining) before.0 before.1 given c.join.result before.3 c.join.ensures,
+        outcome_also before.1 c.loop-worker.outcome c.push.new.self c.join.result before.4 c.push.ensures.clients
+            c.push.ensures.lines c.push.ensures.failures c.push.ensures.all_sent c.push.ensures.sends_all,
+      );
+      room = grind (arith, common_steps);
+    }
+
+pub returns : goal.returns
+returns g c =
+    let before = c.loop-worker.invariant.joined in
+    let none : into_iter_items c.loop-worker.worker-iterator ≡ [] = first_of (search rules, grind (arith, common_steps)) in
+    let whole = sym (append-nil before.0) ∙ ap (λ workers. before.0 ++ map given_to workers) (sym none) ∙ before.2 in
+    record {
+      worked = (
+        before.1,
+        subst (λ given. AllZip (HasWorkedOn g.S.Source.remaining) given before.1) whole before.3,
+        before.4,
+      );
+    }

@@ -1,0 +1,7 @@
+-- In reading order.
+pub mod Inbox
+pub mod Worker
+pub mod Watch
+pub mod Threads
+pub mod Stops
+pub mod Run

@@ -1,0 +1,82 @@
+-- A run, beside the reference resolver: what was read of each file, and what its proxy was answered. This project's
+-- own.
+use Rattle.std.specs.Prelude.{◌≡◌, ◌≢◌, ℕ, ℤ, Bool, true, false, ◌&&◌, List, [], ◌∷◌, ◌++◌, length, Option, None, Some, IfSome, slice_get}
+use Rattle.std.specs.List.{All}
+use Rattle.std.specs.Io.KnownBytes.{IsAtEnd}
+use Rattle.keyspace.specs.declared.batch.Batch.{Batch}
+use Rattle.keyspace.specs.Chain.{IsChain}
+use Rattle.keyspace.specs.Run.{Step, run, answers, part}
+use Rattle.wire.specs.declared.error.WireError.TheVariants as wire
+use Rattle.wire.specs.NextFrame.{IsFaultOf}
+use Rattle.resolver.specs.declared.client.Client.{Client}
+use Rattle.resolver.specs.declared.stop.Stop.{Stop}
+use Rattle.resolver.specs.declared.turn.Account.{Account}
+use Rattle.resolver.specs.Core.{IsBeginning}
+use Rattle.resolver.specs.Resolver.{TakesOnlyFrom, FinishesLast}
+use Rattle.replay_output.specs.declared.failures.ProxyFailure.{ProxyFailure}
+use Rattle.replay_output.specs.declared.options.form.Form.{Form}
+use Rattle.replay_output.specs.declared.line.Line.{Line}
+use Rattle.replay_output.specs.declared.options.Options.{Options}
+use Rattle.replay_workers.specs.declared.outcome.Outcome.{Outcome}
+use Rattle.replay_output.specs.Line.{answers_of, IsLineOf}
+use Rattle.replay_workers.specs.Stops.{IsStopOf}
+use Rattle.replay_workers.specs.Worker.{TakesFrames}
+
+-- every answer was taken, and every batch that was read was sent
+abbrev pub is_complete : Outcome → Account → Bool
+is_complete outcome account = account.complete && outcome.all_sent
+
+-- the lanes of the client have this capacity
+abbrev pub HasCapacity : ℕ → Client → Type 0
+HasCapacity capacity client = (client.requests.capacity ≡ capacity) × (client.replies.capacity ≡ capacity)
+
+-- What became of one file, whose reader told these bytes, by whether the run is complete and the stop that it met: its
+-- batches and the lines of its proxy, beside those of the reference resolver.
+pub record IsServed (window : ℤ) (form : Form) (log : List Step) (complete : Bool) (stop : Option Stop)
+    (bytes : Option (List ℕ)) (proxy : ℕ) (lines : List Line) (failure : ProxyFailure) : Type 0 where
+  -- these batches were read, from the frames at the front, and these bytes are left
+  pub read : List Batch
+  pub left : Option (List ℕ)
+  pub frames_read : TakesFrames bytes left read
+  -- the log holds them once, in order; where all is complete and no fault was met, all of the file
+  pub batches : IsBeginning (part log proxy) read
+  pub all_batches : complete ≡ true → failure.fault ≡ None → (read ≡ part log proxy) × IsAtEnd left
+  -- a fault other than these two is that of the bytes left
+  pub first_fault : IfSome failure.fault (λ e. e ≢ wire.Memory → e ≢ wire.Read → IfSome left (IsFaultOf e))
+  -- the lines are those of the answers of the reference resolver, in order and once; of all where no stop was met and
+  -- nothing was lost
+  pub received : IsBeginning (answers_of lines) (answers window log proxy)
+  pub all_received : stop ≡ None → failure.lost ≡ false → answers_of lines ≡ answers window log proxy
+  pub lines_told : All (IsLineOf form proxy) lines
+
+-- Of some file, a batch was read that the log doesn't take: it was the last that was read, and could not be sent.
+pub record LeavesBatch (files : List (Option (List ℕ))) (log : List Step) : Type 0 where
+  pub proxy : ℕ
+  pub bytes : Option (List ℕ)
+  pub of_proxy : slice_get files proxy ≡ Some bytes
+  pub batch : Batch
+  pub left : Option (List ℕ)
+  pub read : TakesFrames bytes left (part log proxy ++ batch ∷ [])
+
+-- What became of all files, whose readers told these bytes, beside one log of the reference resolver. `received` and
+-- `failures` are of each proxy, at its number.
+pub record IsRun (options : Options) (files : List (Option (List ℕ))) (received : List (List Line))
+    (failures : List ProxyFailure) (complete : Bool) (stop : Option Stop) : Type 0 where
+  pub log : List Step
+  pub proxies : TakesOnlyFrom (length files) log
+  pub received_count : length received ≡ length files
+  pub failures_count : length failures ≡ length files
+  pub each :
+      (proxy : ℕ) (bytes : Option (List ℕ)) (lines : List Line) (failure : ProxyFailure) →
+      slice_get files proxy ≡ Some bytes → slice_get received proxy ≡ Some lines →
+      slice_get failures proxy ≡ Some failure →
+      IsServed options.window options.form log complete stop bytes proxy lines failure
+  -- what was processed follows the chain of versions
+  pub chain : IsChain options.window (run options.window log).processed
+  -- where no stop was met, no batch is left unanswered
+  pub finish : stop ≡ None → FinishesLast log
+  -- where all is complete, no stop was met; where neither is so, a batch could not be sent
+  pub no_stop : complete ≡ true → stop ≡ None
+  pub incomplete : complete ≡ false → stop ≡ None → LeavesBatch files log
+  -- the stop is that of the log
+  pub met : IfSome stop (IsStopOf options.limit options.window log)

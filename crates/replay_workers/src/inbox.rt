@@ -1,0 +1,105 @@
+//! The answers of one proxy, as its worker takes them.
+
+ghost use Rattle.std.specs.Prelude.{◌≡◌, [], ◌∷◌, ◌++◌, true, false};
+ghost use Rattle.lane.specs.Lane.{HasEnded};
+ghost use Rattle.replay_output.specs.Line.{answer_of, IsLineOf};
+ghost use Rattle.replay_workers.specs.Inbox.{Keeps, InboxGoesOn};
+ghost use Rattle.replay_output.specs.declared.line.Line.{Line as LineOfAnswer};
+
+use crate::gatekeeper::Gatekeeper;
+use crate::pause::pause;
+use keyspace::Answer;
+use lane::{Intake, Taken};
+use replay_output::{Form, Line};
+use std::alloc::Global;
+use std::sync::Wait;
+
+/// Takes the answers of one proxy and keeps their lines.
+#[derive(Drop)]
+pub struct Inbox {
+    pub replies: Intake<Answer>,
+    /// The lines of the answers, in the order taken.
+    pub lines: Vec<Line>,
+    /// The line of an answer could not be kept. Later answers are dropped too.
+    pub lost: bool,
+    pub proxy: usize,
+    /// How answers are told.
+    pub form: Form,
+    alloc: Global,
+    // The place of the next answer. It stops at `u64::MAX`, which no lane comes to.
+    place: u64,
+}
+
+impl Inbox {
+    /// Creates an inbox that has kept nothing.
+    pub fn new(alloc: Global, form: Form, proxy: usize, replies: Intake<Answer>) -> Self
+        ensures replies { result.replies ≡ replies }
+        ensures proxy { result.proxy ≡ proxy }
+        ensures form { result.form ≡ form }
+        ensures lines { Keeps replies.taken result }
+    {
+        Inbox {
+            replies,
+            lines: Vec::new(alloc),
+            lost: false,
+            proxy,
+            form,
+            alloc,
+            place: 0,
+        }
+    }
+
+    /// Takes all answers that have come. Returns whether the lane is at its end.
+    pub fn take_all<G: Gatekeeper, R: Wait>(&mut self, rt: &R, gatekeeper: &G) -> bool
+        ensures inbox { InboxGoesOn self.old self.new }
+        ensures end { result ≡ true → HasEnded self.new.replies }
+    {
+        for _ in rt.forever() {
+            match self.replies.take() {
+                Taken::Item(answer) => {
+                    self.keep(answer);
+                    gatekeeper.answered(self.proxy, self.place);
+                    self.place = self.place.saturating_add(1);
+                }
+                Taken::Empty => return false,
+                Taken::End => return true,
+            }
+        }
+        unreachable!()
+    }
+
+    /// Takes answers until the lane is at its end.
+    pub fn take_to_end<G: Gatekeeper, R: Wait>(&mut self, rt: &R, gatekeeper: &G)
+        ensures inbox { InboxGoesOn self.old self.new }
+        ensures end { HasEnded self.new.replies }
+    {
+        for _ in rt.forever() {
+            if self.take_all(rt, gatekeeper) {
+                return;
+            }
+            pause(rt);
+        }
+        unreachable!()
+    }
+
+    // Keeps the line of an answer, unless one was lost before.
+    fn keep(&mut self, answer: Answer)
+        ensures replies { self.new.replies ≡ self.old.replies }
+        ensures proxy { self.new.proxy ≡ self.old.proxy }
+        ensures form { self.new.form ≡ self.old.form }
+        ensures loss_stays { self.old.lost ≡ true → self.new.lost ≡ true }
+        ensures lost { self.new.lost ≡ true → self.new.lines.items ≡ self.old.lines.items }
+        ensures kept { self.new.lost ≡ false → (line : LineOfAnswer)
+            × (self.new.lines.items ≡ self.old.lines.items ++ line ∷ [])
+            × (answer_of line ≡ answer) × IsLineOf self.old.form self.old.proxy line }
+    {
+        if self.lost {
+            return;
+        }
+        let Some(line) = Line::new(self.alloc, self.form, self.proxy, answer) else {
+            self.lost = true;
+            return;
+        };
+        self.lost = self.lines.push(line).is_err();
+    }
+}

@@ -1,0 +1,113 @@
+//! A run: the workers read, send and take, while this thread turns the resolver.
+
+ghost use Rattle.std.specs.Prelude.{◌≡◌, ℕ, ◌≤◌, true, length, map, vec_items, vec_len, Some, slice_get, IfOk};
+ghost use Rattle.std.specs.List.{All};
+ghost use Rattle.flow.specs.Next.{AllWait, IsNext};
+ghost use Rattle.resolver.specs.declared.resolver_core.TheConstants.{MAX_PROXIES};
+ghost use Rattle.resolver.specs.Core.{GoesOn};
+ghost use Rattle.resolver.specs.Lanes.{Lanes, Each, LanesGoOn};
+ghost use Rattle.resolver.specs.Resolver.{IsResolving, IsThrough};
+ghost use Rattle.replay_workers.specs.Run.{HasCapacity, IsRun, is_complete};
+ghost use Rattle.replay_workers.specs.Stops.{IsAccountedFor};
+
+use crate::gatekeeper::Gatekeeper;
+use crate::outcome::Outcome;
+use crate::threads::{join_all, start_workers};
+use crate::watch::Watch;
+use replay_output::{Options, StartError};
+use resolver::{Account, Resolver, Turn, open};
+use std::alloc::Global;
+use std::sync::{Arc, Wait};
+use std::thread;
+use std::thread::Threads;
+use wire::Source;
+
+/// Runs a worker for each reader, in a thread of its own, and turns the resolver until it is done or has stopped. Returns what
+/// the workers hand back, and the account of the resolver.
+///
+/// Once a thread was started, this one takes no memory but in turns and in starting threads. After an error no thread is joined.
+pub fn run<
+    S: Source + Send + Drop + 'static,
+    G: Gatekeeper + Send + Sync + Drop + 'static,
+    R: Threads + Wait + Copy + Send + 'static,
+>(
+    rt: &R,
+    alloc: Global,
+    readers: Vec<S>,
+    options: Options,
+    gatekeeper: &Arc<G, Global>,
+) -> Result<(Outcome, Account), StartError>
+    requires least_readers { 1 ≤ vec_len readers }
+    requires most_readers { vec_len readers ≤ MAX_PROXIES }
+    ensures run { IfOk result (λ ended. IsRun options (map S.remaining readers.items) (map vec_items ended.0.lines.items)
+        ended.0.failures.items (is_complete ended.0 ended.1) ended.1.stop) }
+    ensures capacity { IfOk result (λ ended. All (HasCapacity options.capacity) ended.0.clients.items) }
+{
+    let proxies = readers.len();
+    let Options {
+        capacity,
+        window,
+        limit,
+        form,
+    } = options;
+    let outcome = Outcome::with_room(alloc, proxies)?;
+    let mut watch = Watch::new(alloc, proxies)?;
+    let (mut resolver, clients) = open(alloc, proxies, capacity, window, limit)?;
+    let workers = start_workers(rt, alloc, form, readers, clients, gatekeeper)?;
+    turn_to_end(rt, &mut resolver, &**gatekeeper, &mut watch);
+    let mut outcome = join_all(rt, workers, outcome);
+    let account = resolver.settle(outcome.clients.as_mut_slice());
+    Ok((outcome, account))
+}
+
+// Turns the resolver until it is done; after a stop, until a turn leaves nothing owed. Where all proxies wait for each other a
+// batch is let through.
+fn turn_to_end<G: Gatekeeper, R: Wait>(
+    rt: &R,
+    resolver: &mut Resolver,
+    gatekeeper: &G,
+    watch: &mut Watch,
+)
+    ensures through { IsThrough resolver.new }
+    ensures closed { (proxy : ℕ) (l : Lanes) → slice_get resolver.new.lanes proxy ≡ Some l → l.replies.closed ≡ true }
+    ensures accounted { IsAccountedFor resolver.old → IsAccountedFor resolver.new }
+    ensures resolving { IsResolving resolver.old → IsResolving resolver.new }
+    ensures goes_on { GoesOn resolver.old.core resolver.new.core }
+    ensures lanes { Each (λ _ l m. LanesGoOn l m) resolver.old.lanes resolver.new.lanes }
+{
+    for _ in rt.forever() {
+        match resolver.turn() {
+            Ok(Turn::Took(_)) => watch.forget(),
+            Ok(Turn::Idle) => {
+                let_through(resolver, gatekeeper, watch);
+                thread::yield_now();
+            }
+            Ok(Turn::Done) => return,
+            Err(_) if resolver.owed() == 0 => return,
+            Err(_) => thread::yield_now(),
+        }
+    }
+    unreachable!()
+}
+
+// Lets the batch of the proxy through that is next, after a turn that took nothing. What all proxies have told twice, with such
+// a turn between, is so at once: none of them has gone on meanwhile, and all that they have sent was taken.
+fn let_through<G: Gatekeeper>(resolver: &Resolver, gatekeeper: &G, watch: &mut Watch)
+    ensures proxies { length watch.new.told ≡ length watch.old.told }
+{
+    if resolver.owed() > 0 {
+        return;
+    }
+    if let Some(proxy) = watch.look(resolver, gatekeeper) {
+        let_next_through(gatekeeper, watch, proxy);
+        watch.forget();
+    }
+}
+
+// Lets the batch of a proxy through, which by the last look is next where all wait for each other.
+fn let_next_through<G: Gatekeeper>(gatekeeper: &G, watch: &Watch, proxy: usize)
+    requires waits { AllWait watch.now.told watch.now.sent }
+    requires next { IsNext watch.now.told proxy }
+{
+    gatekeeper.let_through(proxy);
+}

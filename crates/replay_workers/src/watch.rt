@@ -1,0 +1,98 @@
+//! The watch over proxies that may all wait for each other.
+
+ghost use Rattle.std.specs.Prelude.{◌≡◌, ◌<◌, ◌↔◌, All, length, slice_get, slice_set, IfOk, IfSome, IsTrue, None, Some};
+ghost use Rattle.flow.specs.Next.{AllWait, IsNext, NoneStands};
+ghost use Rattle.replay_workers.specs.Watch.{SeesSent};
+
+use crate::gatekeeper::Gatekeeper;
+use flow::{Told, next_through};
+use resolver::Resolver;
+use std::alloc::{AllocError, Global};
+use std::marker::Model;
+
+/// Keeps what the last look found, of each proxy at its number: what it has told, and how many answers were sent to it.
+#[derive(Drop)]
+pub struct Watch {
+    told: Vec<Told>,
+    sent: Vec<u64>,
+}
+
+impl Model for Watch {
+    ghost use Rattle.std.specs.Prelude.{◌≡◌, vec_len};
+    ghost use Rattle.replay_workers.specs.Watch.{Look};
+
+    ghost Value = { Look };
+
+    ghost view = { λ watch. record { told = watch.told.items; sent = watch.sent.items } };
+
+    ghost invariant = { λ watch. vec_len watch.told ≡ vec_len watch.sent };
+}
+
+impl Watch {
+    /// Creates a watch over so many proxies, of which it knows nothing yet, as after [`forget`](Watch::forget). It takes no memory
+    /// afterwards.
+    pub fn new(alloc: Global, proxies: usize) -> Result<Self, AllocError>
+        ensures proxies { IfOk result (λ watch. length watch.told ≡ proxies) }
+        ensures forgotten { IfOk result (λ watch. All (λ told. told ≡ Told.Goes) watch.told) }
+    {
+        Ok(Watch {
+            told: vec![in alloc; Told::Goes; proxies]?,
+            sent: vec![in alloc; 0; proxies]?,
+        })
+    }
+
+    /// Forgets what the last look found: the next one finds something else, or no proxy that stands.
+    pub fn forget(&mut self)
+        ensures forgotten { All (λ told. told ≡ Told.Goes) self.new.told }
+        ensures proxies { length self.new.told ≡ length self.old.told }
+    {
+        self.told.fill(Told::Goes);
+    }
+
+    /// Looks at all proxies. Returns the one whose batch is to be let through, if the last look has found the same.
+    pub fn look<G: Gatekeeper>(&mut self, resolver: &Resolver, gatekeeper: &G) -> Option<usize>
+        ensures same { IfSome result (λ _. self.new ≡ self.old) }
+        ensures sent { SeesSent resolver.now.lanes self.new }
+        ensures next { IfSome result (λ proxy. AllWait self.new.told self.new.sent × IsNext self.new.told proxy) }
+        ensures none { result ≡ None → self.new ≡ self.old → AllWait self.new.told self.new.sent
+            → NoneStands self.new.told }
+        ensures proxies { length self.new.told ≡ length self.old.told }
+    {
+        if !self.finds_the_same(resolver, gatekeeper) {
+            return None;
+        }
+        next_through(&self.told, &self.sent)
+    }
+
+    // Looks at all proxies, and returns whether the last look has found the same.
+    fn finds_the_same<G: Gatekeeper>(&mut self, resolver: &Resolver, gatekeeper: &G) -> bool
+        ensures same { IsTrue result ↔ (self.new ≡ self.old) }
+        ensures sent { SeesSent resolver.now.lanes self.new }
+        ensures proxies { length self.new.told ≡ length self.old.told }
+    {
+        let mut is_same = true;
+        for proxy in 0..self.told.len() {
+            let told = gatekeeper.told(proxy);
+            let sent = resolver.sent(proxy);
+            if !self.keep(proxy, told, sent) {
+                is_same = false;
+            }
+        }
+        is_same
+    }
+
+    // Keeps what is found of the proxy, and returns whether the last look has found the same.
+    fn keep(&mut self, proxy: usize, told: Told, sent: u64) -> bool
+        requires inside { proxy < length self.old.told }
+        ensures counts { length self.old.told ≡ length self.old.sent }
+        ensures told { self.new.told ≡ slice_set self.old.told proxy told }
+        ensures sent { self.new.sent ≡ slice_set self.old.sent proxy sent }
+        ensures same { IsTrue result ↔ ((slice_get self.old.told proxy ≡ Some told)
+            × (slice_get self.old.sent proxy ≡ Some sent)) }
+    {
+        let is_same = self.told[proxy] == told && self.sent[proxy] == sent;
+        self.told[proxy] = told;
+        self.sent[proxy] = sent;
+        is_same
+    }
+}
