@@ -92,7 +92,7 @@ class RoundsOfPrograms(unittest.TestCase):
         names = ['replay', 'art', 'btree', 'bplus']
         orders = [rounds.order_of(names, number) for number in range(10)]
         self.assertEqual(orders, [rounds.order_of(names, number) for number in range(10)])
-        self.assertGreater(len(set(map(tuple, orders))), 5)
+        self.assertGreater(len({tuple(order) for order in orders}), 5)
         self.assertTrue(all(sorted(order) == sorted(names) for order in orders))
 
     def test_a_difference_names_workload_program_and_line(self) -> None:

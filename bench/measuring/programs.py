@@ -11,16 +11,16 @@ from measuring import OUT, TOP
 
 BASELINES = TOP / 'bench' / 'baselines'
 X86_64 = platform.machine() == 'x86_64'
-CXX_FLAGS = ['-std=c++17', '-O3', '-Wall', '-Wextra', *(['-march=x86-64-v2'] if X86_64 else [])]
+CXX_FLAGS = ['-std=c++17', '-O3', '-Wall', '-Wextra'] + (['-march=x86-64-v2'] if X86_64 else [])
 RUST_FLAGS = '-Ctarget-cpu=x86-64-v2' if X86_64 else ''
 # Names, sources and definitions of the programs in C++. `art` uses SSE2.
-CXX_PROGRAMS = {
+CXX_PROGRAMS: dict[str, tuple[str, list[str]]] = {
     'skiplist': ('skiplist', []),
     'skiplist-tuned': ('skiplist', ['-DTUNED']),
     **({'art': ('art', [])} if X86_64 else {}),
 }
 RUST_PROGRAMS = ('btree', 'bplus')
-NAMES = ('replay', *CXX_PROGRAMS, *RUST_PROGRAMS)
+NAMES: tuple[str, ...] = ('replay', *CXX_PROGRAMS, *RUST_PROGRAMS)
 
 
 @dataclass(frozen=True)

@@ -46,8 +46,8 @@ class Results:
     def row(self, workload: str, program: str) -> Row | None:
         """Returns the row of a program, or of the faster skip list."""
         names = SKIP_LISTS if program == 'skiplist' else (program,)
-        found = [row for name in names if (row := self.rows.get((workload, name))) is not None]
-        return min(found, key=lambda row: row.seconds, default=None)
+        found = [self.rows[workload, name] for name in names if (workload, name) in self.rows]
+        return min(found, key=lambda row: row.seconds) if found else None
 
     def workloads(self, prefix: str = '') -> list[str]:
         """Returns the measured workloads whose names begin so, in the order of the file."""
