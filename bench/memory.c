@@ -1,3 +1,4 @@
+// SPDX-License-Identifier: Apache-2.0
 // Measures the memory of a set per boundary, and that of the replies that a core keeps.
 //
 //     memory boundaries random|rising range|single KEY_BYTES BATCHES

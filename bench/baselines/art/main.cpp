@@ -2,6 +2,7 @@
 // art [--latency] FILE: prints the verdicts of each batch, or the nanoseconds that each batch took.
 #include "batch.h"
 #include <chrono>
+#include <cstdio>
 #include <fcntl.h>
 #include <unistd.h>
 

@@ -9,7 +9,6 @@
 #pragma once
 #include "wire.h"
 #include <cstddef>
-#include <cstdio>
 #include <cstdlib>
 #include <new>
 #include <string>
