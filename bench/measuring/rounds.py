@@ -88,6 +88,7 @@ def measure(shape: str, limit: int, file: pathlib.Path, programs: list[Program],
                 run = Run(run.seconds, run.peak_mib, percentile(nanoseconds, 50) / 1e3, percentile(nanoseconds, 99) / 1e3)
                 measured.boundaries = measured.boundaries if boundaries is None else boundaries
             measured.runs[name].append(run)
-        for name in order[1:]:
-            compare(shape, order[0], name, folder)
+        reference = 'replay' if 'replay' in by_name else order[0]
+        for name in order:
+            compare(shape, reference, name, folder)
     return measured
