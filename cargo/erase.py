@@ -28,6 +28,9 @@ LIBRARY = "archcaraway_c"
 # The crates of crates.io that serve as they are, with the version that is asked for.
 REAL_CRATES = {"arrayvec": "0.7", "byteorder": "1", "crossbeam_utils": "0.8", "hex": "0.4", "itoa": "1", "thiserror": "1"}
 
+# The crates that are plain Rust in this folder.
+PLAIN_CRATES = ("rattle_std", "tests")
+
 # Those of the toolchain's std, which need no dependency.
 PARTS_OF_STD = {"std_alloc", "std_heap", "std_io"}
 
@@ -178,8 +181,10 @@ def write_workspace(target: Path, real: frozenset[str]) -> None:
     for name in names:
         shutil.rmtree(target / name / "src", ignore_errors=True)
         write_crate(listed[name], target, listed, real)
-    shutil.copytree(TOP / "cargo" / "rattle_std", target / "rattle_std", dirs_exist_ok=True)
-    (target / "Cargo.toml").write_text(workspace(["rattle_std", *names]))
+    for name in PLAIN_CRATES:
+        shutil.rmtree(target / name, ignore_errors=True)
+        shutil.copytree(TOP / "cargo" / name, target / name)
+    (target / "Cargo.toml").write_text(workspace([*PLAIN_CRATES, *names]))
 
 
 def main() -> int:
