@@ -82,7 +82,7 @@ fn ring_between_threads(slots: u64, items: u64) {
     shared.store::<()>(&mut takes, 1, 0);
     let mut sends = shared.split_seat::<()>(&mut takes);
     thread::scope(|scope| {
-        scope.spawn(move || {
+        let sender = scope.spawn(move || {
             for number in 0..items {
                 wait_for(shared, &mut sends, 0, |taken| number - taken < slots);
                 let before = shared.exchange(&mut sends, (number % slots) as usize, Some(Counted::new(number)));
@@ -96,6 +96,7 @@ fn ring_between_threads(slots: u64, items: u64) {
             assert_eq!(found.map(|item| *item.0), Some(number));
             shared.store::<()>(&mut takes, 0, number + 1);
         }
+        sender.join().expect("the sender ends");
     });
 }
 
@@ -104,17 +105,18 @@ fn each_slot_its_threads(rounds: u64) {
     let (table, mut first) = table(1, 8);
     let shared = &table.shared;
     let second = shared.split_seat::<()>(&mut first);
-    thread::scope(|scope| {
-        for (mine, mut seat) in [(0, first), (1, second)] {
-            scope.spawn(move || {
-                for round in 0..rounds {
-                    for slot in (mine..8).step_by(2) {
-                        let before = shared.exchange(&mut seat, slot, Some(Counted::new(round)));
-                        assert_eq!(before.map(|item| *item.0), round.checked_sub(1));
-                    }
-                }
-            });
+    let exchange = |mine: usize, mut seat: Token| {
+        for round in 0..rounds {
+            for slot in (mine..8).step_by(2) {
+                let before = shared.exchange(&mut seat, slot, Some(Counted::new(round)));
+                assert_eq!(before.map(|item| *item.0), round.checked_sub(1));
+            }
         }
+    };
+    thread::scope(|scope| {
+        let other = scope.spawn(move || exchange(1, second));
+        exchange(0, first);
+        other.join().expect("the thread ends");
     });
 }
 

@@ -26,21 +26,23 @@ pub fn run(name: &str, total: u64, case: impl Fn(&mut Random) -> u64 + Sync) {
         return;
     }
     let (seeds, done, failed) = (AtomicU64::new(0), AtomicU64::new(0), AtomicBool::new(false));
+    // Each thread is joined by its handle, as the checkers of threads see it.
     thread::scope(|scope| {
-        for _ in 0..thread::available_parallelism().map_or(1, usize::from) {
-            scope.spawn(|| {
-                while done.load(Ordering::Relaxed) < total && !failed.load(Ordering::Relaxed) {
-                    let seed = seeds.fetch_add(1, Ordering::Relaxed);
-                    match catch_unwind(AssertUnwindSafe(|| case(&mut Random::new(seed)))) {
-                        Ok(weight) => done.fetch_add(weight, Ordering::Relaxed),
-                        Err(panic) => {
-                            failed.store(true, Ordering::Relaxed);
-                            eprintln!("{name} fails: ARCHCARAWAY_SEED={seed}");
-                            resume_unwind(panic);
-                        }
-                    };
-                }
-            });
-        }
+        let work = || {
+            while done.load(Ordering::Relaxed) < total && !failed.load(Ordering::Relaxed) {
+                let seed = seeds.fetch_add(1, Ordering::Relaxed);
+                match catch_unwind(AssertUnwindSafe(|| case(&mut Random::new(seed)))) {
+                    Ok(weight) => done.fetch_add(weight, Ordering::Relaxed),
+                    Err(panic) => {
+                        failed.store(true, Ordering::Relaxed);
+                        eprintln!("{name} fails: ARCHCARAWAY_SEED={seed}");
+                        resume_unwind(panic);
+                    }
+                };
+            }
+        };
+        let threads = thread::available_parallelism().map_or(1, usize::from);
+        let handles: Vec<_> = (0..threads).map(|_| scope.spawn(work)).collect();
+        handles.into_iter().for_each(|handle| handle.join().unwrap_or_else(|panic| resume_unwind(panic)));
     });
 }

@@ -48,7 +48,7 @@ fn rest(tries: &mut u32) {
 fn numbers_between_threads(capacity: usize, items: u64) {
     let (mut port, mut intake) = made(capacity);
     thread::scope(|scope| {
-        scope.spawn(move || {
+        let sender = scope.spawn(move || {
             (0..items).for_each(|number| send_at_last(&mut port, number));
             port.close();
             assert_eq!(port.send(items), Err(Refused::Closed(items)));
@@ -60,6 +60,7 @@ fn numbers_between_threads(capacity: usize, items: u64) {
         assert_eq!(take_at_last(&mut intake), None);
         assert_eq!((intake.take(), intake.take()), (Taken::End, Taken::End));
         assert_eq!(intake.taken(), items);
+        sender.join().expect("the sender ends");
     });
 }
 
@@ -251,7 +252,7 @@ fn items_are_dropped_once_between_threads() {
         let drops = counters(items);
         thread::scope(|scope| {
             let for_port = Arc::clone(&drops);
-            scope.spawn(move || {
+            let sender = scope.spawn(move || {
                 for number in 0..items {
                     // It gives up on an item now and then, and when nobody takes any more.
                     let mut item = Counted { number, drops: Arc::clone(&for_port) };
@@ -278,6 +279,7 @@ fn items_are_dropped_once_between_threads() {
                 }
             }
             drop(intake);
+            sender.join().expect("the sender ends");
         });
         assert!(all_dropped(&drops), "an item is lost");
         items as u64
@@ -291,7 +293,7 @@ fn boxes_between_threads() {
         let (mut port, mut intake) = made(random.pick(&CAPACITIES));
         let items = 1 + random.below(2_000);
         thread::scope(|scope| {
-            scope.spawn(move || {
+            let sender = scope.spawn(move || {
                 for number in 0..items {
                     send_at_last(&mut port, Box::new([number; 4]));
                 }
@@ -301,6 +303,7 @@ fn boxes_between_threads() {
                 assert_eq!(take_at_last(&mut intake).as_deref(), Some(&[number; 4]));
             }
             assert!(take_at_last(&mut intake).is_none());
+            sender.join().expect("the sender ends");
         });
         items
     });
