@@ -7,6 +7,7 @@ mod frames;
 mod keys;
 mod lane;
 mod limits;
+mod lines;
 mod resolver;
 mod serving;
 mod step_map;

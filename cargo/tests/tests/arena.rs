@@ -108,3 +108,20 @@ fn arena_is_a_map_of_records() {
         calls
     });
 }
+
+/// More chunks than a chunk has slots: each of the longest keys has one of its own.
+#[test]
+fn more_chunks_than_slots_of_a_chunk() {
+    let mut arena = Arena::new(Global);
+    let places = count(20_000, 1_200);
+    let key = |number: u64| [&[number as u8; MAX_LENGTH - 8][..], &number.to_be_bytes()].concat();
+    let slots: Vec<_> = (0..places).map(|number| arena.place(number, &key(number)).expect("memory is ample")).collect();
+    assert_eq!(arena.live() as u64, places);
+    for (number, slot) in (0..).zip(&slots) {
+        assert_eq!(arena.header(*slot), number);
+        assert!(arena.key(*slot) == key(number));
+    }
+    slots.iter().for_each(|slot| arena.release(*slot));
+    assert_eq!(arena.live(), 0);
+    assert!(slots.iter().all(|slot| !arena.is_live(*slot)));
+}

@@ -5,7 +5,7 @@ use rattle_std::alloc::Global;
 use stepmap::MAX_LIMIT;
 use tests::cases::{count, run};
 use tests::drawn::KeySpace;
-use tests::plain::{PlainBatch, PlainRange, PlainReply};
+use tests::plain::{PlainBatch, PlainRange, PlainReply, PlainTxn};
 use tests::random::Random;
 use tests::scan::Scan;
 use tests::steps::{Steps, united};
@@ -77,6 +77,35 @@ fn verdicts_and_reports_are_those_of_a_scan() {
             assert_eq!(PlainReply::of(&reply), scan.resolve(&batch), "{batch:?}");
         }
         txns
+    });
+}
+
+/// Many different keys, so that the tree of boundaries has several levels, and snapshots not far back.
+#[test]
+fn verdicts_over_many_boundaries() {
+    run("verdicts_over_many_boundaries", count(1_000_000, 30_000), |random| {
+        let mut set = set(5_000_000, MAX_LIMIT);
+        let mut scan = Scan::new(5_000_000);
+        let numbers = random.pick(&[5_000, 100_000, 10_000_000]);
+        let (singles, most) = (random.below(5), random.pick(&[1, 10, 1_000]));
+        let range = |random: &mut Random| {
+            let key = |number: u64| number.to_be_bytes()[4..].to_vec();
+            let number = random.below(numbers);
+            if random.below(4) < singles { PlainRange::single(key(number)) } else { PlainRange::new(key(number), key(number + 1 + random.below(most))) }
+        };
+        let txns = 100;
+        for version in 0..100 {
+            let txn = |random: &mut Random| PlainTxn {
+                snapshot: random.between((version - 4).max(0), version),
+                marked: random.one_in(2),
+                reads: (0..random.index(3)).map(|_| range(random)).collect(),
+                writes: (0..random.index(3)).map(|_| range(random)).collect(),
+            };
+            let batch = PlainBatch { previous: version - 1, version, received: -1, txns: (0..txns).map(|_| txn(random)).collect() };
+            let reply = set.resolve(&batch.batch()).expect("the limit is ample");
+            assert_eq!(PlainReply::of(&reply), scan.resolve(&batch));
+        }
+        100 * txns
     });
 }
 

@@ -5,10 +5,10 @@ use rattle_std::alloc::Global;
 use std::io::{Error, ErrorKind, Read, Result as IoResult, Write};
 use tests::cases::{count, run};
 use tests::drawn::any_batch;
-use tests::plain::{PlainBatch, PlainEntry, PlainReply};
+use tests::plain::{PlainBatch, PlainEntry, PlainRange, PlainReply, PlainTxn};
 use tests::random::Random;
 use tests::spelling::{batch_frame, framed, read_batch, read_reply, reply_frame};
-use wire::{StdSink, StdSource, WireError, decode_batch, decode_reply, encode_batch, encode_batch_1, encode_reply, read_frames, upgrade};
+use wire::{Sink, StdSink, StdSource, WireError, decode_batch, decode_reply, encode_batch, encode_batch_1, encode_reply, read_frames, upgrade, write_all};
 
 /// The vectors of the page, in hexadecimal.
 const BATCHES: [&str; 4] = [
@@ -344,4 +344,74 @@ fn upgrades_of_streams() {
         }
         1
     });
+}
+
+/// A reader that is interrupted so often before each byte, and a writer that is.
+struct Interrupted<'a> {
+    bytes: &'a [u8],
+    interruptions: u32,
+    left: u32,
+}
+
+impl Interrupted<'_> {
+    fn interrupt(&mut self) -> IoResult<()> {
+        if self.left == 0 {
+            self.left = self.interruptions;
+            return Ok(());
+        }
+        self.left -= 1;
+        Err(ErrorKind::Interrupted.into())
+    }
+}
+
+impl Read for Interrupted<'_> {
+    fn read(&mut self, buffer: &mut [u8]) -> IoResult<usize> {
+        self.interrupt()?;
+        let count = self.bytes.len().min(buffer.len()).min(1);
+        buffer[..count].copy_from_slice(&self.bytes[..count]);
+        self.bytes = &self.bytes[count..];
+        Ok(count)
+    }
+}
+
+impl Write for Interrupted<'_> {
+    fn write(&mut self, bytes: &[u8]) -> IoResult<usize> {
+        self.interrupt()?;
+        Ok(bytes.len().min(1))
+    }
+
+    fn flush(&mut self) -> IoResult<()> {
+        self.interrupt()
+    }
+}
+
+/// A call is tried again up to 1,000 times, and no more.
+#[test]
+fn interruptions_up_to_the_limit() {
+    let frame = bytes_of(BATCHES[1]);
+    for interruptions in [0, 1, 999, 1_000, 1_001, 5_000] {
+        let interrupted = || Interrupted { bytes: &frame, interruptions, left: interruptions };
+        let read = read_frames(Global, StdSource::new(interrupted())).next().map(|batch| batch.map(|batch| batch.version));
+        assert_eq!(read, if interruptions <= 1_000 { Ok(Some(100)) } else { Err(WireError::Read) });
+        let mut sink = StdSink::new(interrupted());
+        assert_eq!(write_all(&mut sink, &frame).is_ok(), interruptions <= 1_000);
+        assert_eq!(StdSink::new(interrupted()).flush().is_ok(), interruptions <= 1_000);
+    }
+}
+
+/// A batch of version 1 that is too long in version 2 is refused, after the frames before it are written.
+#[test]
+fn upgrade_outgrows_its_frame() {
+    let mut batch = PlainBatch::empty(-1, 100);
+    let long = |byte: u8| PlainRange::new(vec![byte; 9_990], vec![byte + 1; 9_990]);
+    batch.txns = vec![PlainTxn { snapshot: 0, marked: false, reads: vec![long(b'a'); 209], writes: Vec::new() }];
+    let left = 4_194_304 + 4 - batch_frame(&batch, 1).len();
+    batch.txns[0].writes.push(PlainRange::new(vec![b'x'; left / 2 - 4], vec![b'y'; left - left / 2]));
+    let frame = batch_frame(&batch, 1);
+    assert_eq!(frame.len(), 4 + 4_194_304);
+    let bytes = [&bytes_of(BATCHES[1]), &frame[..]].concat();
+    let mut reader = StdSource::new(&bytes[..]);
+    let mut writer = StdSink::new(Vec::new());
+    assert_eq!(upgrade(Global, &mut reader, &mut writer), Err(WireError::Long));
+    assert_eq!(writer.into_inner(), bytes_of(BATCHES[2]));
 }

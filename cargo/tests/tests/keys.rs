@@ -5,7 +5,7 @@ use rattle_std::alloc::Global;
 use std::collections::BTreeSet;
 use tests::cases::{count, run};
 use tests::drawn::KeySpace;
-use tests::plain::{PlainRange, key};
+use tests::plain::{PlainBatch, PlainRange, key};
 use tests::random::Random;
 
 struct Ranges(Vec<PlainRange>);
@@ -152,5 +152,43 @@ fn hashes_tell_short_keys_apart() {
             .collect();
         assert!(hashes.len() + 1 >= length, "{bytes:?}");
         length as u64
+    });
+}
+
+/// The first thousand numbers, as text, fall into most of the cells that a thousand random hashes would fill.
+#[test]
+fn hashes_of_numbers_spread() {
+    let cells: BTreeSet<_> = (0..1_000).map(|number| key_hash(format!("user/{number:06}").as_bytes()) >> 20).collect();
+    assert!(cells.len() >= 600, "{}", cells.len());
+}
+
+/// A batch keeps its ranges with their ranks, their hashes, and the order of those that it writes.
+#[test]
+fn batches_rank_and_hash_their_ranges() {
+    run("batches_rank_and_hash_their_ranges", count(1_000_000, 20_000), |random| {
+        let space = KeySpace::drawn(random);
+        let txns = (0..random.index(20)).map(|_| space.txn(random, 4, (0, 9))).collect();
+        let batch = PlainBatch { previous: -1, version: 9, received: -1, txns };
+        let txns = batch.batch().txns;
+        let (mut all, mut is_write) = (Vec::new(), Vec::new());
+        for (index, txn) in batch.txns.iter().enumerate() {
+            for read in 0..txn.reads.len() {
+                assert_eq!(txns.read_index(index, read) as usize, all.len() + read);
+            }
+            all.extend(txn.reads.iter().chain(&txn.writes).cloned());
+            is_write.resize(is_write.len() + txn.reads.len(), false);
+            is_write.resize(all.len(), true);
+            assert_eq!(txns.snapshot(index), txn.snapshot);
+        }
+        let ranges = Ranges(all);
+        let (ranks, order) = Ranks::with_order(Global, &ranges).expect("memory is ample");
+        assert_eq!((txns.ranks().runs(), txns.ranks().begins()), (ranks.runs(), ranks.begins()));
+        assert!(order.iter().filter(|index| is_write[**index as usize]).eq(txns.write_order()));
+        for index in 0..ranges.len() {
+            let range = ranges.range(index);
+            assert_eq!((txns.hash(index), txns.hashed_range(index).hash()), (range.single_hash(), range.single_hash()));
+            assert_eq!((txns.hashed_range(index).begin(), txns.hashed_range(index).end()), (range.begin(), range.end()));
+        }
+        1 + ranges.len() as u64
     });
 }

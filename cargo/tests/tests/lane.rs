@@ -245,7 +245,7 @@ fn items_are_dropped_once_in_one_hand() {
 /// The same between two threads, each of which drops its end whenever it likes.
 #[test]
 fn items_are_dropped_once_between_threads() {
-    run("items_are_dropped_once_between_threads", count(20_000_000, 200_000), |random| {
+    run("items_are_dropped_once_between_threads", count(20_000_000, 100_000), |random| {
         let (mut port, mut intake) = made(random.pick(&CAPACITIES));
         let items = 1 + random.index(10_000);
         let takes = random.index(items + 1);
@@ -256,7 +256,7 @@ fn items_are_dropped_once_between_threads() {
                 for number in 0..items {
                     // It gives up on an item now and then, and when nobody takes any more.
                     let mut item = Counted { number, drops: Arc::clone(&for_port) };
-                    for _ in 0..50 {
+                    for _ in 0..4 {
                         match port.send(item) {
                             Ok(()) => break,
                             Err(Refused::Full(back) | Refused::Closed(back) | Refused::Worn(back)) => item = back,

@@ -85,9 +85,9 @@ fn compare_at(map: &StepMap, steps: &Steps, random: &mut Random) {
     }
 }
 
-fn ask(map: &StepMap, steps: &Steps, space: &KeySpace, version: i64, random: &mut Random) {
-    let queries: Vec<_> = space.ranges(random, 40).into_iter().map(|range| (range, random.between(-1, version + 1))).collect();
-    let queries = Queries(queries);
+/// Asks for the ranges, at once and one by one, with versions up to one above all.
+fn ask(map: &StepMap, steps: &Steps, ranges: Vec<PlainRange>, version: i64, random: &mut Random) {
+    let queries = Queries(ranges.into_iter().map(|range| (range, random.between(-1, version + 1))).collect());
     let mut answers = KitVec::new(Global);
     map.exceeds_each(&queries, &mut answers).expect("memory is ample");
     assert_eq!(answers.len(), queries.len());
@@ -122,7 +122,7 @@ fn step_map_is_boundaries_in_order() {
                     steps.edge += random.between(0, (version - steps.edge).max(0));
                     map.raise(steps.edge);
                 }
-                5 | 6 => ask(&map, &steps, &space, version, random),
+                5 | 6 => ask(&map, &steps, space.ranges(random, 40), version, random),
                 7 => compare_at(&map, &steps, random),
                 _ => {
                     let ranges = written(&space, random);
@@ -159,6 +159,12 @@ fn large_step_map_is_boundaries_in_order() {
                 let end = if steps.sweep(looks) { SweepEnd::Round } else { SweepEnd::Stopped };
                 assert_eq!(map.sweep(looks), end);
                 (0..50).for_each(|_| compare_at(&map, &steps, random));
+                let singles = random.below(5);
+                let asked = |random: &mut Random| {
+                    let at = random.below(keys);
+                    if random.below(4) < singles { PlainRange::single(number(at)) } else { PlainRange::new(number(at), number(at + 3)) }
+                };
+                ask(&map, &steps, (0..100).map(|_| asked(random)).collect(), version, random);
             }
         }
         for (key, version) in &steps.boundaries {
@@ -174,7 +180,7 @@ fn filter_bounds_every_write() {
     run("filter_bounds_every_write", count(5_000_000, 50_000), |random| {
         let space = KeySpace::drawn(random);
         let mut filter = Filter::new(Global).expect("memory is ample");
-        let (mut keys, mut newest_range) = (BTreeMap::new(), -1);
+        let (mut keys, mut newest_range, mut newest_key) = (BTreeMap::new(), -1, -1);
         let calls = 10 + random.below(3_000) as i64;
         for version in 0..calls {
             match random.below(20) {
@@ -187,9 +193,10 @@ fn filter_bounds_every_write() {
                     let key = space.key(random);
                     filter.write_key(keys::key_hash(&key), version);
                     keys.insert(key, version);
+                    newest_key = version;
                 }
             }
-            assert_eq!(filter.newest_range(), newest_range);
+            assert_eq!((filter.newest_range(), filter.is_useful()), (newest_range, newest_range < newest_key));
             let asked = space.key(random);
             let written = keys.get(&asked).copied().unwrap_or(-1).max(newest_range);
             assert!((written..=version).contains(&filter.bound(&asked)), "{asked:?}");
