@@ -115,7 +115,7 @@ def manifest(crate: Crate, listed: dict[str, Crate], real: frozenset[str]) -> st
 name = "archcaraway-{crate.name}"
 version = "{VERSION}"
 edition = "2024"
-rust-version = "1.85"
+rust-version = "1.87"
 license = "Apache-2.0"
 description = "Part of Archcaraway: {summary_of(crate)}"
 

@@ -1,4 +1,4 @@
-//! Words and slots between threads, used as `lane` uses them: a word tells whose a slot is.
+//! Words and slots between threads, used as `lane` uses them: a word says which thread may use a slot.
 
 use rattle_std::alloc::Global;
 use rattle_std::atomic_table::{Seat, Shared, Table};
@@ -10,7 +10,7 @@ type Token = Seat<Option<Counted>, ()>;
 
 static LIVE: AtomicUsize = AtomicUsize::new(0);
 
-/// An item with memory of its own, that is counted.
+/// An item that owns memory and is counted.
 struct Counted(Box<u64>);
 
 impl Counted {
@@ -27,7 +27,7 @@ impl Drop for Counted {
 }
 
 fn table(words: usize, slots: usize) -> (Slots, Token) {
-    Slots::vacant(Global, &vec![7; words], slots, &()).ok().expect("memory is ample")
+    Slots::vacant(Global, &vec![7; words], slots, &()).expect("memory is ample")
 }
 
 fn count(most: u64) -> u64 {

@@ -51,7 +51,7 @@ fn workload() -> Command<'static> {
     ["SHAPE", "BATCHES", "TRANSACTIONS"].into_iter().fold(command, |command, name| command.arg(word(name)).unwrap())
 }
 
-/// Writes what the matches of `replay` are.
+/// Writes the matches of `replay`.
 fn shown(matches: &ArgMatches<'_>) -> String {
     let number = |name| matches.get_one::<u64>(name).expect("it has a default");
     let strings = |name| matches.get_strs(name).map_or("none".to_owned(), |strings| strings.join("+"));
@@ -203,7 +203,10 @@ fn wanted_arguments() {
     let matches = matches.try_get_matches_from(&given).unwrap();
     let values: Vec<_> = ["SHAPE", "BATCHES", "TRANSACTIONS"].iter().map(|name| matches.get_str(name)).collect();
     assert_eq!(values, [Some("points"), Some("3"), Some("-4")]);
-    assert_eq!((matches.get_one::<u64>("BATCHES"), matches.get_one::<u64>("SHAPE"), matches.get_one::<i64>("TRANSACTIONS")), (Some(3), None, Some(-4)));
+    assert_eq!(
+        (matches.get_one::<u64>("BATCHES"), matches.get_one::<u64>("SHAPE"), matches.get_one::<i64>("TRANSACTIONS")),
+        (Some(3), None, Some(-4))
+    );
     assert!(matches.get_str("OTHER").is_none() && matches.get_strs("OTHER").is_none() && !matches.get_flag("OTHER"));
     for (given, kind) in [
         ("", ErrorKind::MissingRequiredArgument),
@@ -234,7 +237,16 @@ fn largest_numbers() {
 fn texts() {
     assert_eq!(text_of(&replay(), "--version"), "replay 1.2.3\n");
     let help = text_of(&replay(), "--help");
-    for part in ["Replays", "Usage: replay [OPTIONS] <FILE>...", "--capacity <N>", "[default: 16]", "--frames", "--check <REPLIES>", "--version", "Example: replay f"] {
+    for part in [
+        "Replays",
+        "Usage: replay [OPTIONS] <FILE>...",
+        "--capacity <N>",
+        "[default: 16]",
+        "--frames",
+        "--check <REPLIES>",
+        "--version",
+        "Example: replay f",
+    ] {
         assert!(help.contains(part), "{part}: {help}");
     }
     for (given, message) in [

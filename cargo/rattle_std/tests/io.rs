@@ -120,7 +120,7 @@ fn buffered_reads_are_those_of_the_reader() {
     assert!(all == bytes);
 }
 
-/// A writer that takes few bytes a call, and fails once it has so many.
+/// A writer that takes few bytes per call, and fails once it has `most` bytes.
 #[derive(Clone)]
 struct Few {
     written: Rc<RefCell<std::vec::Vec<u8>>>,

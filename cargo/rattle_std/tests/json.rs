@@ -4,7 +4,7 @@ use rattle_std::alloc::Global;
 use rattle_std::json::{Error, Scratch, Value, Writer};
 use rattle_std::vec::Vec as KitVec;
 
-/// Writes the value that the text is, in a form that tells all values apart, or its error.
+/// Writes the value of the text, in a form that distinguishes all values, or its error.
 fn read(text: &[u8]) -> String {
     let mut scratch = Scratch::new(Global);
     match Value::from_slice(Global, text, &mut scratch) {
@@ -72,18 +72,110 @@ fn accepted_values() {
 #[test]
 fn refused_texts() {
     for text in [
-        "", " ", "nul", "nulll", "True", "null null", "1 2", "tru", "truee", ",", ":", "]", "}", "a", "'a'", "NaN", "Infinity", "-Infinity", "undefined",
+        "",
+        " ",
+        "nul",
+        "nulll",
+        "True",
+        "null null",
+        "1 2",
+        "tru",
+        "truee",
+        ",",
+        ":",
+        "]",
+        "}",
+        "a",
+        "'a'",
+        "NaN",
+        "Infinity",
+        "-Infinity",
+        "undefined",
         // numbers
-        "+1", "-", "--1", "01", "-01", "00", "1.", ".5", "-.5", "1.e1", "1e", "1e+", "1E-", "0x10", "1_000", "1,000", "1.5.2", "1e5e5", "٣", "1\u{660}",
+        "+1",
+        "-",
+        "--1",
+        "01",
+        "-01",
+        "00",
+        "1.",
+        ".5",
+        "-.5",
+        "1.e1",
+        "1e",
+        "1e+",
+        "1E-",
+        "0x10",
+        "1_000",
+        "1,000",
+        "1.5.2",
+        "1e5e5",
+        "٣",
+        "1\u{660}",
         // arrays and objects
-        "[", "[1", "[1,", "[1,]", "[,1]", "[1 2]", "[1,,2]", "[]]", "[1}", "{", "{\"a\"", "{\"a\":", "{\"a\":1", "{\"a\":1,", "{\"a\":1,}", "{,}", "{a:1}", "{1:1}",
-        "{\"a\" 1}", "{\"a\"::1}", "{\"a\":1 \"b\":2}", "{\"a\":1]", "{null:1}", "[1]x", "{}{}", "[\"a\":1]",
+        "[",
+        "[1",
+        "[1,",
+        "[1,]",
+        "[,1]",
+        "[1 2]",
+        "[1,,2]",
+        "[]]",
+        "[1}",
+        "{",
+        "{\"a\"",
+        "{\"a\":",
+        "{\"a\":1",
+        "{\"a\":1,",
+        "{\"a\":1,}",
+        "{,}",
+        "{a:1}",
+        "{1:1}",
+        "{\"a\" 1}",
+        "{\"a\"::1}",
+        "{\"a\":1 \"b\":2}",
+        "{\"a\":1]",
+        "{null:1}",
+        "[1]x",
+        "{}{}",
+        "[\"a\":1]",
         // strings
-        "\"", "\"a", "\"\\\"", "\"\\", "\"\\x\"", "\"\\'\"", "\"\\0\"", "\"\\u\"", "\"\\u12\"", "\"\\u123\"", "\"\\u12g4\"", "\"\\U0041\"", "\"\\u+041\"", "\"\\ud800\"",
-        "\"\\ud800a\"", "\"\\ud800\\n\"", "\"\\ud800\\u0041\"", "\"\\ud800\\ud800\"", "\"\\udc00\"", "\"\\udfff\\ud800\"", "\"\n\"", "\"\t\"", "\"a\0b\"", "\"\x1f\"",
-        "\"\\n\n\"", "\"\\\n\"", "\"a\"b\"", "\"a\" \"b\"",
+        "\"",
+        "\"a",
+        "\"\\\"",
+        "\"\\",
+        "\"\\x\"",
+        "\"\\'\"",
+        "\"\\0\"",
+        "\"\\u\"",
+        "\"\\u12\"",
+        "\"\\u123\"",
+        "\"\\u12g4\"",
+        "\"\\U0041\"",
+        "\"\\u+041\"",
+        "\"\\ud800\"",
+        "\"\\ud800a\"",
+        "\"\\ud800\\n\"",
+        "\"\\ud800\\u0041\"",
+        "\"\\ud800\\ud800\"",
+        "\"\\udc00\"",
+        "\"\\udfff\\ud800\"",
+        "\"\n\"",
+        "\"\t\"",
+        "\"a\0b\"",
+        "\"\x1f\"",
+        "\"\\n\n\"",
+        "\"\\\n\"",
+        "\"a\"b\"",
+        "\"a\" \"b\"",
         // what isn't a blank of JSON, and comments
-        "\u{a0}1", "\u{feff}1", "\x0b1", "\x0c1", "1//", "/**/1", "#1",
+        "\u{a0}1",
+        "\u{feff}1",
+        "\x0b1",
+        "\x0c1",
+        "1//",
+        "/**/1",
+        "#1",
     ] {
         assert!(is_refused(text), "{text:?} is {}", read(text.as_bytes()));
     }
@@ -95,7 +187,9 @@ fn refused_texts() {
 
 #[test]
 fn bytes_that_are_no_text_are_refused() {
-    for text in [&b"\"\xff\""[..], b"\"\xc0\x80\"", b"\"\xed\xa0\x80\"", b"\"\xf4\x90\x80\x80\"", b"\"\xe2\x82\"", b"\x80", b"1\xff", b"\"\\\xe9\""] {
+    for text in
+        [&b"\"\xff\""[..], b"\"\xc0\x80\"", b"\"\xed\xa0\x80\"", b"\"\xf4\x90\x80\x80\"", b"\"\xe2\x82\"", b"\x80", b"1\xff", b"\"\\\xe9\""]
+    {
         assert!(is_refused(text), "{text:?}");
     }
 }
@@ -114,7 +208,8 @@ fn cut_texts_are_refused() {
 fn depth_of_128_is_accepted_and_129_refused() {
     let arrays = |depth: usize| "[".repeat(depth) + &"]".repeat(depth);
     let objects = |depth: usize| "{\"a\":".repeat(depth) + "1" + &"}".repeat(depth);
-    let mixed = |depth: usize| "[{\"a\":".repeat(depth / 2) + &"[".repeat(depth % 2) + "1" + &"]".repeat(depth % 2) + &"}]".repeat(depth / 2);
+    let mixed =
+        |depth: usize| "[{\"a\":".repeat(depth / 2) + &"[".repeat(depth % 2) + "1" + &"]".repeat(depth % 2) + &"}]".repeat(depth / 2);
     for nested in [&arrays as &dyn Fn(usize) -> String, &objects, &mixed] {
         assert!(!is_refused(nested(1)));
         assert!(!is_refused(nested(127)));

@@ -31,7 +31,10 @@ fn big_endian_there_and_back() {
         assert_eq!((BigEndian::read_i64(&bytes), &bytes[..8], bytes[8]), (number as i64, &number.to_be_bytes()[..], 0xee));
         let before = bytes;
         BigEndian::write_u32(&mut bytes, number as u32);
-        assert_eq!((BigEndian::read_u32(&bytes), &bytes[..4], &bytes[4..]), (number as u32, &(number as u32).to_be_bytes()[..], &before[4..]));
+        assert_eq!(
+            (BigEndian::read_u32(&bytes), &bytes[..4], &bytes[4..]),
+            (number as u32, &(number as u32).to_be_bytes()[..], &before[4..])
+        );
         BigEndian::write_u16(&mut bytes, number as u16);
         assert_eq!((BigEndian::read_u16(&bytes), &bytes[..2]), (number as u16, &(number as u16).to_be_bytes()[..]));
     }

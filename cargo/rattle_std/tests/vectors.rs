@@ -126,7 +126,8 @@ fn memory_beyond_the_machine_is_refused() {
 fn sorting_keeps_the_order_of_equal_keys() {
     let random = &mut Random(2);
     for count in [0, 1, 2, 20, 21, 50, 1_000] {
-        let mut items: Vec<(usize, usize)> = (0..count).map(|place| (random.below(1 + count / 4), place)).collect::<std::vec::Vec<_>>().into();
+        let mut items: Vec<(usize, usize)> =
+            (0..count).map(|place| (random.below(1 + count / 4), place)).collect::<std::vec::Vec<_>>().into();
         let mut expected = items.to_vec();
         expected.sort();
         assert_eq!(items.sort_by_key_with(Global, |item| item.0), Ok(()));

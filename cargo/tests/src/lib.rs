@@ -1,8 +1,10 @@
 //! What the tests share: random cases, and simple models that know nothing of the crates' structures.
 //!
-//! [`plain`] has batches and replies as plain vectors. [`scan`] judges them by `docs/RULES.md` with a scan over all committed writes,
-//! [`reference`] follows the chain rules with that, [`steps`] is the step function over a `BTreeMap`, and [`spelling`] reads and writes
-//! frames by the tables of `docs/WIRE.md`. Each is as simple as its page, and slow.
+//! - [`plain`]: batches and replies as plain vectors.
+//! - [`scan`]: the verdicts of `docs/RULES.md`, by a scan over all committed writes.
+//! - [`reference`]: the chain rules of that page, over the scan.
+//! - [`steps`]: the step function of that page, over a `BTreeMap`.
+//! - [`spelling`]: frames, read and written by the tables of `docs/WIRE.md`.
 #![forbid(unsafe_code)]
 
 pub mod cases;

@@ -95,7 +95,8 @@ fn plain_ranges(ranges: &RangesRef<'_>) -> Vec<PlainRange> {
 
 impl PlainTxn {
     fn txn(&self) -> Txn {
-        Txn::checked(self.snapshot, self.marked, ranges_of(&self.reads), ranges_of(&self.writes)).expect("the transaction is within the limits")
+        Txn::checked(self.snapshot, self.marked, ranges_of(&self.reads), ranges_of(&self.writes))
+            .expect("the transaction is within the limits")
     }
 }
 

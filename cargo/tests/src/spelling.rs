@@ -1,4 +1,4 @@
-//! Frames by the tables of `docs/WIRE.md`: written field by field, and read field by field in the reading order of that page.
+//! Frames by the tables of `docs/WIRE.md`, written and read field by field, in the reading order of that page.
 
 use crate::plain::{PlainBatch, PlainEntry, PlainRange, PlainReply, PlainTxn};
 use keyspace::Verdict;

@@ -10,7 +10,7 @@ pub struct Steps {
     pub boundaries: BTreeMap<Vec<u8>, i64>,
     pub edge: i64,
     limit: usize,
-    // The key at which the sweep goes on, or empty where a round begins.
+    // The key at which the sweep continues, or empty if a round begins.
     cursor: Vec<u8>,
 }
 
@@ -41,8 +41,8 @@ impl Steps {
         self.boundaries.entry(range.end.clone()).or_insert(at_end);
     }
 
-    /// Returns whether so many ranges may be written: they bring two boundaries each, at most. Sweeps a round from the front first if
-    /// they aren't within the limit.
+    /// Returns whether that many ranges may be written, with two boundaries each. Sweeps a complete round from the front first if
+    /// they exceed the limit.
     pub fn prepare(&mut self, ranges: usize) -> bool {
         if self.boundaries.len() + 2 * ranges > self.limit {
             self.cursor.clear();
@@ -54,7 +54,12 @@ impl Steps {
     /// Looks at the next `count` boundaries, or at all that are left. Returns whether none is left.
     pub fn sweep(&mut self, count: usize) -> bool {
         let first = if self.cursor.is_empty() { Bound::Excluded(Vec::new()) } else { Bound::Included(self.cursor.clone()) };
-        let next: Vec<_> = self.boundaries.range((first, Bound::Unbounded)).take(count.saturating_add(1)).map(|(key, version)| (key.clone(), *version)).collect();
+        let next: Vec<_> = self
+            .boundaries
+            .range((first, Bound::Unbounded))
+            .take(count.saturating_add(1))
+            .map(|(key, version)| (key.clone(), *version))
+            .collect();
         let Some((key, _)) = next.first() else {
             self.cursor.clear();
             return true;
@@ -71,7 +76,7 @@ impl Steps {
     }
 }
 
-/// Unites ranges that hold or touch one another. Returns the united ranges in key order, each end strictly below the next begin.
+/// Unites ranges that overlap or touch. Returns them in key order, each end strictly below the next begin.
 pub fn united(ranges: impl IntoIterator<Item = PlainRange>) -> Vec<PlainRange> {
     let mut sorted: Vec<_> = ranges.into_iter().filter(|range| !range.is_empty()).collect();
     sorted.sort_by(|one, other| one.begin.cmp(&other.begin));

@@ -15,7 +15,7 @@ struct Beside {
     arena: Arena<u64>,
     records: HashMap<Slot, (u64, Vec<u8>)>,
     slots: Vec<Slot>,
-    // How long the keys of this case are, at most, where they aren't at the sizes' ends.
+    // The greatest length of this case's keys, apart from those of LENGTHS.
     longest: usize,
 }
 
@@ -109,7 +109,7 @@ fn arena_is_a_map_of_records() {
     });
 }
 
-/// More chunks than a chunk has slots: each of the longest keys has one of its own.
+/// More chunks than a chunk has slots: each of the longest keys takes a chunk.
 #[test]
 fn more_chunks_than_slots_of_a_chunk() {
     let mut arena = Arena::new(Global);

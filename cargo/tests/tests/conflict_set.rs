@@ -91,7 +91,11 @@ fn verdicts_over_many_boundaries() {
         let range = |random: &mut Random| {
             let key = |number: u64| number.to_be_bytes()[4..].to_vec();
             let number = random.below(numbers);
-            if random.below(4) < singles { PlainRange::single(key(number)) } else { PlainRange::new(key(number), key(number + 1 + random.below(most))) }
+            if random.below(4) < singles {
+                PlainRange::single(key(number))
+            } else {
+                PlainRange::new(key(number), key(number + 1 + random.below(most)))
+            }
         };
         let txns = 100;
         for version in 0..100 {

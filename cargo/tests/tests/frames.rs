@@ -1,4 +1,4 @@
-//! Frames against the tables of `docs/WIRE.md`: whole, cut, changed, in a stream, and written anew.
+//! Frames against the tables of `docs/WIRE.md`: complete, cut, changed, in a stream, and upgraded.
 
 use keyspace::Verdict;
 use rattle_std::alloc::Global;
@@ -8,7 +8,10 @@ use tests::drawn::any_batch;
 use tests::plain::{PlainBatch, PlainEntry, PlainRange, PlainReply, PlainTxn};
 use tests::random::Random;
 use tests::spelling::{batch_frame, framed, read_batch, read_reply, reply_frame};
-use wire::{Sink, StdSink, StdSource, WireError, decode_batch, decode_reply, encode_batch, encode_batch_1, encode_reply, read_frames, upgrade, write_all};
+use wire::{
+    Sink, StdSink, StdSource, WireError, decode_batch, decode_reply, encode_batch, encode_batch_1, encode_reply, read_frames, upgrade,
+    write_all,
+};
 
 /// The vectors of the page, in hexadecimal.
 const BATCHES: [&str; 4] = [
@@ -17,12 +20,18 @@ const BATCHES: [&str; 4] = [
     "0000002f 03 0000000000000000 0000000000000064 ffffffffffffffff 0001 0000000000000000 00 0000 0001 00 0001 61 0001 62",
     "0000002c 03 0000000000000000 0000000000000064 ffffffffffffffff 0001 0000000000000000 00 0000 0001 01 0001 6b",
 ];
-const REPLIES: [&str; 3] =
-    ["0000000b 02 0000000000000000 0000", "00000013 02 0000000000000064 0002 02 0000 00 0001 0000", "0000000e 02 0000000000000064 0001 02 0000"];
+const REPLIES: [&str; 3] = [
+    "0000000b 02 0000000000000000 0000",
+    "00000013 02 0000000000000064 0002 02 0000 00 0001 0000",
+    "0000000e 02 0000000000000064 0001 02 0000",
+];
 
 fn bytes_of(vector: &str) -> Vec<u8> {
     let digits: Vec<u8> = vector.bytes().filter(|byte| *byte != b' ').collect();
-    digits.chunks(2).map(|pair| pair.iter().fold(0, |byte, digit| byte << 4 | char::from(*digit).to_digit(16).expect("it is a digit") as u8)).collect()
+    digits
+        .chunks(2)
+        .map(|pair| pair.iter().fold(0, |byte, digit| byte << 4 | char::from(*digit).to_digit(16).expect("it is a digit") as u8))
+        .collect()
 }
 
 fn encoded(batch: &PlainBatch, version: u8) -> Vec<u8> {
@@ -63,7 +72,7 @@ fn reply_decodes_by_the_tables(bytes: &[u8]) -> Option<WireError> {
     }
 }
 
-/// Cuts a frame at every byte: as it is, where it is `Short`, and with its length set to what is there, where it is `Cut`.
+/// Cuts a frame at every byte. With its own length it is `Short`; with the length of the remaining bytes it is `Cut`.
 fn cut_everywhere(frame: &[u8], decodes: impl Fn(&[u8]) -> Option<WireError>) {
     for length in 0..frame.len() {
         assert_eq!(decodes(&frame[..length]), Some(WireError::Short));
@@ -204,7 +213,7 @@ fn random_frames_edited() {
     });
 }
 
-/// Bytes that are no frame but for their length.
+/// Random bytes after a length that fits.
 #[test]
 fn any_bytes_decode_by_the_tables() {
     run("any_bytes_decode_by_the_tables", count(50_000_000, 500_000), |random| {
@@ -222,7 +231,7 @@ fn any_bytes_decode_by_the_tables() {
     });
 }
 
-/// A reader that gives some bytes a call, is interrupted now and then, and fails where it is told to.
+/// A reader that gives at most 20 bytes per call, is interrupted now and then, and may fail at the end of its bytes.
 struct Pieces<'a> {
     bytes: &'a [u8],
     fails: bool,
@@ -298,7 +307,7 @@ fn frames_of_readers_that_cut_and_fail() {
     });
 }
 
-/// A writer that takes some bytes a call, is interrupted now and then, and fails once it has so many.
+/// A writer that takes some bytes per call, is interrupted now and then, and fails once it has `most` bytes.
 struct Short {
     written: Vec<u8>,
     most: usize,
@@ -346,7 +355,7 @@ fn upgrades_of_streams() {
     });
 }
 
-/// A reader that is interrupted so often before each byte, and a writer that is.
+/// A reader and writer that is interrupted `interruptions` times before each byte.
 struct Interrupted<'a> {
     bytes: &'a [u8],
     interruptions: u32,

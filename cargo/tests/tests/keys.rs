@@ -95,7 +95,7 @@ fn ranges_hold_and_meet_as_their_keys_say() {
     });
 }
 
-/// Begins are numbered in their order. A run goes from the number of the begin to that of the first begin at or after the end.
+/// Begins are numbered in order. A run goes from the number of its begin to that of the first begin at or after its end.
 #[test]
 fn ranks_are_the_numbers_of_sorted_begins() {
     run("ranks_are_the_numbers_of_sorted_begins", count(10_000_000, 100_000), |random| {

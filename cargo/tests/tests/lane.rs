@@ -1,4 +1,4 @@
-//! A lane in one hand and between two threads: order, loss, close, and items with destructors.
+//! A lane in one thread and between two: order, loss, close, and items with destructors.
 
 use lane::{Intake, Port, Refused, Taken, agree, lane};
 use rattle_std::alloc::Global;
@@ -84,8 +84,8 @@ fn numbers_between_threads_with_capacity_1024() {
     numbers_between_threads(1_024, count(100_000_000, 1_000_000));
 }
 
-/// What an end knows of the other, from what its calls have returned.
-struct InOneHand {
+/// Both ends of a lane, and what each knows of the other.
+struct BothEnds {
     port: Port<u64>,
     intake: Intake<u64>,
     capacity: u64,
@@ -98,11 +98,11 @@ struct InOneHand {
     seen_close: bool,
 }
 
-impl InOneHand {
+impl BothEnds {
     fn new(capacity: usize) -> Self {
         let (port, intake) = made(capacity);
         let items = VecDeque::new();
-        InOneHand { port, intake, capacity: capacity as u64, items, sent: 0, closed: false, seen_taken: 0, seen_sent: 0, seen_close: false }
+        BothEnds { port, intake, capacity: capacity as u64, items, sent: 0, closed: false, seen_taken: 0, seen_sent: 0, seen_close: false }
     }
 
     fn taken(&self) -> u64 {
@@ -164,26 +164,26 @@ impl InOneHand {
     }
 }
 
-/// With both ends in one hand each answer is known: that of a send, a take, a take beside the port, and of `agree`.
+/// With both ends in one thread each answer is known: those of `send`, `take`, `take_beside` and `agree`.
 #[test]
-fn answers_with_both_ends_in_one_hand() {
-    run("answers_with_both_ends_in_one_hand", count(20_000_000, 200_000), |random| {
+fn answers_with_both_ends_in_one_thread() {
+    run("answers_with_both_ends_in_one_thread", count(20_000_000, 200_000), |random| {
         let capacity = random.pick(&CAPACITIES);
-        let mut hand = InOneHand::new(capacity);
+        let mut ends = BothEnds::new(capacity);
         let calls = 1 + random.below(20 * capacity as u64 + 200);
         let sends = 1 + random.below(8);
         for _ in 0..calls {
             match random.below(10) {
-                kind if kind < sends => hand.send(),
+                kind if kind < sends => ends.send(),
                 8 if random.one_in(40) => {
-                    hand.port.close();
-                    hand.closed = true;
+                    ends.port.close();
+                    ends.closed = true;
                 }
-                9 if random.one_in(3) => hand.agree(),
-                9 => hand.take_beside(),
-                _ => hand.take(),
+                9 if random.one_in(3) => ends.agree(),
+                9 => ends.take_beside(),
+                _ => ends.take(),
             }
-            assert_eq!((hand.port.sent(), hand.intake.taken()), (hand.sent, hand.taken()));
+            assert_eq!((ends.port.sent(), ends.intake.taken()), (ends.sent, ends.taken()));
         }
         calls
     });
@@ -210,10 +210,10 @@ fn all_dropped(drops: &[AtomicU8]) -> bool {
     drops.iter().all(|count| count.load(Ordering::Relaxed) == 1)
 }
 
-/// Items are dropped once: those taken by whoever takes them, those refused by the sender, and those inside with the last end.
+/// Items are dropped once: taken ones by the taker, refused ones by the sender, and the others with the last end.
 #[test]
-fn items_are_dropped_once_in_one_hand() {
-    run("items_are_dropped_once_in_one_hand", count(5_000_000, 50_000), |random| {
+fn items_are_dropped_once_in_one_thread() {
+    run("items_are_dropped_once_in_one_thread", count(5_000_000, 50_000), |random| {
         let (mut port, mut intake) = made(random.pick(&CAPACITIES));
         let items = 1 + random.index(3_000);
         let drops = counters(items);

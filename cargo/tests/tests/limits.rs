@@ -1,8 +1,8 @@
 //! The largest of each limit of `docs/LIMITS.md`, with ample memory.
 
 use conflict::ConflictSet;
-use keyspace::{Batch, LimitError, Txn, Verdict};
 use keys::{HashedRange, Key, KeyError, RangeRef};
+use keyspace::{Batch, LimitError, Txn, Verdict};
 use rattle_std::alloc::Global;
 use resolver::{Core, Stop};
 use stepmap::{KeyLengths, MAX_LIMIT, StepMap};
@@ -87,7 +87,11 @@ fn beyond_the_limits_of_a_batch() {
     let empty = |ranges: usize| PlainTxn { snapshot: 0, marked: false, reads: vec![PlainRange::new("", ""); ranges], writes: Vec::new() };
     let checked = |txns: usize| {
         let batch = PlainBatch { txns: vec![empty(0); txns], ..PlainBatch::empty(-1, 0) };
-        let txns: Vec<_> = batch.txns.iter().map(|txn| Txn::checked(txn.snapshot, false, sequence(0), sequence(0)).expect("it is within the limits")).collect();
+        let txns: Vec<_> = batch
+            .txns
+            .iter()
+            .map(|txn| Txn::checked(txn.snapshot, false, sequence(0), sequence(0)).expect("it is within the limits"))
+            .collect();
         Batch::checked(Global, -1, 0, -1, txns.into()).map(|batch| batch.txns.len())
     };
     assert_eq!((checked(4_096), checked(4_097)), (Ok(4_096), Err(LimitError::Count)));
@@ -104,9 +108,11 @@ fn sequence(count: usize) -> keyspace::Sequence<keys::Range> {
     keyspace::Sequence::new((0..count).map(|_| PlainRange::new("a", "b").range()).collect::<Vec<_>>().into())
 }
 
-/// A batch whose frame in that version has a body of so many bytes.
+/// A batch whose frame in that version has a body of `length` bytes.
 fn batch_of_length(length: usize, version: u8) -> PlainBatch {
-    let ranges = |count: usize, byte: u8| (0..count).map(|index| PlainRange::new([vec![byte; 9_990], number(index as u64)].concat(), [byte + 1; 3])).collect::<Vec<_>>();
+    let ranges = |count: usize, byte: u8| {
+        (0..count).map(|index| PlainRange::new([vec![byte; 9_990], number(index as u64)].concat(), [byte + 1; 3])).collect::<Vec<_>>()
+    };
     let mut batch = PlainBatch::empty(-1, 100);
     batch.txns = vec![txn(ranges(209, b'a'), ranges(209, b'c'))];
     let left = length - (batch_frame(&batch, version).len() - 4);
@@ -170,7 +176,8 @@ fn longest_keys() {
         let write = PlainRange::single(long(version as u8));
         let reads = (0..3).map(|back| PlainRange::single(long((version as u8).wrapping_sub(back)))).collect();
         let wide = PlainRange::new(long(version as u8 / 2), PlainRange::single(long(version as u8)).end);
-        let batch = PlainBatch { previous: version - 1, version, received: -1, txns: vec![txn(reads, vec![write]), txn(vec![wide], Vec::new())] };
+        let batch =
+            PlainBatch { previous: version - 1, version, received: -1, txns: vec![txn(reads, vec![write]), txn(vec![wide], Vec::new())] };
         let reply = set.resolve(&batch.batch()).expect("memory is ample");
         assert_eq!(PlainReply::of(&reply), scan.resolve(&batch));
     }

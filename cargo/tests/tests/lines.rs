@@ -1,4 +1,4 @@
-//! Lines of JSON: what is written is read back, and what is cut or changed is refused or read without a panic.
+//! Lines of JSON: written lines are read back, and changed ones are read or refused without a panic.
 
 use json_lines::{Scratch, read_batch, read_reply, write_batch, write_reply};
 use keyspace::Verdict;

@@ -11,7 +11,7 @@ use tests::plain::{PlainAnswer, PlainBatch, PlainReply};
 use tests::random::Random;
 use tests::reference::Reference;
 
-/// Batches of one chain with their proxies, in the order in which they arrive: shuffled, some twice, some never, some off the chain.
+/// Batches of one chain with their proxies, in order of arrival: shuffled, some twice, some never, some off the chain.
 struct Arrivals {
     proxies: usize,
     window: i64,
@@ -129,7 +129,7 @@ fn core_answers_as_the_rules_say() {
     });
 }
 
-/// With a small limit: what is answered before the stop is right, what comes after it is refused, and the stop stays.
+/// With a small limit: answers before the stop are right, later batches are refused, and the stop stays.
 #[test]
 fn core_stays_stopped() {
     run("core_stays_stopped", count(500_000, 10_000), |random| {

@@ -1,4 +1,4 @@
-//! The resolver over lanes: in one hand, where each turn's answer is known, and between threads.
+//! The resolver over lanes: in one thread, so that each turn's answer is known, and with its clients in threads.
 
 use keyspace::Answer;
 use lane::{Refused, Taken};
@@ -34,7 +34,7 @@ fn opened(proxies: usize, capacity: usize) -> (Resolver, KitVec<Client>) {
     open(Global, proxies, capacity, WINDOW, MAX_LIMIT).expect("memory is ample")
 }
 
-/// All clients and the resolver in one hand, beside the rules.
+/// All clients and the resolver in one thread, beside the rules.
 struct Service {
     resolver: Resolver,
     clients: KitVec<Client>,
@@ -133,10 +133,10 @@ impl Service {
     }
 }
 
-/// Each turn's answer, each lane's end and each account, with all clients in one hand.
+/// Each turn's answer, each lane's end and each account, with all clients in one thread.
 #[test]
-fn turns_and_accounts_in_one_hand() {
-    run("turns_and_accounts_in_one_hand", count(2_000_000, 40_000), |random| {
+fn turns_and_accounts_in_one_thread() {
+    run("turns_and_accounts_in_one_thread", count(2_000_000, 40_000), |random| {
         let mut service = Service::drawn(random);
         let proxies = service.unsent.len();
         let mut calls = 0;
@@ -159,7 +159,7 @@ fn turns_and_accounts_in_one_hand() {
     });
 }
 
-/// Sends these batches in order, with no more unanswered than the share, and returns the answers.
+/// Sends these batches in order, with at most `share` of them unanswered, and returns the answers.
 fn run_client(mut client: Client, batches: Vec<PlainBatch>, share: u64) -> (Client, Vec<PlainAnswer>) {
     let mut unsent: VecDeque<_> = batches.iter().map(PlainBatch::batch).collect();
     let mut answers: Vec<Answer> = Vec::new();
@@ -203,7 +203,7 @@ fn turn_to_the_end(resolver: &mut Resolver) {
     }
 }
 
-/// Puts batches out of order, none further than a piece of so many, so that whoever keeps the share can always send the next one.
+/// Shuffles the batches in pieces no larger than the share, so that a client that keeps its share can always send the next one.
 fn disorder(batches: &mut [PlainBatch], share: u64, random: &mut Random) {
     let piece = 1 + random.index((share as usize).min(50));
     batches.chunks_mut(piece).for_each(|piece| random.shuffle(piece));
@@ -241,7 +241,7 @@ fn serve_threads(random: &mut Random, batches: usize) {
     assert!(resolver.settle(&mut clients).complete);
 }
 
-/// Each of 1 to 8 clients in a thread of its own gets the answers to its batches, in the order of the chain, once.
+/// 1 to 8 clients, each in its own thread, receive the answers to their batches in the order of the chain, once.
 #[test]
 fn clients_in_threads_get_their_answers() {
     run("clients_in_threads_get_their_answers", count(500_000, 5_000), |random| {
