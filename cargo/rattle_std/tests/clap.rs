@@ -185,6 +185,10 @@ fn refused_subcommands() {
         ("encode --version", ErrorKind::UnknownArgument),
         ("encode -V", ErrorKind::UnknownArgument),
         ("--", ErrorKind::MissingSubcommand),
+        // No word after two hyphens is a subcommand.
+        ("-- encode", ErrorKind::UnknownArgument),
+        ("help bogus", ErrorKind::InvalidSubcommand),
+        ("help show bogus", ErrorKind::InvalidSubcommand),
         ("--help", ErrorKind::DisplayHelp),
         ("--version", ErrorKind::DisplayVersion),
         ("encode --help", ErrorKind::DisplayHelp),

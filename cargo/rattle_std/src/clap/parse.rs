@@ -29,7 +29,7 @@ impl<'a> Command<'a> {
                 Some("") => options = false,
                 Some(option) => self.take_option(option, &mut rest, &mut found)?,
                 None if options && word.len() > 1 && word.starts_with('-') => return Err(self.short(word)),
-                None if !self.subcommands.is_empty() => {
+                None if options && !self.subcommands.is_empty() => {
                     let rest: Vec<_> = rest.copied().collect();
                     return self.take_subcommand(word, &rest);
                 }
@@ -101,14 +101,24 @@ impl<'a> Command<'a> {
 
     fn take_subcommand(&self, name: &'a str, rest: &[&'a str]) -> Result<ArgMatches<'a>, Error> {
         if name == "help" {
-            let named = rest.first().and_then(|name| self.subcommands.iter().find(|command| command.name == *name));
-            return Err(named.unwrap_or(self).help(ErrorKind::DisplayHelp));
+            return Err(self.help_of(rest));
         }
-        let Some(command) = self.subcommands.iter().find(|command| command.name == name) else {
-            return Err(self.refuse(ErrorKind::InvalidSubcommand, format!("unrecognized subcommand '{name}'")));
-        };
+        let command = self.find_subcommand(name)?;
         let matches = Box::new(command.take(rest)?);
         Ok(ArgMatches { values: Vec::new(), subcommand: Some((name, matches)) })
+    }
+
+    fn find_subcommand(&self, name: &str) -> Result<&Command<'a>, Error> {
+        let found = self.subcommands.iter().find(|command| command.name == name);
+        found.ok_or_else(|| self.refuse(ErrorKind::InvalidSubcommand, format!("unrecognized subcommand '{name}'")))
+    }
+
+    // Returns the help of the subcommand of these names, or of the command itself if there are none.
+    fn help_of(&self, names: &[&str]) -> Error {
+        match names.split_first() {
+            None => self.help(ErrorKind::DisplayHelp),
+            Some((name, rest)) => self.find_subcommand(name).map_or_else(|error| error, |command| command.help_of(rest)),
+        }
     }
 
     // Adds defaults, and looks that nothing required is missing.
