@@ -35,8 +35,10 @@ fn count(most: u64) -> u64 {
 }
 
 fn wait_for(shared: &Shared<Option<Counted>, ()>, seat: &mut Token, word: usize, is_there: impl Fn(u64) -> bool) {
+    let mut tries = 0;
     while !is_there(shared.load::<()>(seat, word)) {
-        thread::yield_now();
+        tries += 1;
+        if tries % 64 == 0 { thread::yield_now() } else { std::hint::spin_loop() }
     }
 }
 
@@ -46,7 +48,7 @@ fn words_and_slots() {
     in_one_hand();
     assert_eq!(LIVE.load(Ordering::Relaxed), 0);
     for slots in [1, 3, 64] {
-        ring_between_threads(slots, count(200_000));
+        ring_between_threads(slots, count(20_000));
         assert_eq!(LIVE.load(Ordering::Relaxed), 0);
     }
     each_slot_its_threads(count(2_000));

@@ -66,12 +66,12 @@ fn numbers_between_threads(capacity: usize, items: u64) {
 
 #[test]
 fn numbers_between_threads_with_capacity_1() {
-    numbers_between_threads(1, count(100_000_000, 300_000));
+    numbers_between_threads(1, count(100_000_000, 100_000));
 }
 
 #[test]
 fn numbers_between_threads_with_capacity_2() {
-    numbers_between_threads(2, count(100_000_000, 500_000));
+    numbers_between_threads(2, count(100_000_000, 200_000));
 }
 
 #[test]
