@@ -2,7 +2,7 @@
 
 use arena::{Arena, ArenaError, MAX_LENGTH, Slot};
 use rattle_std::alloc::Global;
-use std::collections::HashMap;
+use std::collections::{HashMap, HashSet};
 use tests::cases::{count, run};
 use tests::random::Random;
 
@@ -124,4 +124,26 @@ fn more_chunks_than_slots_of_a_chunk() {
     slots.iter().for_each(|slot| arena.release(*slot));
     assert_eq!(arena.live(), 0);
     assert!(slots.iter().all(|slot| !arena.is_live(*slot)));
+}
+
+/// Slots that were released are given again before there are others.
+#[test]
+fn released_slots_are_given_again() {
+    run("released_slots_are_given_again", count(2_000_000, 50_000), |random| {
+        let mut arena = Arena::new(Global);
+        // As many as a chunk has of each size, so that none is left over.
+        let length: usize = random.pick(&[1, 32, 33, 64, 500, 512, 5_000, 16_384]);
+        let slots_of_chunk = 16_384 / length.max(32).next_power_of_two();
+        let key = vec![7; length];
+        let mut slots: Vec<_> = (0..3 * slots_of_chunk).map(|_| arena.place(0, &key).expect("memory is ample")).collect();
+        let all: HashSet<_> = slots.iter().copied().collect();
+        for _ in 0..20 {
+            random.shuffle(&mut slots);
+            let released = random.index(slots.len() + 1);
+            slots.drain(..released).for_each(|slot| arena.release(slot));
+            slots.extend((0..released).map(|_| arena.place(0, &key).expect("memory is ample")));
+            assert!(slots.iter().copied().collect::<HashSet<_>>() == all);
+        }
+        20 * slots.len() as u64
+    });
 }

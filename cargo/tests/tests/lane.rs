@@ -76,7 +76,7 @@ fn numbers_between_threads_with_capacity_2() {
 
 #[test]
 fn numbers_between_threads_with_capacity_16() {
-    numbers_between_threads(16, count(100_000_000, 1_000_000));
+    numbers_between_threads(16, count(100_000_000, 400_000));
 }
 
 #[test]
@@ -245,7 +245,7 @@ fn items_are_dropped_once_in_one_thread() {
 /// The same between two threads, each of which drops its end whenever it likes.
 #[test]
 fn items_are_dropped_once_between_threads() {
-    run("items_are_dropped_once_between_threads", count(20_000_000, 100_000), |random| {
+    run("items_are_dropped_once_between_threads", count(20_000_000, 60_000), |random| {
         let (mut port, mut intake) = made(random.pick(&CAPACITIES));
         let items = 1 + random.index(10_000);
         let takes = random.index(items + 1);

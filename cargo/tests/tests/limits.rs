@@ -1,7 +1,7 @@
 //! The largest of each limit of `docs/LIMITS.md`, with ample memory.
 
 use conflict::ConflictSet;
-use keys::{HashedRange, Key, KeyError, RangeRef};
+use keys::{HashedRange, Key, KeyError, Range, RangeRef};
 use keyspace::{Batch, LimitError, Txn, Verdict};
 use rattle_std::alloc::Global;
 use resolver::{Core, Stop};
@@ -104,7 +104,7 @@ fn beyond_the_limits_of_a_batch() {
     }
 }
 
-fn sequence(count: usize) -> keyspace::Sequence<keys::Range> {
+fn sequence(count: usize) -> keyspace::Sequence<Range> {
     keyspace::Sequence::new((0..count).map(|_| PlainRange::new("a", "b").range()).collect::<Vec<_>>().into())
 }
 
@@ -183,4 +183,31 @@ fn longest_keys() {
     }
     assert_eq!(key(&[7; 10_001]).as_bytes().len(), 10_001);
     assert_eq!(Key::checked(vec![7; 10_002].into()).err(), Some(KeyError::KeyLength));
+}
+
+/// Keys of ranges and single keys at their limits in frames of both versions, and one byte longer.
+#[test]
+fn longest_keys_in_frames() {
+    let framed = |write: PlainRange, version: u8| {
+        batch_frame(&PlainBatch { txns: vec![txn(Vec::new(), vec![write])], ..PlainBatch::empty(-1, 100) }, version)
+    };
+    let answer = |frame: &[u8]| {
+        decode_batch(Global, frame).map(|(batch, used)| (PlainBatch::of(&batch).txns[0].writes[0].end.len(), used == frame.len()))
+    };
+    for version in [1, 2] {
+        let range = |length| framed(PlainRange::new("", vec![b'a'; length]), version);
+        assert_eq!((answer(&range(10_001)), answer(&range(10_002))), (Ok((10_001, true)), Err(WireError::KeyLength)));
+        let single = |length| framed(PlainRange::single(vec![b'a'; length]), version);
+        assert_eq!((answer(&single(10_000)), answer(&single(10_001))), (Ok((10_001, true)), Err(WireError::KeyLength)));
+    }
+}
+
+/// A range whose begin is after its end is refused, and one whose begin is its end isn't.
+#[test]
+fn begin_and_end_of_a_range() {
+    for (begin, end) in [("b", "a"), ("a\0", "a"), ("ab", "a"), ("\u{7f}", ""), ("b", "azzzzzzzzzzzz")] {
+        assert_eq!(Range::checked(key(begin.as_bytes()), key(end.as_bytes())).err(), Some(KeyError::Inverted));
+        assert!(Range::checked(key(end.as_bytes()), key(begin.as_bytes())).is_ok());
+        assert!(Range::checked(key(end.as_bytes()), key(end.as_bytes())).is_ok_and(|range| range.is_empty()));
+    }
 }

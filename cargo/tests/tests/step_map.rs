@@ -182,19 +182,22 @@ fn filter_bounds_every_write() {
         let mut filter = Filter::new(Global).expect("memory is ample");
         let (mut keys, mut newest_range, mut newest_key) = (BTreeMap::new(), -1, -1);
         let calls = 10 + random.below(3_000) as i64;
+        // Cells have several keys each only while ranges are rare and cells are few.
+        let (ranges, doublings) = (random.pick(&[10, 1_000, 1_000_000]), random.pick(&[20, 1_000, 1_000_000]));
         for version in 0..calls {
-            match random.below(20) {
-                0 => {
-                    filter.write_range(version);
-                    newest_range = version;
-                }
-                1 => filter.reserve(random.pick(&[0, 300, 1_000, 5_000])).expect("memory is ample"),
-                _ => {
-                    let key = space.key(random);
-                    filter.write_key(keys::key_hash(&key), version);
-                    keys.insert(key, version);
-                    newest_key = version;
-                }
+            if random.one_in(ranges) {
+                filter.write_range(version);
+                newest_range = version;
+            } else if random.one_in(doublings) {
+                filter.reserve(random.pick(&[0, 300, 1_000, 5_000])).expect("memory is ample");
+            } else {
+                let key = space.key(random);
+                // A write may be older than those before it.
+                let version = version - random.between(0, 3).min(version);
+                filter.write_key(keys::key_hash(&key), version);
+                let newest: &mut i64 = keys.entry(key).or_insert(version);
+                *newest = version.max(*newest);
+                newest_key = newest_key.max(version);
             }
             assert_eq!((filter.newest_range(), filter.is_useful()), (newest_range, newest_range < newest_key));
             let asked = space.key(random);
