@@ -131,7 +131,7 @@ fn check_within_a_batch_is_that_of_pairs() {
 /// With a small limit: the boundaries and the stop are those of the step function, and the stop is final.
 #[test]
 fn boundaries_and_stops_are_those_of_the_step_function() {
-    run("boundaries_and_stops_are_those_of_the_step_function", count(200_000, 5_000), |random| {
+    run("boundaries_and_stops_are_those_of_the_step_function", count(2_000_000, 20_000), |random| {
         let mut chain = Chain::drawn(random);
         let limit = random.pick(&[1, 2, 3, 5, 9, 20, 60, 300, 2_000]);
         let mut set = set(chain.window, limit);
