@@ -71,7 +71,8 @@ impl<K: Ord, V, A> BTreeMap<K, V, A> {
 
     pub fn get(&self, key: &K) -> Option<&V> {
         let (leaf, place) = self.find(key);
-        Some(&self.leaves[leaf][place.ok()?].1)
+        let place = place.ok()?;
+        Some(&self.leaves[leaf][place].1)
     }
 
     /// Sets the value of a key, and returns the one before. A refused insertion changes nothing.
@@ -107,7 +108,8 @@ impl<K: Ord, V, A> BTreeMap<K, V, A> {
 
     pub fn remove(&mut self, key: &K) -> Option<V> {
         let (leaf, place) = self.find(key);
-        let (_, value) = self.leaves[leaf].remove(place.ok()?);
+        let place = place.ok()?;
+        let (_, value) = self.leaves[leaf].remove(place);
         if self.leaves[leaf].is_empty() {
             self.leaves.remove(leaf);
         }

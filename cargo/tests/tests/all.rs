@@ -1,0 +1,13 @@
+//! The tests. `ARCHCARAWAY_LONG=1` runs them with about a hundred times as many cases.
+#![forbid(unsafe_code)]
+
+mod arena;
+mod conflict_set;
+mod frames;
+mod keys;
+mod lane;
+mod limits;
+mod lines;
+mod resolver;
+mod serving;
+mod step_map;
