@@ -2,10 +2,11 @@ pub mod Filters
 pub mod Holding
 pub mod Reading
 pub mod Steps
+pub mod Isolation
 pub mod Running
 pub mod Versions
 pub mod Following
-pub mod OnePart
+pub mod OneShard
 pub mod Clipping
-pub mod ByParts
+pub mod ByShards
 pub mod Examples

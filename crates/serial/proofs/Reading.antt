@@ -39,7 +39,8 @@ use Rattle.keyspace.specs.Writes.{Write, writes, earlier}
 use Rattle.keyspace.specs.Judged.{IsInConflict, HasVerdict, edge}
 use Rattle.keyspace.specs.Chain.{IsChain}
 use Rattle.keys.proofs.callers.Booleans.{and_left, and_right, false_unless}
-use Rattle.serial.specs.Serial.{IsCommitted, holds, in_ranges, Current}
+use Rattle.serial.specs.Commits.{IsCommitted, holds, Current}
+use Rattle.serial.specs.Stores.{in_ranges}
 use Rattle.serial.proofs.Holding.{is_above, written_above, current_from_tests}
 
 -- a list is what stands before an element, the element, and what stands behind it

@@ -13,6 +13,7 @@ use Rattle.std.specs.Prelude.{
   ◌++◌,
   take,
   filter,
+  Some,
   slice_get,
   IsSomeAnd,
   Contains,

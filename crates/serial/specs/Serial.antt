@@ -23,7 +23,7 @@ use Rattle.keys.specs.declared.range.Range.{Range}
 use Rattle.keyspace.specs.declared.txn.Txn.{Txn}
 use Rattle.keys.specs.Key.{IsBytes}
 use Rattle.keyspace.specs.Processed.{Processed}
-use Rattle.keyspace.specs.Writes.{at_version, writes}
+use Rattle.keyspace.specs.Writes.{Write, at_version, writes}
 use Rattle.serial.specs.Commits.{IsCommitted, before, holds, holding, up_to}
 use Rattle.serial.specs.Stores.{
   Store,

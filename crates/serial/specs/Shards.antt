@@ -5,6 +5,7 @@ use Rattle.std.specs.Prelude.{
   ℕ,
   ℤ,
   Bool,
+  true,
   ◌&&◌,
   not,
   IsTrue,
