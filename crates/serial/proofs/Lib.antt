@@ -5,6 +5,7 @@ pub mod Steps
 pub mod Isolation
 pub mod Running
 pub mod Versions
+pub mod Places
 pub mod Following
 pub mod OneShard
 pub mod Clipping

@@ -71,7 +71,7 @@ pub at_index : {X : Type 0} (xs : List X) (x : X) → Contains xs x → (i : ℕ
 at_index xs x c = (c.0, slice_get_read xs _ c.0 x refl c.1 (sym c.2))
 
 -- a version that isn't at or below the snapshot is above it
-above_from_test : (version snapshot : ℤ) → not (int_le version snapshot) ≡ true → snapshot <ℤ version
+pub above_from_test : (version snapshot : ℤ) → not (int_le version snapshot) ≡ true → snapshot <ℤ version
 above_from_test version snapshot h = grind (arith, ints)
 
 module _ (ws : List Write) (written : List Range) (t : Txn) (range : Range) (key : List ℕ)

@@ -1,4 +1,5 @@
-use Rattle.serial.proofs.Running.{current_isolated, current_serializable}
+use Rattle.serial.proofs.Isolation.{current_isolated}
+use Rattle.serial.proofs.Running.{current_serializable}
 use Rattle.serial.proofs.ByShards.{shards_current}
 use Rattle.serial.proofs.laws.serializable_by_shards.Goals as goal
 
