@@ -58,6 +58,7 @@ use Rattle.serial.specs.Serial.{ReadsAreCurrent, IsIsolated, EachIsIsolated}
 use Rattle.serial.proofs.Holding.{written_above, written_above-append, low_from_current, none_from_current}
 use Rattle.serial.proofs.Reading.{some_at}
 use Rattle.serial.proofs.Steps.{
+  from_take,
   maybe_batch,
   maybe_writes,
   run_batches-suc,
@@ -114,15 +115,6 @@ batch_tracked first plan ws p s keep tracked =
           ] refl;
     }
 
--- an element of the first of a list is at the same index in the list
-from_take : {X : Type 0} (xs : List X) (n l : ℕ) (x : X) → slice_get (take n xs) l ≡ Some x
-    → slice_get xs l ≡ Some x
-from_take [] zero l x h = cc
-from_take [] (suc n) l x h = cc
-from_take (y ∷ xs) zero l x h = let never : ⊥ = cc in absurd never
-from_take (y ∷ xs) (suc n) zero x h = h
-from_take (y ∷ xs) (suc n) (suc l) x h = from_take xs n l x h
-
 module _ (first : Store) (plans : Plans) (ps : List Processed) (keep : AllKeepToWrites ps plans) where
   -- the plans of a batch's committed transactions keep to their write ranges
   batch_keeps : (i : ℕ) (p : Processed) → slice_get ps i ≡ Some p
@@ -140,7 +132,8 @@ module _ (first : Store) (plans : Plans) (ps : List Processed) (keep : AllKeepTo
   first_keep : (i : ℕ) (p : Processed) → slice_get ps i ≡ Some p → (j : ℕ)
       → AllKeep (plans i) 0 (take j p.batch.txns) (take j p.reply.entries)
   first_keep i p at j l t e is_txn is_entry verdict =
-      batch_keeps i p at l t e (from_take p.batch.txns j l t is_txn) (from_take p.reply.entries j l e is_entry) verdict
+      batch_keeps i p at l t e (from_take p.batch.txns j l t is_txn).1 (from_take p.reply.entries j l e is_entry).1
+      verdict
 
   -- as much is known after one more batch, if there is one
   maybe_batch_tracked : (i : ℕ) (o : Option Processed) → slice_get ps i ≡ o

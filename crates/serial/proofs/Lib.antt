@@ -10,4 +10,5 @@ pub mod Following
 pub mod OneShard
 pub mod Clipping
 pub mod ByShards
-pub mod Examples
+pub mod EffectRows
+pub mod ClauseRows

@@ -40,21 +40,9 @@ use Rattle.keyspace.specs.Chain.{IsChain}
 use Rattle.serial.specs.Stores.{Store, Plans, Stores, start, at_snapshot, run_txns, stores_after}
 use Rattle.serial.specs.Serial.{IsPlace, SnapshotsArePlaces}
 use Rattle.serial.proofs.Reading.{chain_current, above_from_test}
-use Rattle.serial.proofs.Steps.{maybe_batch, run_batches-suc, run_txns-after, at_snapshot-low, at_snapshot-high}
+use Rattle.serial.proofs.Steps.{from_take, maybe_batch, run_batches-suc, run_txns-after, at_snapshot-low, at_snapshot-high}
 use Rattle.serial.proofs.Running.{same_after}
 use Rattle.serial.proofs.Versions.{take_no_more, at_most_through, version_up_to}
-
--- an element of the first of a list is in the list, at the same index, which is below their number
-from_take : {X : Type 0} (xs : List X) (n k : ℕ) (x : X) → slice_get (take n xs) k ≡ Some x
-    → (k < n) × (slice_get xs k ≡ Some x)
-from_take [] zero k x h = let never : ⊥ = cc in absurd never
-from_take [] (suc n) k x h = let never : ⊥ = cc in absurd never
-from_take (y ∷ xs) zero k x h = let never : ⊥ = cc in absurd never
-from_take (y ∷ xs) (suc n) zero x h = (omega arith, h)
-from_take (y ∷ xs) (suc n) (suc k) x h =
-    let more = from_take xs n k x h in
-    let below = more.0 in
-    (omega (arith, below), more.1)
 
 -- an element after the first ones of a list is in the list, as many places on
 from_drop : {X : Type 0} (xs : List X) (n k : ℕ) (x : X) → slice_get (drop n xs) k ≡ Some x

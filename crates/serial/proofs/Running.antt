@@ -121,13 +121,13 @@ current_serializable ps current first plans keep declared = each_serial first pl
 -- Functions of the read ranges.
 
 -- the plan of a function keeps to the write ranges
-effect_keeps : (t : Txn) (effect : Store → Store) (plan : Plan) → plan ≡ plan_of t effect → KeepsToWrites t plan
+pub effect_keeps : (t : Txn) (effect : Store → Store) (plan : Plan) → plan ≡ plan_of t effect → KeepsToWrites t plan
 effect_keeps t effect plan is =
     let keeps : KeepsToWrites t (plan_of t effect) = λ read changed key bytes h. rw h refl in
     subst (KeepsToWrites t) (sym is) keeps
 
 -- and reads only what is declared, whatever it reads and changes
-effect_declared : (t : Txn) (effect : Store → Store) (plan : Plan) → IsEffect t effect → plan ≡ plan_of t effect
+pub effect_declared : (t : Txn) (effect : Store → Store) (plan : Plan) → IsEffect t effect → plan ≡ plan_of t effect
     → (read changed : Store) → ReadsOnlyDeclared t plan read changed
 effect_declared t effect plan is_effect is read changed =
     let declared : ReadsOnlyDeclared t (plan_of t effect) read changed = λ other same.

@@ -5,6 +5,7 @@ use Rattle.std.proofs.Common.{
   zero,
   suc,
   ◌+◌,
+  ◌<◌,
   Bool,
   true,
   false,
@@ -50,6 +51,18 @@ use Rattle.serial.specs.Stores.{
   noted,
   run_batches,
 }
+
+-- an element of the first of a list is in the list, at the same index, which is below their number
+pub from_take : {X : Type 0} (xs : List X) (n k : ℕ) (x : X) → slice_get (take n xs) k ≡ Some x
+    → (k < n) × (slice_get xs k ≡ Some x)
+from_take [] zero k x h = let never : ⊥ = cc in absurd never
+from_take [] (suc n) k x h = let never : ⊥ = cc in absurd never
+from_take (y ∷ xs) zero k x h = let never : ⊥ = cc in absurd never
+from_take (y ∷ xs) (suc n) zero x h = (omega arith, h)
+from_take (y ∷ xs) (suc n) (suc k) x h =
+    let more = from_take xs n k x h in
+    let below = more.0 in
+    (omega (arith, below), more.1)
 
 -- what a transaction with its entry does, if there are both
 abbrev pub maybe_txn : Store → Option Txn → Option Entry → Plan → Stores → Stores
