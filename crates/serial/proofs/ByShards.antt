@@ -56,7 +56,7 @@ contains_at : {X : Type 0} (xs : List X) (i : ℕ) (x : X) → slice_get xs i �
 contains_at xs i x at = (i, slice_get_within xs i x at, get_or_from_slice_get xs i x x at)
 
 -- no key comes before the empty one
-none_before_empty : (key : List ℕ) → is_before key [] ≡ false
+pub none_before_empty : (key : List ℕ) → is_before key [] ≡ false
 none_before_empty [] = refl
 none_before_empty (byte ∷ key) = refl
 

@@ -12,3 +12,5 @@ pub mod Clipping
 pub mod ByShards
 pub mod EffectRows
 pub mod ClauseRows
+pub mod PlanRows
+pub mod ShardRows

@@ -104,9 +104,13 @@ pub record Shown : Type 0 where
   pub serially : List (Option (List ℕ))
 
 module _ (limits : Limits) where
-  -- the store's value at the key of one letter
+  -- the key of one letter is a byte string
+  abbrev pub letter_bytes : (n : ℕ) → is_range (letter n) (letter n) ≡ true → IsBytes (letter n)
+  letter_bytes n h = (limits.range (letter n) (letter n) h).0.bytes
+
+  -- the store's value there
   abbrev pub at_letter : (n : ℕ) → is_range (letter n) (letter n) ≡ true → Store → Option (List ℕ)
-  at_letter n h store = store (letter n) (limits.range (letter n) (letter n) h).0.bytes
+  at_letter n h store = store (letter n) (letter_bytes n h)
 
   abbrev pub at_a : Store → Option (List ℕ)
   at_a = at_letter 97 refl

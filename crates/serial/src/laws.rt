@@ -1,4 +1,4 @@
-//! The laws. Each is the contract of a function with an empty body.
+//! The laws. Each is the contract of a function that does nothing.
 
 ghost use Rattle.std.specs.Prelude.{ℕ, ℤ, List};
 ghost use Rattle.keyspace.specs.Processed.{Processed};
@@ -60,4 +60,6 @@ pub fn serializable_by_shards()
 /// The worked examples, computed on the definitions.
 pub fn worked_rows()
     ensures rows { (limits : Limits) × WorkedRows limits }
-{}
+{
+    keyspace::laws::runs_are_chains();
+}
