@@ -52,7 +52,7 @@ use Rattle.serial.proofs.Reading.{some_at, at_index, chain_current}
 use Rattle.serial.proofs.Clipping.{CommittedAt, partner, clip_holds, written_by_clips, clips_above}
 
 -- the element at an index of a list is an element of it
-contains_at : {X : Type 0} (xs : List X) (i : ℕ) (x : X) → slice_get xs i ≡ Some x → Contains xs x
+pub contains_at : {X : Type 0} (xs : List X) (i : ℕ) (x : X) → slice_get xs i ≡ Some x → Contains xs x
 contains_at xs i x at = (i, slice_get_within xs i x at, get_or_from_slice_get xs i x x at)
 
 -- no key comes before the empty one

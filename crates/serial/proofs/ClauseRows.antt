@@ -1,20 +1,20 @@
 -- The worked examples of lists that aren't chains.
-use Rattle.std.proofs.Common.{◌≡◌, ◌≢◌, ℕ, zero, suc, ◌<◌, ◌≤◌, true, List, [], ◌∷◌, take, drop, map, ℤ, ◌<ℤ◌, refl, sym, ◌∙◌, ap, subst, arith}
-use Rattle.std.specs.Prelude.{◌≤ℤ◌, pos, Option, Some, None, slice_get, All}
+use Rattle.std.proofs.Common.{false, ◌≡◌, ℕ, zero, suc, ◌<◌, ◌≤◌, true, List, [], ◌∷◌, take, drop, map, ℤ, ◌<ℤ◌, refl, ap, subst, arith}
+use Rattle.std.specs.Prelude.{◌≤ℤ◌, pos, Some, slice_get, All}
 use Rattle.std.proofs.lemmas.Int.{ints}
-use Rattle.std.proofs.lemmas.Option.{slice_get_within, get_or_from_slice_get}
-use Rattle.std.proofs.lemmas.List.Elements.{All-get_or}
 use Rattle.keys.specs.Key.{IsBytes}
 use Rattle.keyspace.specs.declared.txn.Txn.{Txn}
 use Rattle.keyspace.specs.Processed.{Processed}
-use Rattle.keyspace.specs.Rows.{Limits, letter, txn, ab, xy}
+use Rattle.keyspace.specs.Writes.{Write}
+use Rattle.keyspace.specs.Rows.{Limits, letter, txn, ab, xy, write_ab}
 use Rattle.serial.specs.Commits.{IsCommitted, Current}
-use Rattle.serial.specs.Stores.{Plans, at_snapshot, stores_after}
+use Rattle.serial.specs.Stores.{at_snapshot, stores_after}
 use Rattle.serial.specs.Serial.{IsPlace, RealTime}
 use Rattle.serial.specs.RowStores.{first_store, effect_of, letter_bytes, at_x}
-use Rattle.serial.specs.ClauseRows.{flipped_chain, flipped_plans, swapped_chain, ClauseRows}
+use Rattle.serial.specs.ClauseRows.{flipped_chain, flipped_plans, swapped_chain, swapped_writers, ClauseRows}
 use Rattle.serial.proofs.Running.{effect_declared}
 use Rattle.serial.proofs.Isolation.{current_isolated}
+use Rattle.serial.proofs.ByShards.{contains_at}
 use Rattle.serial.proofs.EffectRows.{effect_kept, effects_keep, effects_declared}
 
 -- what holds of all versions holds of one
@@ -35,13 +35,22 @@ not_above a b h k = omega (arith, ints)
 not_up_to : (a b : ℕ) → pos a ≤ℤ pos b → b < a → ⊥
 not_up_to a b h k = omega (arith, ints)
 
--- each version is at or below itself
-at_or_below_itself : (a : ℤ) → a ≤ℤ a
-at_or_below_itself a = omega (arith, ints)
-
 -- a version below another one
 is_below : (a b : ℕ) → a < b → pos a <ℤ pos b
 is_below a b h = omega (arith, ints)
+
+-- a version at or below another one
+is_up_to : (a b : ℕ) → a ≤ b → pos a ≤ℤ pos b
+is_up_to a b h = omega (arith, ints)
+
+-- the version of the first write
+abbrev head_version : List Write → ℤ
+head_version [] = pos 0
+head_version (w ∷ ws) = w.version
+
+-- different numbers are different versions
+not_equal : (a b : ℕ) → a < b → pos a ≡ pos b → ⊥
+not_equal a b h k = let same : a ≡ b = cc in omega (arith, same)
 
 -- the two values of a, and of x, are not the same
 not_same_a : (one other : List ℕ) → one ≡ 97 ∷ [] → other ≡ 1 ∷ 0 ∷ [] → Some one ≡ Some other → ⊥
@@ -55,6 +64,10 @@ module _ (limits : Limits) where
   -- the transaction whose verdict is flipped
   abbrev flipped_txn : Txn
   flipped_txn = txn limits 50 true (ab limits ∷ []) (xy limits ∷ []) refl
+
+  -- the reader whose snapshot is between the two writers
+  abbrev late_reader : Txn
+  late_reader = txn limits 150 false (ab limits ∷ []) (xy limits ∷ []) refl
 
   -- the snapshot 250 can be a place after the first three batches alone
   only_after_three : (n : ℕ) → All (λ p. p.batch.version ≤ℤ pos 250) (take n (flipped_chain limits))
@@ -102,9 +115,17 @@ module _ (limits : Limits) where
       let committed_there : IsCommitted (swapped_chain limits) 2 0 _ _ = record { batch = refl; txn = refl; verdict = refl } in
       let committed_here : IsCommitted (swapped_chain limits) 1 0 _ _ = record { batch = refl; txn = refl; verdict = refl } in
       let follows = real 2 0 _ _ committed_there 1 0 _ _ committed_here (is_below 100 200 (omega arith))
-      (at_or_below_itself (pos 100)) in
+      (is_up_to 100 100 (omega arith)) in
       let later : 2 < 1 = follows.later in
       absurd (omega (arith, later))
+
+  not_following : RealTime (swapped_writers limits) → ⊥
+  not_following real =
+      let there : IsCommitted (swapped_writers limits) 2 0 _ (write_ab limits) = record { batch = refl; txn = refl; verdict = refl } in
+      let here : IsCommitted (swapped_writers limits) 3 0 _ late_reader = record { batch = refl; txn = refl; verdict = refl } in
+      let follows = real 2 0 _ _ there 3 0 _ _ here (is_below 150 300 (omega arith)) (is_up_to 100 150 (omega arith)) in
+      let reads = follows.reads (ab limits) (contains_at (ab limits ∷ []) 0 (ab limits) refl) (letter 97) a_bytes refl in
+      not_equal 100 200 (omega arith) (ap head_version reads.1)
 
   not_current : Current (flipped_chain limits) → ⊥
   not_current current =
@@ -128,6 +149,7 @@ module _ (limits : Limits) where
     store_fails = (refl, refl, λ h. not_same_x _ _ refl refl (ap (at_x limits) h));
     serial_place_fails = (refl, refl, no_place);
     place_needs_versions = λ plans place. nowhere place.batches place.included place.later;
-    real_time_needs_versions = not_real_time;
+    later_needs_versions = not_real_time;
+    follows_needs_versions = not_following;
     flipped_not_current = not_current;
   }

@@ -1,23 +1,13 @@
 -- The plans of the worked examples that are functions of the read ranges.
 use Rattle.std.proofs.Common.{◌≡◌, ℕ, true, false, cond, List, [], ◌∷◌, refl, sym, ap, subst}
-use Rattle.std.specs.Prelude.{Option, Some, slice_get}
+use Rattle.std.specs.Prelude.{Some}
 use Rattle.keys.specs.declared.range.Range.{Range}
 use Rattle.keyspace.specs.declared.txn.Txn.{Txn}
 use Rattle.keyspace.specs.Processed.{Processed}
 use Rattle.serial.specs.Commits.{IsCommitted, holds}
-use Rattle.serial.specs.Stores.{Store, Plan, SameIn, AllKeepToWrites}
+use Rattle.serial.specs.Stores.{Store, SameIn, AllKeepToWrites}
 use Rattle.serial.specs.Serial.{IsEffect, plan_of, AllReadOnlyDeclared}
-use Rattle.serial.specs.RowStores.{
-  first_store,
-  value_or_empty,
-  first_read,
-  effect_of,
-  txns_of,
-  txn_at,
-  effects_of,
-  plan_of_some,
-  plans_of,
-}
+use Rattle.serial.specs.RowStores.{first_store, value_or_empty, first_read, effect_of, txn_at, effects_of, plan_of_some, plans_of}
 use Rattle.serial.proofs.Running.{effect_keeps, effect_declared}
 
 -- stores that are the same in the ranges have the same at the first key of the first

@@ -1,59 +1,16 @@
 -- Each committed transaction alone: if reads are current, it may be run at its place.
-use Rattle.std.proofs.Common.{
-  ◌≡◌,
-  ℕ,
-  zero,
-  suc,
-  ◌+◌,
-  true,
-  false,
-  not,
-  ◌&&◌,
-  ◌||◌,
-  cond,
-  List,
-  [],
-  ◌∷◌,
-  ◌++◌,
-  length,
-  take,
-  ℤ,
-  int_le,
-  refl,
-  sym,
-  ◌∙◌,
-  ap,
-  subst,
-  append-nil,
-  arith,
-}
+use Rattle.std.proofs.Common.{◌≡◌, ℕ, zero, suc, ◌+◌, true, false, not, ◌&&◌, ◌||◌, List, [], ◌∷◌, ◌++◌, take, ℤ, int_le, refl, sym, ◌∙◌, ap, subst, append-nil, arith}
 use Rattle.std.specs.Prelude.{Option, Some, None, slice_get}
 use Rattle.std.proofs.lemmas.List.Folds.{Any-from_list_any}
 use Rattle.keys.specs.declared.range.Range.{Range}
 use Rattle.keyspace.specs.declared.txn.Txn.{Txn}
-use Rattle.keyspace.specs.declared.reply.Verdict.{Verdict}
-use Rattle.keyspace.specs.declared.reply.Verdict.TheVariants.{Conflict, TooOld, Committed}
+use Rattle.keyspace.specs.declared.reply.Verdict.TheVariants.{Committed}
 use Rattle.keyspace.specs.declared.reply.Entry.{Entry}
 use Rattle.keyspace.specs.Processed.{Processed}
 use Rattle.keyspace.specs.Writes.{Write, at_version, committed, writes, writes_of, earlier}
 use Rattle.keys.specs.Key.{IsBytes}
 use Rattle.serial.specs.Commits.{IsCommitted, holds, Current}
-use Rattle.serial.specs.Stores.{
-  Store,
-  in_ranges,
-  Plan,
-  Plans,
-  KeepsToWrites,
-  AllKeepToWrites,
-  Stores,
-  start,
-  at_snapshot,
-  run_txns,
-  stores_after,
-  stores_at,
-  read_store,
-  place_store,
-}
+use Rattle.serial.specs.Stores.{Store, in_ranges, Plan, Plans, KeepsToWrites, AllKeepToWrites, Stores, start, at_snapshot, run_txns, stores_after, place_store}
 use Rattle.serial.specs.Serial.{ReadsAreCurrent, IsIsolated, EachIsIsolated}
 use Rattle.serial.proofs.Holding.{written_above, written_above-append, low_from_current, none_from_current}
 use Rattle.serial.proofs.Reading.{some_at}

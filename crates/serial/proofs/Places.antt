@@ -1,34 +1,5 @@
 -- In a chain, a snapshot is a place in the commit order.
-use Rattle.std.proofs.Common.{
-  ◌≡◌,
-  ℕ,
-  zero,
-  suc,
-  ◌+◌,
-  ◌<◌,
-  ◌≤◌,
-  true,
-  false,
-  not,
-  List,
-  [],
-  ◌∷◌,
-  length,
-  take,
-  drop,
-  get_or,
-  ℤ,
-  int_le,
-  ◌<ℤ◌,
-  refl,
-  sym,
-  ◌∙◌,
-  ap,
-  subst,
-  arith,
-  inl,
-  inr,
-}
+use Rattle.std.proofs.Common.{◌≡◌, ℕ, zero, suc, ◌+◌, ◌<◌, ◌≤◌, true, false, List, [], ◌∷◌, length, take, drop, get_or, ℤ, int_le, ◌<ℤ◌, refl, sym, ◌∙◌, ap, subst, arith, inl, inr}
 use Rattle.std.specs.Prelude.{◌≤ℤ◌, Option, Some, None, slice_get, All}
 use Rattle.std.proofs.Math.Seq.{take-length}
 use Rattle.std.proofs.lemmas.Int.{ints}
@@ -179,10 +150,10 @@ module _ (window : ℤ) (ps : List Processed) (chain : IsChain window ps) (first
       record {
         batches = split.batches;
         included = all_from_each (λ p. p.batch.version ≤ℤ snapshot) (take split.batches ps) (λ k q at.
-        let there = from_take ps split.batches k q at in split.included k q there.0 there.1);
+            let there = from_take ps split.batches k q at in split.included k q there.0 there.1);
         later = all_from_each (λ p. snapshot <ℤ p.batch.version) (drop split.batches ps) (λ k q at.
-        let there = from_drop ps split.batches k q at in
-        split.later there.0 q there.1 (slice_get_within ps there.0 q there.2) there.2);
+            let there = from_drop ps split.batches k q at in
+            split.later there.0 q there.1 (slice_get_within ps there.0 q there.2) there.2);
         store = store;
         serially = λ keep declared. store
             ∙ same_after first plans ps (chain_current window ps chain) keep declared split.batches;

@@ -1,8 +1,7 @@
 -- The worked examples of plans that are no functions of the read ranges.
-use Rattle.std.proofs.Common.{◌≡◌, ◌≢◌, ℕ, zero, suc, ◌||◌, Bool, true, false, not, cond, if◌then◌else◌, List, [], ◌∷◌, refl, sym, ◌∙◌, ap, subst, inl, inr}
-use Rattle.std.specs.Prelude.{Option, Some, None, slice_get}
+use Rattle.std.proofs.Common.{◌≡◌, ◌≢◌, ℕ, zero, suc, ◌||◌, Bool, true, false, cond, if◌then◌else◌, List, [], ◌∷◌, refl, sym, ◌∙◌, ap, subst, inl, inr}
+use Rattle.std.specs.Prelude.{Some, None, slice_get}
 use Rattle.std.proofs.Math.Path.{fun_ext}
-use Rattle.keys.specs.declared.range.Range.{Range}
 use Rattle.keyspace.specs.declared.txn.Txn.{Txn}
 use Rattle.keys.specs.Key.{IsBytes, is_before, IsBefore}
 use Rattle.keys.proofs.callers.Booleans.{and_right, or_either}
@@ -12,27 +11,11 @@ use Rattle.keyspace.specs.Processed.{Processed}
 use Rattle.keyspace.specs.Laws.{RunsAreChains}
 use Rattle.keyspace.specs.Rows.{Limits, is_range, letter, txn, ab, bc, cd, xy}
 use Rattle.serial.specs.Commits.{IsCommitted, holds}
-use Rattle.serial.specs.Stores.{Store, in_ranges, SameIn, Plan, Plans, KeepsToWrites, AllKeepToWrites, read_store, place_store, stores_after}
-use Rattle.serial.specs.Serial.{ReadsAreCurrent, ReadsOnlyDeclared, AllReadOnlyDeclared, IsEffect, plan_of, EachIsIsolated}
-use Rattle.serial.specs.RowStores.{first_store, value_or_empty, unchanged, write_by, set, plans_by, letter_bytes, at_letter, at_a, at_x}
+use Rattle.serial.specs.Stores.{Store, in_ranges, SameIn, Plan, KeepsToWrites, AllKeepToWrites, read_store, place_store}
+use Rattle.serial.specs.Serial.{ReadsAreCurrent, ReadsOnlyDeclared, AllReadOnlyDeclared, IsEffect, plan_of}
+use Rattle.serial.specs.RowStores.{first_store, value_or_empty, write_by, set, letter_bytes, at_letter, at_a, at_x}
 use Rattle.serial.specs.RowLists.{four, chain_of}
-use Rattle.serial.specs.PlanRows.{
-  look_up,
-  look_up_plan,
-  look_up_txn,
-  index_chain,
-  index_plans,
-  add_to_a,
-  copy_a_to_b,
-  addition,
-  addition_chain,
-  addition_plans,
-  copy_a_to_x,
-  copy_x_to_c,
-  snapshot_chain,
-  snapshot_plans,
-  PlanRows,
-}
+use Rattle.serial.specs.PlanRows.{look_up, look_up_plan, look_up_txn, index_chain, index_plans, add_to_a, addition, addition_chain, addition_plans, snapshot_chain, snapshot_plans, PlanRows}
 use Rattle.serial.proofs.Reading.{chain_current}
 use Rattle.serial.proofs.Isolation.{current_isolated}
 use Rattle.serial.proofs.EffectRows.{found_at}

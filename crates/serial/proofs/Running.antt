@@ -1,5 +1,5 @@
 -- If reads are current and committed transactions read only what they declare, both ways to run them leave the same store.
-use Rattle.std.proofs.Common.{◌≡◌, ℕ, zero, suc, ◌+◌, true, false, cond, List, length, take, ℤ, refl, sym, ◌∙◌, ap, subst, arith}
+use Rattle.std.proofs.Common.{◌≡◌, ℕ, zero, suc, ◌+◌, true, false, cond, List, length, take, refl, sym, ◌∙◌, ap, subst, arith}
 use Rattle.std.specs.Prelude.{Option, Some, None, slice_get}
 use Rattle.std.proofs.Math.Path.{fun_ext}
 use Rattle.keyspace.specs.declared.txn.Txn.{Txn}
@@ -8,22 +8,7 @@ use Rattle.keyspace.specs.declared.reply.Verdict.TheVariants.{Conflict, TooOld, 
 use Rattle.keyspace.specs.declared.reply.Entry.{Entry}
 use Rattle.keyspace.specs.Processed.{Processed}
 use Rattle.serial.specs.Commits.{IsCommitted, Current}
-use Rattle.serial.specs.Stores.{
-  Store,
-  in_ranges,
-  Plan,
-  KeepsToWrites,
-  Plans,
-  AllKeepToWrites,
-  Stores,
-  start,
-  at_snapshot,
-  commit,
-  run_txn,
-  run_txns,
-  stores_after,
-  stores_at,
-}
+use Rattle.serial.specs.Stores.{Store, in_ranges, Plan, KeepsToWrites, Plans, AllKeepToWrites, Stores, start, at_snapshot, run_txn, stores_after, stores_at}
 use Rattle.serial.specs.Serial.{
   ReadsOnlyDeclared,
   AllReadOnlyDeclared,

@@ -1,6 +1,6 @@
 -- The worked examples of several resolvers.
-use Rattle.std.proofs.Common.{◌≡◌, ℕ, zero, suc, Bool, true, false, not, ◌&&◌, List, [], ◌∷◌, length, refl, sym, ◌∙◌, ap, subst, arith, inl, inr}
-use Rattle.std.specs.Prelude.{Option, Some, None, IsTrue, IsSomeAnd, slice_get, All}
+use Rattle.std.proofs.Common.{◌≡◌, ℕ, zero, suc, true, false, not, ◌&&◌, List, [], ◌∷◌, refl, sym, ◌∙◌, ap, subst, arith}
+use Rattle.std.specs.Prelude.{Some, None, IsTrue, IsSomeAnd, slice_get, All}
 use Rattle.std.specs.List.{AllZip}
 use Rattle.std.proofs.Math.Bool.{and-false}
 use Rattle.keys.specs.declared.range.Range.{Range}
@@ -8,7 +8,7 @@ use Rattle.keyspace.specs.declared.TheConstants.{WINDOW}
 use Rattle.keyspace.specs.declared.reply.Verdict.{Verdict}
 use Rattle.keyspace.specs.declared.reply.Verdict.TheVariants.{Conflict, Committed}
 use Rattle.keyspace.specs.declared.reply.Entry.{Entry}
-use Rattle.keys.specs.Key.{is_before, IsBefore, IsAtMost}
+use Rattle.keys.specs.Key.{is_before, IsBefore}
 use Rattle.keys.proofs.callers.Booleans.{and_left, and_right, and_both, false_unless}
 use Rattle.keys.proofs.callers.KeyOrder.{before_trans, before_at_most, before_at_most_same, not_both}
 use Rattle.keyspace.specs.Processed.{Processed}
@@ -17,7 +17,7 @@ use Rattle.keyspace.specs.Laws.{RunsAreChains}
 use Rattle.keyspace.specs.Run.{run}
 use Rattle.keyspace.specs.Rows.{Limits, letter, ab, bc, cd, xy, nothing}
 use Rattle.serial.specs.Commits.{holds}
-use Rattle.serial.specs.Shards.{Shard, has_key, shards, IsClip, IsTxnClip, IsBatchClip, SaysCommitted, AreByShards}
+use Rattle.serial.specs.Shards.{Shard, has_key, shards, IsClip, IsBatchClip, SaysCommitted, AreByShards}
 use Rattle.serial.specs.RowLists.{told}
 use Rattle.serial.specs.ShardRows.{at_m, whole, whole_below, whole_above, each_shard, ShardRows}
 use Rattle.serial.proofs.ByShards.{none_before_empty}
@@ -117,13 +117,22 @@ module _ (limits : Limits) where
       let xy_clip = high_below (xy limits) refl in
       let ab_clip = low_below (ab limits) refl in
       let bc_clip = low_below (bc limits) refl in
-      let cd_clip = low_below (cd limits) refl in
-      (record { version = refl; txns = tt },
-        (record { version = refl; txns = (record { snapshot = refl; reads = tt; writes = (xy_clip, tt) }, tt) },
-        (record { version = refl; txns = (record { snapshot = refl; reads = (xy_clip, tt); writes = (cd_clip, tt) }, tt) },
-        (record { version = refl; txns = (record { snapshot = refl; reads = (cd_clip, tt); writes = (bc_clip, tt) }, tt) },
-        (record { version = refl; txns = (record { snapshot = refl; reads = (bc_clip, tt); writes = (ab_clip, tt) }, tt) },
-        tt)))))
+      let cd_clip = low_below (cd limits) refl in (
+        record { version = refl; txns = tt },
+        (
+          record { version = refl; txns = (record { snapshot = refl; reads = tt; writes = (xy_clip, tt) }, tt) },
+          (
+            record { version = refl; txns = (record { snapshot = refl; reads = (xy_clip, tt); writes = (cd_clip, tt) }, tt) },
+            (
+              record { version = refl; txns = (record { snapshot = refl; reads = (cd_clip, tt); writes = (bc_clip, tt) }, tt) },
+              (
+                record { version = refl; txns = (record { snapshot = refl; reads = (bc_clip, tt); writes = (ab_clip, tt) }, tt) },
+                tt,
+              ),
+            ),
+          ),
+        ),
+      )
 
   -- and so does the one from m on
   above_clips : AllZip (IsClipOf above) (run WINDOW (whole limits)).processed (run WINDOW (whole_above limits)).processed
@@ -131,13 +140,22 @@ module _ (limits : Limits) where
       let xy_clip = high_above (xy limits) refl in
       let ab_clip = low_above (ab limits) refl in
       let bc_clip = low_above (bc limits) refl in
-      let cd_clip = low_above (cd limits) refl in
-      (record { version = refl; txns = tt },
-        (record { version = refl; txns = (record { snapshot = refl; reads = tt; writes = (xy_clip, tt) }, tt) },
-        (record { version = refl; txns = (record { snapshot = refl; reads = (xy_clip, tt); writes = (cd_clip, tt) }, tt) },
-        (record { version = refl; txns = (record { snapshot = refl; reads = (cd_clip, tt); writes = (bc_clip, tt) }, tt) },
-        (record { version = refl; txns = (record { snapshot = refl; reads = (bc_clip, tt); writes = (ab_clip, tt) }, tt) },
-        tt)))))
+      let cd_clip = low_above (cd limits) refl in (
+        record { version = refl; txns = tt },
+        (
+          record { version = refl; txns = (record { snapshot = refl; reads = tt; writes = (xy_clip, tt) }, tt) },
+          (
+            record { version = refl; txns = (record { snapshot = refl; reads = (xy_clip, tt); writes = (cd_clip, tt) }, tt) },
+            (
+              record { version = refl; txns = (record { snapshot = refl; reads = (cd_clip, tt); writes = (bc_clip, tt) }, tt) },
+              (
+                record { version = refl; txns = (record { snapshot = refl; reads = (bc_clip, tt); writes = (ab_clip, tt) }, tt) },
+                tt,
+              ),
+            ),
+          ),
+        ),
+      )
 
   -- clips are of batches, whatever the clients were told
   clips_told : (shard : Shard) (verdicts : List Verdict) (ps own : List Processed) → AllZip (IsClipOf shard) ps own

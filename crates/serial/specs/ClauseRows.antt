@@ -1,12 +1,12 @@
 -- Worked examples of lists that aren't chains, and the clause of the laws that fails on each.
-use Rattle.std.specs.Prelude.{◌≡◌, ◌≢◌, List, [], ◌∷◌, Some, pos, refl, take, ◌+◌}
+use Rattle.std.specs.Prelude.{◌≡◌, ◌+◌, false, List, [], ◌∷◌, Some, pos, take, refl}
 use Rattle.keyspace.specs.Processed.{Processed}
-use Rattle.keyspace.specs.Rows.{Limits}
+use Rattle.keyspace.specs.Rows.{Limits, txn, ab, xy, write_ab}
 use Rattle.serial.specs.Commits.{Current}
-use Rattle.serial.specs.Stores.{Store, Plans, at_snapshot, SameIn, stores_after, stores_at, read_store, place_store}
+use Rattle.serial.specs.Stores.{Plans, at_snapshot, SameIn, stores_after, stores_at, read_store, place_store}
 use Rattle.serial.specs.Serial.{ReadsAreCurrent, RunsAtItsPlace, IsPlace, RealTime}
 use Rattle.serial.specs.RowStores.{first_store, plans_of, HasTxn, at_a, at_x}
-use Rattle.serial.specs.RowLists.{flipped, swapped, chain}
+use Rattle.serial.specs.RowLists.{flipped, swapped, chain, chain_of}
 
 module _ (limits : Limits) where
   -- the chain, its one conflict made committed: transaction 1 of batch 2, R[a,b)@50 W[x,y)
@@ -19,6 +19,12 @@ module _ (limits : Limits) where
   -- the chain, the batches of the versions 100 and 200 in each other's place
   abbrev pub swapped_chain : List Processed
   swapped_chain = swapped (chain limits)
+
+  -- W[a,b) at the versions 100 and 200, in each other's place, then R[a,b)@150 W[x,y), made committed, and an empty transaction
+  abbrev pub swapped_writers : List Processed
+  swapped_writers =
+      swapped (flipped (chain_of limits (write_ab limits) (write_ab limits)
+      (txn limits 150 false (ab limits ∷ []) (xy limits ∷ []) refl) (txn limits 0 false [] [] refl)))
 
   pub record ClauseRows : Type 0 where
     -- At a, it has read what was there before version 100. At its place it finds what was written there at version 100.
@@ -52,6 +58,8 @@ module _ (limits : Limits) where
         × ¬ IsPlace first_store flipped_plans flipped_chain (pos 250)
     -- Whatever the verdicts are, the store at a snapshot is one that a prefix of a chain leaves. That fails if versions fall.
     pub place_needs_versions : (plans : Plans) → ¬ IsPlace first_store plans swapped_chain (pos 150)
-    -- As does real time: the batch of version 100 comes after one that has read at snapshot 100.
-    pub real_time_needs_versions : ¬ RealTime swapped_chain
+    -- So does the real-time order: the batch of version 100 comes after a batch whose reader has snapshot 100.
+    pub later_needs_versions : ¬ RealTime swapped_chain
+    -- The reader at snapshot 150 comes after both writers, and its snapshot doesn't include the first of them in the list.
+    pub follows_needs_versions : ¬ RealTime swapped_writers
     pub flipped_not_current : ¬ Current flipped_chain

@@ -22,26 +22,14 @@ use Rattle.keyspace.specs.Rows.{Limits, is_range, committed, txn, ab, bc, cd, xy
 use Rattle.serial.specs.Commits.{IsCommitted}
 use Rattle.serial.specs.Stores.{Store, Plan, Plans, AllKeepToWrites, stores_after, read_store, place_store}
 use Rattle.serial.specs.Serial.{ReadsAreCurrent, ReadsOnlyDeclared, AllReadOnlyDeclared, IsEffect, plan_of}
-use Rattle.serial.specs.RowStores.{
-  first_store,
-  value_or_empty,
-  unchanged,
-  write_by,
-  set,
-  plans_by,
-  HasTxn,
-  at_letter,
-  at_a,
-  at_x,
-  shown,
-}
+use Rattle.serial.specs.RowStores.{byte, first_store, value_or_empty, unchanged, write_by, set, plans_by, HasTxn, at_a, at_x, shown}
 use Rattle.serial.specs.RowLists.{chain_of}
 
 -- the sum with a number, of one byte; no value counts as 0
 abbrev pub plus : ℕ → Option (List ℕ) → Option (List ℕ)
-plus n None = Some (n ∷ [])
-plus n (Some []) = Some (n ∷ [])
-plus n (Some (byte ∷ value)) = Some ((byte + n) % 256 ∷ [])
+plus n None = byte n
+plus n (Some []) = byte n
+plus n (Some (b ∷ value)) = byte ((b + n) % 256)
 
 module _ (limits : Limits) where
   -- A look-up in an index.
@@ -63,7 +51,7 @@ module _ (limits : Limits) where
   abbrev pub look_up_txn : Txn
   look_up_txn = txn limits 250 false (ab limits ∷ cd limits ∷ []) (xy limits ∷ []) refl
 
-  -- Two blind writes, which make a name c and give c another value, the look-up of it, and a blind write that makes a name b.
+  -- two blind writes, which make a name c and give c another value, the look-up, and a blind write that makes a name b
   abbrev pub index_chain : List Processed
   index_chain =
       chain_of limits (txn limits 0 false [] (ab limits ∷ []) refl) (txn limits 0 false [] (cd limits ∷ []) refl)
@@ -121,9 +109,9 @@ module _ (limits : Limits) where
     -- All are committed, and the look-up has found 7 at c. The law speaks of these plans, so both stores are the same.
     pub index_lookup : shown limits index_plans index_chain ≡ record {
       verdicts = [] ∷ (committed ∷ []) ∷ (committed ∷ []) ∷ (committed ∷ []) ∷ (committed ∷ []) ∷ [];
-      as_run = Some (98 ∷ []) ∷ Some (98 ∷ []) ∷ Some (7 ∷ []) ∷ Some (100 ∷ []) ∷ Some (109 ∷ []) ∷ Some (7 ∷ []) ∷ [];
+      as_run = byte 98 ∷ byte 98 ∷ byte 7 ∷ byte 100 ∷ byte 109 ∷ byte 7 ∷ [];
       serially =
-          Some (98 ∷ []) ∷ Some (98 ∷ []) ∷ Some (7 ∷ []) ∷ Some (100 ∷ []) ∷ Some (109 ∷ []) ∷ Some (7 ∷ []) ∷ [];
+          byte 98 ∷ byte 98 ∷ byte 7 ∷ byte 100 ∷ byte 109 ∷ byte 7 ∷ [];
     }
     pub index_lookup_keeps : AllKeepToWrites index_chain index_plans
     pub index_lookup_declared : AllReadOnlyDeclared first_store index_plans index_chain
@@ -134,9 +122,9 @@ module _ (limits : Limits) where
     pub atomic_addition : shown limits addition_plans addition_chain ≡ record {
       verdicts = [] ∷ (committed ∷ []) ∷ (committed ∷ []) ∷ (committed ∷ []) ∷ (committed ∷ []) ∷ [];
       as_run =
-          Some (111 ∷ []) ∷ Some (110 ∷ []) ∷ Some (99 ∷ []) ∷ Some (100 ∷ []) ∷ Some (109 ∷ []) ∷ Some (120 ∷ []) ∷ [];
+          byte 111 ∷ byte 110 ∷ byte 99 ∷ byte 100 ∷ byte 109 ∷ byte 120 ∷ [];
       serially =
-          Some (111 ∷ []) ∷ Some (110 ∷ []) ∷ Some (99 ∷ []) ∷ Some (100 ∷ []) ∷ Some (109 ∷ []) ∷ Some (120 ∷ []) ∷ [];
+          byte 111 ∷ byte 110 ∷ byte 99 ∷ byte 100 ∷ byte 109 ∷ byte 120 ∷ [];
     }
     pub atomic_addition_keeps : AllKeepToWrites addition_chain addition_plans
     pub atomic_addition_declared : AllReadOnlyDeclared first_store addition_plans addition_chain
@@ -146,8 +134,8 @@ module _ (limits : Limits) where
     -- The snapshot reader has found what a had at first. Run after the blind write, it would find 1. The reader of x copies that.
     pub snapshot_reader : shown limits snapshot_plans snapshot_chain ≡ record {
       verdicts = [] ∷ (committed ∷ []) ∷ (committed ∷ []) ∷ (committed ∷ []) ∷ (committed ∷ []) ∷ [];
-      as_run = Some (1 ∷ []) ∷ Some (1 ∷ []) ∷ Some (97 ∷ []) ∷ Some (100 ∷ []) ∷ Some (109 ∷ []) ∷ Some (97 ∷ []) ∷ [];
-      serially = Some (1 ∷ []) ∷ Some (1 ∷ []) ∷ Some (1 ∷ []) ∷ Some (100 ∷ []) ∷ Some (109 ∷ []) ∷ Some (1 ∷ []) ∷ [];
+      as_run = byte 1 ∷ byte 1 ∷ byte 97 ∷ byte 100 ∷ byte 109 ∷ byte 97 ∷ [];
+      serially = byte 1 ∷ byte 1 ∷ byte 1 ∷ byte 100 ∷ byte 109 ∷ byte 1 ∷ [];
     }
     pub snapshot_reader_differs :
         at_x limits (stores_after first_store snapshot_plans snapshot_chain).as_run

@@ -1,24 +1,5 @@
 -- What the transactions of the worked examples do, and what is shown of a list of processed batches.
-use Rattle.std.specs.Prelude.{
-  ◌≡◌,
-  ℕ,
-  zero,
-  suc,
-  Bool,
-  true,
-  false,
-  if◌then◌else◌,
-  List,
-  [],
-  ◌∷◌,
-  map,
-  Option,
-  Some,
-  None,
-  slice_get,
-  IsSomeAnd,
-  refl,
-}
+use Rattle.std.specs.Prelude.{◌≡◌, ℕ, zero, suc, true, if◌then◌else◌, List, [], ◌∷◌, map, Option, Some, None, slice_get, IsSomeAnd, refl}
 use Rattle.keys.specs.declared.range.Range.{Range}
 use Rattle.keyspace.specs.declared.txn.Txn.{Txn}
 use Rattle.keyspace.specs.declared.reply.Verdict.{Verdict}
@@ -37,6 +18,10 @@ first_store key bytes = Some key
 abbrev pub value_or_empty : Option (List ℕ) → List ℕ
 value_or_empty None = []
 value_or_empty (Some value) = value
+
+-- a value of one byte
+abbrev pub byte : ℕ → Option (List ℕ)
+byte n = Some (n ∷ [])
 
 -- Functions of the read ranges.
 

@@ -5,7 +5,7 @@ use Rattle.keyspace.specs.declared.txn.Txn.{Txn}
 use Rattle.keyspace.specs.Processed.{Processed}
 use Rattle.keyspace.specs.Rows.{Limits, committed, conflict}
 use Rattle.serial.specs.Commits.{IsCommitted}
-use Rattle.serial.specs.Stores.{Store, stores_after}
+use Rattle.serial.specs.Stores.{stores_after}
 use Rattle.serial.specs.Serial.{IsEffect, plan_of}
 use Rattle.serial.specs.RowStores.{first_store, effects_of, plans_of, at_x, shown}
 use Rattle.serial.specs.RowLists.{chain, flipped}

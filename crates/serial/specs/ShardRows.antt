@@ -16,7 +16,6 @@ use Rattle.std.specs.Prelude.{
 }
 use Rattle.keyspace.specs.declared.TheConstants.{WINDOW}
 use Rattle.keys.specs.declared.range.Range.{Range}
-use Rattle.keyspace.specs.declared.txn.Txn.{Txn}
 use Rattle.keyspace.specs.declared.reply.Verdict.{Verdict}
 use Rattle.keyspace.specs.declared.reply.Verdict.TheVariants.{Conflict, Committed}
 use Rattle.keyspace.specs.Processed.{Processed}
