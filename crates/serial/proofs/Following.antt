@@ -10,7 +10,8 @@ use Rattle.keyspace.specs.declared.reply.Entry.{Entry}
 use Rattle.keyspace.specs.Processed.{Processed}
 use Rattle.keyspace.specs.Writes.{Write, at_version, counted, committed, writes, writes_of, earlier}
 use Rattle.keyspace.specs.Chain.{IsChain}
-use Rattle.serial.specs.Serial.{IsCommitted, before, holds, holding, ReadsBelow, RealTime}
+use Rattle.serial.specs.Commits.{IsCommitted, before, holds, holding}
+use Rattle.serial.specs.Serial.{RealTime}
 use Rattle.serial.proofs.Reading.{the_value, chain_current}
 use Rattle.serial.proofs.Versions.{comes_before}
 
@@ -96,10 +97,10 @@ before_split ps k l q u c i j p h =
           ∙ regrouped first own txn others ws.0 last,
     )
 
--- in a chain whose transactions read below their batch's version, real time is kept
-pub chain_real_time : (window : ℤ) (ps : List Processed) → IsChain window ps → ReadsBelow ps → RealTime ps
-chain_real_time window ps chain below k l q u c i j p t d above =
-    let is_later = comes_before window ps chain k i q p t.snapshot c.batch d.batch above (below i j p t d) in
+-- in a chain, real time is kept by transactions that read below their batch's version
+pub chain_real_time : (window : ℤ) (ps : List Processed) → IsChain window ps → RealTime ps
+chain_real_time window ps chain k l q u c i j p t d below above =
+    let is_later = comes_before window ps chain k i q p t.snapshot c.batch d.batch above below in
     let split = before_split ps k l q u c i j p is_later in
     let txn = at_version q.batch.version u.writes in
     record {

@@ -25,7 +25,8 @@ use Rattle.std.proofs.lemmas.List.Elements.{filter-append}
 use Rattle.std.proofs.lemmas.List.Folds.{list_any-append}
 use Rattle.keys.specs.declared.range.Range.{Range}
 use Rattle.keyspace.specs.Writes.{Write, at_version}
-use Rattle.serial.specs.Serial.{holds, holding, up_to, in_ranges}
+use Rattle.serial.specs.Commits.{holds, holding, up_to}
+use Rattle.serial.specs.Stores.{in_ranges}
 use Rattle.serial.proofs.Filters.{filter_same, filter_fewer, none_lost, filter_none, none_passes, list_any-map}
 
 -- the write holds the key and is above the snapshot

@@ -39,7 +39,8 @@ use Rattle.keyspace.specs.Writes.{Write, writes, earlier}
 use Rattle.keyspace.specs.Judged.{IsInConflict, HasVerdict, edge}
 use Rattle.keyspace.specs.Chain.{IsChain}
 use Rattle.keys.proofs.callers.Booleans.{and_left, and_right, false_unless}
-use Rattle.serial.specs.Serial.{IsCommitted, holds, in_ranges, Current}
+use Rattle.serial.specs.Commits.{IsCommitted, holds, Current}
+use Rattle.serial.specs.Stores.{in_ranges}
 use Rattle.serial.proofs.Holding.{is_above, written_above, current_from_tests}
 
 -- a list is what stands before an element, the element, and what stands behind it
@@ -70,7 +71,7 @@ pub at_index : {X : Type 0} (xs : List X) (x : X) → Contains xs x → (i : ℕ
 at_index xs x c = (c.0, slice_get_read xs _ c.0 x refl c.1 (sym c.2))
 
 -- a version that isn't at or below the snapshot is above it
-above_from_test : (version snapshot : ℤ) → not (int_le version snapshot) ≡ true → snapshot <ℤ version
+pub above_from_test : (version snapshot : ℤ) → not (int_le version snapshot) ≡ true → snapshot <ℤ version
 above_from_test version snapshot h = grind (arith, ints)
 
 module _ (ws : List Write) (written : List Range) (t : Txn) (range : Range) (key : List ℕ)
