@@ -40,7 +40,7 @@ take_one_more [] n x h = cc
 take_one_more (y ∷ xs) zero x h = let e : y ≡ x = cc in ap (λ z. z ∷ []) e
 take_one_more (y ∷ xs) (suc n) x h = ap (λ ys. y ∷ ys) (take_one_more xs n x h)
 
--- and where there is no more, they are the first n
+-- and if there is no more, they are the first n
 pub take_no_more : {X : Type 0} (xs : List X) (n : ℕ) → slice_get xs n ≡ None → take (suc n) xs ≡ take n xs
 take_no_more [] zero h = refl
 take_no_more [] (suc n) h = refl
