@@ -55,6 +55,12 @@ pub fn serializable_by_shards()
         → AreByShards window points each ps → EachIsIsolated ps }
     ensures serializable { (window : ℤ) (points : List (List ℕ)) (each : List (List Processed)) (ps : List Processed)
         → AreByShards window points each ps → Serializable ps }
+    ensures effects { (window : ℤ) (points : List (List ℕ)) (each : List (List Processed)) (ps : List Processed)
+        → AreByShards window points each ps → EffectsAreSerializable ps }
+    ensures places { (window : ℤ) (points : List (List ℕ)) (each : List (List Processed)) (ps : List Processed)
+        → AreByShards window points each ps → SnapshotsArePlaces ps }
+    ensures follows { (window : ℤ) (points : List (List ℕ)) (each : List (List Processed)) (ps : List Processed)
+        → AreByShards window points each ps → RealTime ps }
 {}
 
 /// The worked examples, computed on the definitions.
