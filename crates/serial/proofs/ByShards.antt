@@ -23,7 +23,7 @@ use Rattle.std.proofs.Common.{
   inl,
   inr,
 }
-use Rattle.std.specs.Prelude.{Option, Some, slice_get, IsSomeAnd, Contains}
+use Rattle.std.specs.Prelude.{◌≤ℤ◌, Option, Some, slice_get, IsSomeAnd, Contains}
 use Rattle.std.specs.List.{AllZip}
 use Rattle.std.proofs.lemmas.List.Elements.{All-get_or}
 use Rattle.std.proofs.lemmas.Option.{slice_get_within, slice_get-get_or, get_or_from_slice_get}
@@ -49,6 +49,7 @@ use Rattle.serial.specs.Shards.{
 }
 use Rattle.serial.proofs.Holding.{written_above, current_from_tests, low_from_current, none_from_current}
 use Rattle.serial.proofs.Reading.{some_at, at_index, chain_current}
+use Rattle.serial.proofs.Versions.{VersionsRise, version_up_to}
 use Rattle.serial.proofs.Clipping.{CommittedAt, partner, clip_holds, written_by_clips, clips_above}
 
 -- the element at an index of a list is an element of it
@@ -126,3 +127,26 @@ shards_current window points each ps by_shards i j p t c range read key bytes he
     All-get_or (SaysCommitted k l) each m [] inside (by_shards.verdicts k l s) in
     current_in_shard place.1 ps own clips says (chain_current window own chain) i j p t c range read key bytes held
     place.3
+
+-- the versions of a batch and of its clip are the same, so versions rise if those of a shard's own list do
+rises_with : (shard : Shard) (ps own : List Processed)
+    → AllZip (λ (p c : Processed). IsBatchClip shard p.batch c.batch) ps own → VersionsRise own → VersionsRise ps
+rises_with shard ps own clips rise i k p q here there h =
+    let R = λ (p c : Processed). IsBatchClip shard p.batch c.batch in
+    let one = partner R ps own clips i p here in
+    let other = partner R ps own clips k q there in
+    subst (λ v. p.batch.version ≤ℤ v) other.2.version (subst (λ v. v ≤ℤ other.0.batch.version) one.2.version
+    (rise i k one.0 other.0 one.1 other.1 h))
+
+-- if each shard's own list is a chain, the versions of the batches rise
+pub shards_rise : (window : ℤ) (points : List (List ℕ)) (each : List (List Processed)) (ps : List Processed)
+    → AreByShards window points each ps → VersionsRise ps
+shards_rise window points each ps by_shards =
+    let place = some_shard points [] [] refl in
+    let m = place.0 in
+    let inside : m < length each = subst (λ n. m < n) (sym by_shards.one_each)
+    (slice_get_within (shards points) m place.1 place.2) in
+    let own = get_or each m [] in
+    let chain = All-get_or (IsChain window) each m [] inside by_shards.chains in
+    rises_with place.1 ps own (by_shards.clips m place.1 own place.2 (slice_get-get_or each m [] inside))
+    (version_up_to window own chain)

@@ -1,21 +1,48 @@
 -- The worked examples of lists that aren't chains.
 use Rattle.std.proofs.Common.{false, ◌≡◌, ℕ, zero, suc, ◌<◌, ◌≤◌, true, List, [], ◌∷◌, take, drop, map, ℤ, ◌<ℤ◌, refl, ap, subst, arith}
-use Rattle.std.specs.Prelude.{◌≤ℤ◌, pos, Some, slice_get, All}
+use Rattle.std.specs.Prelude.{IsSomeAnd, ◌≤ℤ◌, pos, Some, slice_get, All}
 use Rattle.std.proofs.lemmas.Int.{ints}
 use Rattle.keys.specs.Key.{IsBytes}
 use Rattle.keyspace.specs.declared.txn.Txn.{Txn}
 use Rattle.keyspace.specs.Processed.{Processed}
 use Rattle.keyspace.specs.Writes.{Write}
+use Rattle.keyspace.specs.declared.TheConstants.{WINDOW}
+use Rattle.keyspace.specs.declared.reply.Verdict.TheVariants.{Committed}
+use Rattle.keyspace.specs.declared.reply.Entry.{Entry}
+use Rattle.keyspace.specs.Laws.{RunsAreChains}
 use Rattle.keyspace.specs.Rows.{Limits, letter, txn, ab, xy, write_ab}
 use Rattle.serial.specs.Commits.{IsCommitted, Current}
 use Rattle.serial.specs.Stores.{at_snapshot, stores_after}
-use Rattle.serial.specs.Serial.{IsPlace, RealTime}
-use Rattle.serial.specs.RowStores.{first_store, effect_of, letter_bytes, at_x}
+use Rattle.serial.specs.Serial.{ReadsAreCurrent, IsPlace, RealTime}
+use Rattle.serial.specs.RowStores.{first_store, effect_of, HasTxn, letter_bytes, at_x}
 use Rattle.serial.specs.ClauseRows.{flipped_chain, flipped_plans, swapped_chain, swapped_writers, ClauseRows}
 use Rattle.serial.proofs.Running.{effect_declared}
 use Rattle.serial.proofs.Isolation.{current_isolated}
+use Rattle.serial.specs.RowLists.{processed_by, committed_if_conflict, chain, all_kinds}
+use Rattle.serial.proofs.Reading.{some_at, the_value}
+use Rattle.serial.proofs.Versions.{VersionsRise, version_up_to}
+use Rattle.serial.proofs.Following.{real_time}
 use Rattle.serial.proofs.ByShards.{contains_at}
 use Rattle.serial.proofs.EffectRows.{effect_kept, effects_keep, effects_declared}
+
+-- a batch keeps its version, whatever its verdicts
+kept_version : (entry : Entry → Entry) (ps : List Processed) (i : ℕ) (p : Processed)
+    → slice_get (map (processed_by entry) ps) i ≡ Some p
+    → (q : Processed) × (slice_get ps i ≡ Some q) × (q.batch.version ≡ p.batch.version)
+kept_version entry [] i p h = absurd (let never : ⊥ = cc in never)
+kept_version entry (q ∷ ps) zero p h =
+    let same : processed_by entry q ≡ p = cc in
+    (q, refl, ap (λ (x : Processed). x.batch.version) same)
+kept_version entry (q ∷ ps) (suc i) p h = kept_version entry ps i p h
+
+-- so versions rise whatever the verdicts
+rises_by : (entry : Entry → Entry) (ps : List Processed) → VersionsRise ps
+    → VersionsRise (map (processed_by entry) ps)
+rises_by entry ps rise i k p q here there h =
+    let one = kept_version entry ps i p here in
+    let other = kept_version entry ps k q there in
+    subst (λ v. p.batch.version ≤ℤ v) other.2 (subst (λ v. v ≤ℤ other.0.batch.version) one.2
+    (rise i k one.0 other.0 one.1 other.1 h))
 
 -- what holds of all versions holds of one
 version_at : (Q : ℤ → Type 0) (ps : List Processed) → All (λ p. Q p.batch.version) ps
@@ -26,6 +53,21 @@ version_at Q (p ∷ ps) all zero v h =
     subst Q same (all 0 p (omega arith))
 version_at Q (p ∷ ps) all (suc k) v h =
     version_at Q ps (λ m d below. all (suc m) d (omega (arith, below))) k v h
+
+-- what holds of a committed transaction holds of the one at these indices, if it is committed
+of_committed : (ps : List Processed) (i j : ℕ) (P : Processed → Txn → Type 0)
+    → ((p : Processed) (t : Txn) → IsCommitted ps i j p t → P p t)
+    → HasTxn ps i j (λ p t. IsSomeAnd (slice_get p.reply.entries j) (λ e. e.verdict ≡ Committed))
+    → HasTxn ps i j P
+of_committed ps i j P each there =
+    let batch = the_value (λ (p : Processed). IsSomeAnd (slice_get p.batch.txns j) (λ t.
+    IsSomeAnd (slice_get p.reply.entries j) (λ e. e.verdict ≡ Committed))) (slice_get ps i) there in
+    let p = batch.0 in
+    let txn = the_value (λ (t : Txn). IsSomeAnd (slice_get p.reply.entries j) (λ e. e.verdict ≡ Committed))
+    (slice_get p.batch.txns j) batch.2 in
+    let c : IsCommitted ps i j p txn.0 = record { batch = batch.1; txn = txn.1; verdict = txn.2 } in
+    some_at (λ (p : Processed). IsSomeAnd (slice_get p.batch.txns j) (λ t. P p t)) (slice_get ps i) p batch.1
+    (some_at (λ (t : Txn). P p t) (slice_get p.batch.txns j) txn.0 txn.1 (each p txn.0 c))
 
 -- a number that is at most another one isn't above it, as a version
 not_above : (a b : ℕ) → pos a <ℤ pos b → b ≤ a → ⊥
@@ -129,27 +171,38 @@ module _ (limits : Limits) where
 
   not_current : Current (flipped_chain limits) → ⊥
   not_current current =
-      let c : IsCommitted (flipped_chain limits) 2 1 _ _ = record { batch = refl; txn = refl; verdict = refl } in
       let isolated = current_isolated (flipped_chain limits) current first_store (flipped_plans limits)
-      (effects_keep (flipped_chain limits)) 2 1 _ flipped_txn c in
-      not_same_a _ _ refl refl (isolated.reads (letter 97) a_bytes refl)
+      (effects_keep (flipped_chain limits)) 2 1 in
+      let reads = of_committed (flipped_chain limits) 2 1
+      (λ p t. ReadsAreCurrent first_store (flipped_plans limits) (flipped_chain limits) 2 1 p t)
+      (λ p t c. (isolated p t c).reads) (refl {a = Committed}) in
+      not_same_a _ _ refl refl (reads (letter 97) a_bytes refl)
 
-  pub rows : ClauseRows limits
-  rows = record {
-    reads_fails = (refl, refl, λ h. not_same_a _ _ refl refl (h (letter 97) a_bytes refl));
-    place_fails = (
-      refl,
-      refl,
-      λ h.
-          let declared = effect_declared flipped_txn (effect_of (Some flipped_txn) 2 1) (flipped_plans limits 2 1)
-          (effect_kept flipped_txn 2 1) refl _ _ in
-          not_same_x _ _ refl refl (ap (at_x limits) (h declared)),
-    );
-    serial_reads_fails = (refl, λ h. not_same_a _ _ refl refl (h (letter 97) a_bytes refl));
-    store_fails = (refl, refl, λ h. not_same_x _ _ refl refl (ap (at_x limits) h));
-    serial_place_fails = (refl, refl, no_place);
-    place_needs_versions = λ plans place. nowhere place.batches place.included place.later;
-    later_needs_versions = not_real_time;
-    follows_needs_versions = not_following;
-    flipped_not_current = not_current;
-  }
+  module _ (are_chains : RunsAreChains) where
+    -- the versions of the list with other verdicts rise
+    flipped_rises : VersionsRise (flipped_chain limits)
+    flipped_rises =
+        rises_by (λ e. committed_if_conflict e.verdict e) (chain limits)
+        (version_up_to WINDOW (chain limits) (are_chains WINDOW (all_kinds limits)))
+
+    pub rows : ClauseRows limits
+    rows = record {
+      reads_fails = (refl, refl, λ h. not_same_a _ _ refl refl (h (letter 97) a_bytes refl));
+      place_fails = (
+        refl,
+        refl,
+        λ h.
+            let declared = effect_declared flipped_txn (effect_of (Some flipped_txn) 2 1) (flipped_plans limits 2 1)
+            (effect_kept flipped_txn 2 1) refl _ _ in
+            not_same_x _ _ refl refl (λ i. at_x limits (h declared i)),
+      );
+      serial_reads_fails = (refl, λ h. not_same_a _ _ refl refl (h (letter 97) a_bytes refl));
+      store_fails = (refl, refl, λ h. not_same_x _ _ refl refl (λ i. at_x limits (h i)));
+      serial_place_fails = (refl, refl, no_place);
+      place_needs_versions = λ plans place. nowhere place.batches place.included place.later;
+      place_ignores_verdicts = refl;
+      real_time_ignores_verdicts = real_time (flipped_chain limits) flipped_rises;
+      later_needs_versions = not_real_time;
+      follows_needs_versions = not_following;
+      flipped_not_current = not_current;
+    }

@@ -159,7 +159,7 @@ either_of false true = refl
 either_of false false = refl
 
 -- writes at one version hold the key above the snapshot exactly if their ranges hold it and the version is above
-above_at_version : (snapshot version : ℤ) (key : List ℕ) (ranges : List Range)
+pub above_at_version : (snapshot version : ℤ) (key : List ℕ) (ranges : List Range)
     → written_above snapshot key (at_version version ranges)
     ≡ (in_ranges ranges key && not (int_le version snapshot))
 above_at_version snapshot version key [] = refl

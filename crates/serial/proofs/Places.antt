@@ -1,4 +1,4 @@
--- In a chain, a snapshot is a place in the commit order.
+-- If versions rise and reads are current, a snapshot is a place in the commit order.
 use Rattle.std.proofs.Common.{◌≡◌, ℕ, zero, suc, ◌+◌, ◌<◌, ◌≤◌, true, false, List, [], ◌∷◌, length, take, drop, get_or, ℤ, int_le, ◌<ℤ◌, refl, sym, ◌∙◌, ap, subst, arith, inl, inr}
 use Rattle.std.specs.Prelude.{◌≤ℤ◌, Option, Some, None, slice_get, All}
 use Rattle.std.proofs.Math.Seq.{take-length}
@@ -9,11 +9,12 @@ use Rattle.keys.proofs.callers.Booleans.{true_or_false}
 use Rattle.keyspace.specs.Processed.{Processed}
 use Rattle.keyspace.specs.Chain.{IsChain}
 use Rattle.serial.specs.Stores.{Store, Plans, Stores, start, at_snapshot, run_txns, stores_after}
+use Rattle.serial.specs.Commits.{Current}
 use Rattle.serial.specs.Serial.{IsPlace, SnapshotsArePlaces}
 use Rattle.serial.proofs.Reading.{chain_current, above_from_test}
 use Rattle.serial.proofs.Steps.{from_take, maybe_batch, run_batches-suc, run_txns-after, at_snapshot-low, at_snapshot-high}
 use Rattle.serial.proofs.Running.{same_after}
-use Rattle.serial.proofs.Versions.{take_no_more, at_most_through, version_up_to}
+use Rattle.serial.proofs.Versions.{take_no_more, at_most_through, VersionsRise, version_up_to}
 
 -- an element after the first ones of a list is in the list, as many places on
 from_drop : {X : Type 0} (xs : List X) (n k : ℕ) (x : X) → slice_get (drop n xs) k ≡ Some x
@@ -35,8 +36,7 @@ all_from_each P xs each = λ k d below. each k (get_or xs k d) (slice_get-get_or
 at_or_below : (version snapshot : ℤ) → int_le version snapshot ≡ true → version ≤ℤ snapshot
 at_or_below version snapshot h = grind (arith, ints)
 
-module _ (window : ℤ) (ps : List Processed) (chain : IsChain window ps) (first : Store) (plans : Plans)
-    (snapshot : ℤ) where
+module _ (ps : List Processed) (rise : VersionsRise ps) (first : Store) (plans : Plans) (snapshot : ℤ) where
   -- The first i batches are those up to the last one with a version at or below the snapshot, and later ones. The store at the
   -- snapshot is what the former left.
   record IsSplit (i : ℕ) : Type 0 where
@@ -114,7 +114,7 @@ module _ (window : ℤ) (ps : List Processed) (chain : IsChain window ps) (first
         within = omega arith;
         included = λ k q below there.
             at_most_through q.batch.version p.batch.version snapshot
-            (version_up_to window ps chain k i q p there at (omega (arith, below)))
+            (rise k i q p there at (omega (arith, below)))
             (at_or_below p.batch.version snapshot low);
         later = λ k q above below there. absurd (omega (arith, above, below));
         store = ap (λ (s : Stores). at_snapshot snapshot first s.after) more
@@ -141,9 +141,9 @@ module _ (window : ℤ) (ps : List Processed) (chain : IsChain window ps) (first
   }
   split_up_to (suc i) = split_one_more i (slice_get ps i) refl (split_up_to i)
 
-  -- so the snapshot is a place
-  is_place : IsPlace first plans ps snapshot
-  is_place =
+  -- so the snapshot is a place, if reads are current
+  is_place : Current ps → IsPlace first plans ps snapshot
+  is_place current =
       let split = split_up_to (length ps) in
       let store = subst (λ qs. at_snapshot snapshot first (stores_after first plans qs).after
       ≡ (stores_after first plans (take split.batches ps)).as_run) (take-length ps) split.store in
@@ -156,9 +156,13 @@ module _ (window : ℤ) (ps : List Processed) (chain : IsChain window ps) (first
             split.later there.0 q there.1 (slice_get_within ps there.0 q there.2) there.2);
         store = store;
         serially = λ keep declared. store
-            ∙ same_after first plans ps (chain_current window ps chain) keep declared split.batches;
+            ∙ same_after first plans ps current keep declared split.batches;
       }
 
--- each snapshot is a place in a chain
+-- if versions rise and reads are current, each snapshot is a place
+pub places : (ps : List Processed) → VersionsRise ps → Current ps → SnapshotsArePlaces ps
+places ps rise current first plans snapshot = is_place ps rise first plans snapshot current
+
+-- so it is in a chain
 pub chain_places : (window : ℤ) (ps : List Processed) → IsChain window ps → SnapshotsArePlaces ps
-chain_places window ps chain first plans snapshot = is_place window ps chain first plans snapshot
+chain_places window ps chain = places ps (version_up_to window ps chain) (chain_current window ps chain)

@@ -111,7 +111,7 @@ module _ (limits : Limits) where
       (λ p. keeps_by blind_ab _) (λ p. keeps_by blind_cd _) (λ p. keeps_by (look_up_txn limits) _)
       (λ p. keeps_by blind_ab _)
 
-  -- a store whose key a names c gives the look-up the value at c, as any store does that is the same where it reads
+  -- in a store whose key a names c, the look-up finds the value at c, and so it does in any store with the same at both
   look_up_declared : (read changed : Store) → at_a limits read ≡ Some (letter 99)
       → ReadsOnlyDeclared (look_up_txn limits) (look_up_plan limits) read changed
   look_up_declared read changed named =

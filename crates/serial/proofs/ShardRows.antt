@@ -18,7 +18,7 @@ use Rattle.keyspace.specs.Run.{run}
 use Rattle.keyspace.specs.Rows.{Limits, letter, ab, bc, cd, xy, nothing}
 use Rattle.serial.specs.Commits.{holds}
 use Rattle.serial.specs.Shards.{Shard, has_key, shards, IsClip, IsBatchClip, SaysCommitted, AreByShards}
-use Rattle.serial.specs.RowLists.{told}
+use Rattle.serial.specs.RowLists.{with_verdicts}
 use Rattle.serial.specs.ShardRows.{at_m, whole, whole_below, whole_above, each_shard, ShardRows}
 use Rattle.serial.proofs.ByShards.{none_before_empty}
 
@@ -157,36 +157,36 @@ module _ (limits : Limits) where
         ),
       )
 
-  -- clips are of batches, whatever the clients were told
-  clips_told : (shard : Shard) (verdicts : List Verdict) (ps own : List Processed) → AllZip (IsClipOf shard) ps own
-      → AllZip (IsClipOf shard) (told verdicts ps) own
-  clips_told shard [] ps own zipped = zipped
-  clips_told shard (verdict ∷ verdicts) [] own zipped = zipped
-  clips_told shard (verdict ∷ verdicts) (p ∷ ps) [] zipped = absurd zipped
-  clips_told shard (verdict ∷ verdicts) (p ∷ ps) (c ∷ own) zipped =
-      (zipped.0, clips_told shard verdicts ps own zipped.1)
+  -- clips are of batches, whatever verdicts the clients received
+  clips_stay : (shard : Shard) (verdicts : List Verdict) (ps own : List Processed) → AllZip (IsClipOf shard) ps own
+      → AllZip (IsClipOf shard) (with_verdicts verdicts ps) own
+  clips_stay shard [] ps own zipped = zipped
+  clips_stay shard (verdict ∷ verdicts) [] own zipped = zipped
+  clips_stay shard (verdict ∷ verdicts) (p ∷ ps) [] zipped = absurd zipped
+  clips_stay shard (verdict ∷ verdicts) (p ∷ ps) (c ∷ own) zipped =
+      (zipped.0, clips_stay shard verdicts ps own zipped.1)
 
   -- so each shard has the clips of the batches
   clips_of : (verdicts : List Verdict) (m : ℕ) (shard : Shard) (own : List Processed)
       → slice_get (shards at_m) m ≡ Some shard → slice_get (each_shard limits) m ≡ Some own
-      → AllZip (IsClipOf shard) (told verdicts (run WINDOW (whole limits)).processed) own
+      → AllZip (IsClipOf shard) (with_verdicts verdicts (run WINDOW (whole limits)).processed) own
   clips_of verdicts zero shard own here there =
       let is_below : below ≡ shard = cc in
       let is_own : (run WINDOW (whole_below limits)).processed ≡ own = cc in
-      let ps = told verdicts (run WINDOW (whole limits)).processed in
-      let clips = clips_told below verdicts _ _ below_clips in
+      let ps = with_verdicts verdicts (run WINDOW (whole limits)).processed in
+      let clips = clips_stay below verdicts _ _ below_clips in
       subst (λ s. AllZip (IsClipOf s) ps own) is_below (subst (λ cs. AllZip (IsClipOf below) ps cs) is_own clips)
   clips_of verdicts (suc zero) shard own here there =
       let is_above : above ≡ shard = cc in
       let is_own : (run WINDOW (whole_above limits)).processed ≡ own = cc in
-      let ps = told verdicts (run WINDOW (whole limits)).processed in
-      let clips = clips_told above verdicts _ _ above_clips in
+      let ps = with_verdicts verdicts (run WINDOW (whole limits)).processed in
+      let clips = clips_stay above verdicts _ _ above_clips in
       subst (λ s. AllZip (IsClipOf s) ps own) is_above (subst (λ cs. AllZip (IsClipOf above) ps cs) is_own clips)
   clips_of verdicts (suc (suc m)) shard own here there = absurd (let never : ⊥ = cc in never)
 
-  -- both shards have committed the first transaction and the last one, so the last may be told committed or not
+  -- both shards have committed the first transaction and the last one, so the proxy may commit or reject the last
   both_say : (last : Verdict) (i j : ℕ)
-      → SaysCommitted i j (told (Committed ∷ Committed ∷ Conflict ∷ Conflict ∷ last ∷ []) (run WINDOW (whole limits)).processed)
+      → SaysCommitted i j (with_verdicts (Committed ∷ Committed ∷ Conflict ∷ Conflict ∷ last ∷ []) (run WINDOW (whole limits)).processed)
       → All (SaysCommitted i j) (each_shard limits)
   both_say last zero j h = absurd (none_committed j h)
   both_say last (suc zero) zero h = all_two (SaysCommitted 1 0) _ _ refl refl
@@ -200,11 +200,11 @@ module _ (limits : Limits) where
   both_say last (suc (suc (suc (suc (suc i))))) j h = elim h [ ]
 
   module _ (are_chains : RunsAreChains) where
-    -- what the clients were told is by shards if both have committed what was told committed
+    -- verdicts are by shards if both have committed each transaction that the client has as committed
     by_shards : (verdicts : List Verdict)
-        → ((i j : ℕ) → SaysCommitted i j (told verdicts (run WINDOW (whole limits)).processed)
+        → ((i j : ℕ) → SaysCommitted i j (with_verdicts verdicts (run WINDOW (whole limits)).processed)
         → All (SaysCommitted i j) (each_shard limits))
-        → AreByShards WINDOW at_m (each_shard limits) (told verdicts (run WINDOW (whole limits)).processed)
+        → AreByShards WINDOW at_m (each_shard limits) (with_verdicts verdicts (run WINDOW (whole limits)).processed)
     by_shards verdicts says = record {
       rising = (refl, tt);
       one_each = refl;

@@ -56,9 +56,14 @@ module _ (limits : Limits) where
         ≡ Some (2 ∷ 1 ∷ 97 ∷ []))
         × (at_x limits (stores_after first_store flipped_plans (take 3 flipped_chain)).serially ≡ Some (2 ∷ 1 ∷ 1 ∷ 0 ∷ []))
         × ¬ IsPlace first_store flipped_plans flipped_chain (pos 250)
-    -- Whatever the verdicts are, the store at a snapshot is one that a prefix of a chain leaves. That fails if versions fall.
+    -- As the transactions were run, it finds what the first three batches left: verdicts don't matter there, only versions do.
+    pub place_ignores_verdicts :
+        at_snapshot (pos 250) first_store (stores_after first_store flipped_plans flipped_chain).after
+        ≡ (stores_after first_store flipped_plans (take 3 flipped_chain)).as_run
     pub place_needs_versions : (plans : Plans) → ¬ IsPlace first_store plans swapped_chain (pos 150)
-    -- So does the real-time order: the batch of version 100 comes after a batch whose reader has snapshot 100.
+    -- So it is with real time.
+    pub real_time_ignores_verdicts : RealTime flipped_chain
+    -- The batch of version 100 comes after a batch whose reader has snapshot 100.
     pub later_needs_versions : ¬ RealTime swapped_chain
     -- The reader at snapshot 150 comes after both writers, and its snapshot doesn't include the first of them in the list.
     pub follows_needs_versions : ¬ RealTime swapped_writers

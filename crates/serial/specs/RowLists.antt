@@ -52,10 +52,10 @@ abbrev pub flipped : List Processed → List Processed
 flipped ps = map (processed_by (λ e. committed_if_conflict e.verdict e)) ps
 
 -- one verdict per batch, for all its transactions
-abbrev pub told : List Verdict → List Processed → List Processed
-told [] ps = ps
-told (verdict ∷ verdicts) [] = []
-told (verdict ∷ verdicts) (p ∷ ps) = processed_by (λ e. without_places verdict) p ∷ told verdicts ps
+abbrev pub with_verdicts : List Verdict → List Processed → List Processed
+with_verdicts [] ps = ps
+with_verdicts (verdict ∷ verdicts) [] = []
+with_verdicts (verdict ∷ verdicts) (p ∷ ps) = processed_by (λ e. without_places verdict) p ∷ with_verdicts verdicts ps
 
 -- the list with its second and third batch in each other's place
 abbrev pub swapped : List Processed → List Processed

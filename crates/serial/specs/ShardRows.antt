@@ -23,7 +23,7 @@ use Rattle.keyspace.specs.Run.{Step, run}
 use Rattle.keyspace.specs.Rows.{Limits, letter, txn, ab, bc, cd, xy, nothing}
 use Rattle.serial.specs.Commits.{holds}
 use Rattle.serial.specs.Shards.{Shard, has_key, shards, SaysCommitted, AreByShards}
-use Rattle.serial.specs.RowLists.{told, four}
+use Rattle.serial.specs.RowLists.{with_verdicts, four}
 
 abbrev pub verdicts_of : List Step → List Verdict
 verdicts_of log = flat_map (λ p. map (λ e. e.verdict) p.reply.entries) (run WINDOW log).processed
@@ -94,11 +94,11 @@ module _ (limits : Limits) where
 
   -- the batches as they were sent, with the verdicts of both shards together
   abbrev pub of_both : List Processed
-  of_both = told (Committed ∷ Committed ∷ Conflict ∷ Conflict ∷ Committed ∷ []) (run WINDOW whole).processed
+  of_both = with_verdicts (Committed ∷ Committed ∷ Conflict ∷ Conflict ∷ Committed ∷ []) (run WINDOW whole).processed
 
   -- the same, but the proxy has rejected the last transaction
   abbrev pub with_rejection : List Processed
-  with_rejection = told (Committed ∷ Committed ∷ Conflict ∷ Conflict ∷ Conflict ∷ []) (run WINDOW whole).processed
+  with_rejection = with_verdicts (Committed ∷ Committed ∷ Conflict ∷ Conflict ∷ Conflict ∷ []) (run WINDOW whole).processed
 
   pub record ShardRows : Type 0 where
     -- The clipped ranges hold, of the six keys, those of their range that lie in the shard. The ranges are [x,y), [c,d), [b,c),
@@ -123,6 +123,6 @@ module _ (limits : Limits) where
     }
     -- so the laws of shards speak of both together
     pub shards_together : AreByShards WINDOW at_m each_shard of_both
-    -- Both shards have committed the last transaction, and its client was told conflict. The laws speak of that too.
+    -- Both shards have committed the last transaction, and its client received a conflict. The laws speak of that too.
     pub proxy_rejects : AreByShards WINDOW at_m each_shard with_rejection
     pub proxy_rejects_committed : All (SaysCommitted 4 0) each_shard × ¬ SaysCommitted 4 0 with_rejection

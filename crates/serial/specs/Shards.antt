@@ -87,7 +87,7 @@ SaysCommitted i j ps =
     IsSomeAnd (slice_get ps i) (λ p. IsSomeAnd (slice_get p.reply.entries j) (λ e. e.verdict ≡ Committed))
 
 -- What the resolvers of all shards have processed, one list per shard, and what comes of it: the batches as they were sent, each
--- with the verdicts that the clients were told.
+-- with the verdicts that the clients received.
 pub record AreByShards (window : ℤ) (points : List (List ℕ)) (each : List (List Processed)) (ps : List Processed) : Type 0 where
   pub rising : IsRising [] points
   pub one_each : length each ≡ length (shards points)

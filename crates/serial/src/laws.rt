@@ -46,8 +46,8 @@ pub fn one_shard_per_key()
     ensures one { OneShardEach }
 {}
 
-/// If each shard of the keys has a resolver of its own, and a transaction is committed only if every one of them says so, the laws hold
-/// of what the clients were told. Each shard remembers what it committed itself, which may be more than what all did.
+/// If each shard of the keys has its own resolver, and a transaction is committed only if every one of them says so, the laws hold of
+/// the verdicts that the clients received. Each shard remembers what it committed, which may be more than what all of them did.
 pub fn serializable_by_shards()
     ensures current { (window : ℤ) (points : List (List ℕ)) (each : List (List Processed)) (ps : List Processed)
         → AreByShards window points each ps → Current ps }
@@ -55,6 +55,12 @@ pub fn serializable_by_shards()
         → AreByShards window points each ps → EachIsIsolated ps }
     ensures serializable { (window : ℤ) (points : List (List ℕ)) (each : List (List Processed)) (ps : List Processed)
         → AreByShards window points each ps → Serializable ps }
+    ensures effects { (window : ℤ) (points : List (List ℕ)) (each : List (List Processed)) (ps : List Processed)
+        → AreByShards window points each ps → EffectsAreSerializable ps }
+    ensures places { (window : ℤ) (points : List (List ℕ)) (each : List (List Processed)) (ps : List Processed)
+        → AreByShards window points each ps → SnapshotsArePlaces ps }
+    ensures follows { (window : ℤ) (points : List (List ℕ)) (each : List (List Processed)) (ps : List Processed)
+        → AreByShards window points each ps → RealTime ps }
 {}
 
 /// The worked examples, computed on the definitions.

@@ -15,7 +15,7 @@ returns c = record {
       chain_of_all_kinds = refl;
       flipped_verdict = refl;
       flipped_verdict_differs = clauses.not_same_x _ _ refl refl;
-      clauses = clauses.rows limits;
+      clauses = clauses.rows limits c.runs_are_chains.ensures.chain;
       plans = plans.rows limits c.runs_are_chains.ensures.chain;
       shards = shards.rows limits c.runs_are_chains.ensures.chain;
     },
