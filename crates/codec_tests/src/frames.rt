@@ -166,14 +166,6 @@ fn interrupted(alloc: Global, interruptions: u32) -> Result<String, Unmade> {
     answers(alloc, StdSource::new(reader), 1)
 }
 
-#[test]
-fn interruptions(rt: HostRuntime) -> Result<(), Fail> {
-    let alloc = rt.alloc();
-    expect(&rt, interrupted(alloc, 999), "-1>0 received -1")?;
-    expect(&rt, interrupted(alloc, 1_000), "-1>0 received -1")?;
-    expect(&rt, interrupted(alloc, 1_001), "12 Read")
-}
-
 // Two answers of a reader that fails once.
 fn failed_once(alloc: Global) -> Result<String, Unmade> {
     let bytes = bytes_of(alloc, EMPTY_BATCH)?;

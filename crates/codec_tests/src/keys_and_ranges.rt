@@ -2,8 +2,8 @@
 
 use crate::rows::expect;
 use fixtures::{Unmade, key, range};
-use keys::{head_behind, key_hash, same_bytes};
-use keyspace::{Range, common_prefix_len, key_head};
+use keys::key_hash;
+use keyspace::Range;
 use std::alloc::Global;
 use std::test::Fail;
 
@@ -70,39 +70,6 @@ fn copies_a_lent_range(rt: HostRuntime) -> Result<(), Fail> {
     Ok(())
 }
 
-#[test]
-fn heads_of_short_keys(rt: HostRuntime) {
-    for (key, number) in [
-        ("", 0),
-        ("a", 0x6100_0000_0000_0000),
-        ("abcdefg", 0x6162_6364_6566_6700),
-        ("abcdefgh", 0x6162_6364_6566_6768),
-        ("abcdefghi", 0x6162_6364_6566_6768),
-    ] {
-        assert_eq!(rt; key_head(key.as_bytes()), number, "of {key}");
-    }
-}
-
-#[test]
-fn heads_behind_prefixes(rt: HostRuntime) {
-    for (key, prefix_len, number) in [
-        ("abcdefghij", 0, 0x6162_6364_6566_6768),
-        ("abcdefghij", 2, 0x6364_6566_6768_696a),
-        ("abcdefghij", 3, 0x6465_6667_6869_6a00),
-        ("abcdefghij", 9, 0x6a00_0000_0000_0000),
-        ("abcdefghij", 10, 0),
-        ("abcdefghij", 11, 0),
-        ("abc", 1, 0x6263_0000_0000_0000),
-        ("abc", 3, 0),
-    ] {
-        assert_eq!(rt;
-            head_behind(key.as_bytes(), prefix_len),
-            number,
-            "of {key} behind {prefix_len}"
-        );
-    }
-}
-
 // Computed by hand from the definition, with another program.
 #[test]
 fn hashes_of_keys(rt: HostRuntime) {
@@ -132,38 +99,4 @@ fn single_keys_alone_have_hashes(rt: HostRuntime) -> Result<(), Fail> {
     assert_eq!(rt; hash_between(alloc, b"a", b"a\0\0")?, None);
     assert_eq!(rt; hash_between(alloc, b"a", b"b")?, None);
     Ok(())
-}
-
-#[test]
-fn common_of_heads(rt: HostRuntime) {
-    for (one, other, count) in [("", "a", 0), ("ab", "ac", 1), ("abcdefgh", "abcdefghi", 8)] {
-        assert_eq!(rt;
-            same_bytes(key_head(one.as_bytes()), key_head(other.as_bytes())),
-            count,
-            "of {one}"
-        );
-    }
-}
-
-#[test]
-fn common_of_keys(rt: HostRuntime) {
-    for (one, other, count) in [
-        ("", "a", 0),
-        ("abc", "xbc", 0),
-        ("abc", "abd", 2),
-        ("abc", "abc", 3),
-        ("abc", "abcd", 3),
-        ("abcd", "abc", 3),
-        ("abcdefgh", "abcdefgh", 8),
-        ("abcdefghijk", "abcdefgh", 8),
-        ("abcdefghijkl", "abcdefgXijkl", 7),
-        ("abcdefghijkl", "abcdefghijXl", 10),
-        ("abcdefghijklmnopq", "abcdefghijklmnopr", 16),
-    ] {
-        assert_eq!(rt;
-            common_prefix_len(one.as_bytes(), other.as_bytes()),
-            count,
-            "of {one}"
-        );
-    }
 }

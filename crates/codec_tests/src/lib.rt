@@ -1,7 +1,7 @@
 //! Tests of the data and of its wire form, by the public calls of `keys`, `keyspace` and `wire` alone: worked frames and
-//! the fault that each other one is refused for, readers and writers that give out anywhere, keys, ranges, their limits, and
-//! the ranks of ranges, of a batch and wherever they lie. `workload` has the tests of the program of that name, by the public calls of
-//! `generator`.
+//! the fault that each other one is refused for, readers and writers that give out anywhere, keys, ranges, and the ranks of a batch.
+//! `workload` has the tests of the program of that name, by the public calls of `generator`. Random and largest values are tests of the
+//! Cargo edition (`cargo/tests`).
 #![tactic(auto)]
 
 #[cfg(test)]
@@ -11,13 +11,9 @@ mod frames;
 #[cfg(test)]
 mod keys_and_ranges;
 #[cfg(test)]
-mod limits;
-#[cfg(test)]
 mod long_batches;
 #[cfg(test)]
 mod paper;
-#[cfg(test)]
-mod range_ranks;
 #[cfg(test)]
 mod ranks;
 #[cfg(test)]

@@ -1,9 +1,9 @@
 //! Tests of the ranks of a batch's ranges: by hand, at random compared with a plain count, and where memory is refused.
 
 use crate::rows::expect;
-use fixtures::{Random, Unmade, batch, batch_of, ranges, single_key, txn};
-use keys::{MAX_RANKED, Range, Ranks};
-use keyspace::{Batch, Txn, Txns};
+use fixtures::{Unmade, batch, batch_of, ranges, single_key, txn};
+use keys::{MAX_RANKED, Ranks};
+use keyspace::Txns;
 use std::alloc::{AllocError, Global};
 use std::test::Fail;
 
@@ -69,163 +69,6 @@ fn one_growth_refused(rt: HostRuntime) -> Result<(), Fail> {
     Ok(())
 }
 
-// The bytes of random keys: with and without the highest bit.
-const LETTERS: [u8; 8] = [0, 1, 2, 3, 0x80, 0x81, 0x82, 0x83];
-
-fn random_txn(alloc: Global, random: &mut Random) -> Result<Txn, Unmade> {
-    let reads = random.ranges(alloc, &LETTERS, 4, 4)?;
-    let writes = random.ranges(alloc, &LETTERS, 4, 4)?;
-    txn(0, false, reads, writes)
-}
-
-fn random_batch(alloc: Global, random: &mut Random) -> Result<Batch, Unmade> {
-    let mut txns = Vec::new(alloc);
-    for _ in 0..random.below(6) {
-        let txn = random_txn(alloc, random)?;
-        txns.push(txn).map_err(AllocError::from)?;
-    }
-    batch_of(alloc, -1, 0, -1, txns)
-}
-
-// Returns the ranges of the transactions, the read ranges of each one first.
-fn all_ranges(alloc: Global, txns: &Txns) -> Result<Vec<Range>, AllocError> {
-    let mut all = Vec::new(alloc);
-    for index in 0..txns.len() {
-        let txn = txns.txn(index);
-        for place in 0..txn.reads.len() {
-            all.push(txn.reads.get(place).to_range(alloc)?)?;
-        }
-        for place in 0..txn.writes.len() {
-            all.push(txn.writes.get(place).to_range(alloc)?)?;
-        }
-    }
-    Ok(all)
-}
-
-// Returns the keys that ranges begin with, each once, unless the range is empty.
-fn all_begins<'a>(alloc: Global, ranges: &'a [Range]) -> Result<Vec<&'a [u8]>, AllocError> {
-    let mut begins = Vec::new(alloc);
-    for range in ranges {
-        let begin = range.begin.as_bytes();
-        if !range.is_empty() && !begins.iter().any(|other| *other == begin) {
-            begins.push(begin)?;
-        }
-    }
-    Ok(begins)
-}
-
-fn rank(begins: &[&[u8]], key: &[u8]) -> usize {
-    begins
-        .iter()
-        .filter(|begin| (**begin).cmp(key).is_lt())
-        .count()
-}
-
-// Whether the run of a range is from the rank of its begin to that of its end, and that of an empty one has no gap.
-fn run_agrees(run: (u32, u32), range: &Range, begins: &[&[u8]]) -> bool {
-    if range.is_empty() {
-        run.0 == run.1
-    } else {
-        run.0 as usize == rank(begins, range.begin.as_bytes())
-            && run.1 as usize == rank(begins, range.end.as_bytes())
-    }
-}
-
-// Whether the run overlaps the runs of exactly the ranges that its range overlaps.
-fn overlaps_agree(run: (u32, u32), range: &Range, runs: &[(u32, u32)], ranges: &[Range]) -> bool {
-    for (other, other_range) in runs.iter().zip(ranges) {
-        let common = run.0.max(other.0) < run.1.min(other.1);
-        if common != range.meets(other_range) {
-            return false;
-        }
-    }
-    true
-}
-
-// Whether there is one run for each range, and each is right.
-fn runs_agree(runs: &[(u32, u32)], ranges: &[Range], begins: &[&[u8]]) -> bool {
-    for (run, range) in runs.iter().zip(ranges) {
-        if !run_agrees(*run, range, begins) || !overlaps_agree(*run, range, runs, ranges) {
-            return false;
-        }
-    }
-    runs.len() == ranges.len()
-}
-
-// Whether the order has each range that isn't empty, and none that begins before the one ahead of it.
-fn order_agrees(order: &[u32], ranges: &[Range]) -> bool {
-    let mut last: &[u8] = &[];
-    for index in order {
-        let Some(range) = ranges.get(*index as usize) else {
-            return false;
-        };
-        let begin = range.begin.as_bytes();
-        if begin.cmp(last).is_lt() || range.is_empty() {
-            return false;
-        }
-        last = begin;
-    }
-    order.len() == ranges.iter().filter(|range| !range.is_empty()).count()
-}
-
-// Returns for each range of the transactions whether it is a write range.
-fn write_marks(alloc: Global, txns: &Txns) -> Result<Vec<bool>, AllocError> {
-    let mut marks = Vec::new(alloc);
-    for index in 0..txns.len() {
-        let txn = txns.txn(index);
-        for _ in 0..txn.reads.len() {
-            marks.push(false)?;
-        }
-        for _ in 0..txn.writes.len() {
-            marks.push(true)?;
-        }
-    }
-    Ok(marks)
-}
-
-// Whether the order of the write ranges is what is left of the whole order without the read ranges.
-fn write_order_agrees(alloc: Global, txns: &Txns, order: &[u32]) -> Result<bool, AllocError> {
-    let marks = write_marks(alloc, txns)?;
-    let mut left = Vec::new(alloc);
-    for index in order {
-        if marks.get(*index as usize) == Some(&true) {
-            left.push(*index)?;
-        }
-    }
-    Ok(txns.write_order() == left.as_slice())
-}
-
-// Compares the ranks with a plain count.
-fn agrees(alloc: Global, txns: &Txns) -> Result<bool, AllocError> {
-    let ranges = all_ranges(alloc, txns)?;
-    let begins = all_begins(alloc, &ranges)?;
-    let ranks = txns.ranks();
-    let lent = txns.ranges();
-    if lent.len() > MAX_RANKED {
-        return Ok(false);
-    }
-    let (_, order) = Ranks::with_order(alloc, &lent)?;
-    Ok(
-        ranks.begins() == begins.len()
-            && runs_agree(ranks.runs(), &ranges, &begins)
-            && order_agrees(&order, &ranges)
-            && write_order_agrees(alloc, txns, &order)?,
-    )
-}
-
-// Whether the hash of each read range is that which the range itself gives.
-fn hashes_agree(txns: &Txns) -> bool {
-    for index in 0..txns.len() {
-        let reads = txns.txn(index).reads;
-        for read in 0..reads.len() {
-            if txns.hash(txns.read_index(index, read) as usize) != reads.get(read).single_hash() {
-                return false;
-            }
-        }
-    }
-    true
-}
-
 // The hashes of the read ranges, in hexadecimal, and a dash for each range that isn't a single key.
 fn show_hashes(alloc: Global, txns: &Txns) -> Result<String, Unmade> {
     let mut text = String::from_str(alloc, "hashes")?;
@@ -264,15 +107,4 @@ fn hashes_by_hand(alloc: Global) -> Result<String, Unmade> {
 fn hashes_of_reads(rt: HostRuntime) -> Result<(), Fail> {
     let text = hashes_by_hand(rt.alloc());
     expect(&rt, text, "hashes - - f916ab45 7a686317")
-}
-
-#[test]
-fn ranks_of_random_txns(rt: HostRuntime) -> Result<(), Fail> {
-    let mut random = Random::new(1);
-    for _ in 0..400u32 {
-        let batch = random_batch(rt.alloc(), &mut random)?;
-        assert!(rt; agrees(rt.alloc(), &batch.txns)?);
-        assert!(rt; hashes_agree(&batch.txns));
-    }
-    Ok(())
 }

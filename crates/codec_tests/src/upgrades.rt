@@ -1,13 +1,12 @@
 //! Tests of `upgrade`, `write_all` and `StdSink`.
 
-use crate::long_batches::longest_batch;
 use crate::paper::{End, Paper};
 use crate::rows::{Way, expect, expect_rows};
 use crate::texts::{EMPTY_BATCH, EMPTY_BATCH_2, ONE_WRITE, ONE_WRITE_2, bytes_of, joined};
 use fixtures::Unmade;
 use std::alloc::Global;
 use std::test::Fail;
-use wire::{Sink, StdSink, StdSource, WireError, encode_batch, encode_batch_1, upgrade, write_all};
+use wire::{Sink, StdSink, StdSource, WireError, upgrade, write_all};
 
 const ALL: usize = 10_000_000;
 
@@ -94,26 +93,6 @@ fn upgrades(
     given == answer && paper.bytes.as_slice() == written
 }
 
-// Whether a frame is upgraded, and then the frame of the longest batch isn't, since its new frame would be too long.
-fn stops_at_frame(alloc: Global, frame: &[u8]) -> Result<bool, Unmade> {
-    let mut bytes = bytes_of(alloc, ONE_WRITE)?;
-    bytes.extend_from_slice(frame)?;
-    let written = bytes_of(alloc, ONE_WRITE_2)?;
-    let paper = Paper::new(alloc, ALL, ALL, End::Fails);
-    Ok(upgrades(alloc, &bytes, paper, Err(WireError::Long), &written))
-}
-
-#[test]
-fn outgrows_its_frame(rt: HostRuntime) -> Result<(), Fail> {
-    let alloc = rt.alloc();
-    let batch = longest_batch(alloc)?;
-    assert_eq!(rt; encode_batch(alloc, &batch).err(), Some(WireError::Long));
-    let frame = encode_batch_1(alloc, &batch)?;
-    assert_eq!(rt; frame.len(), 4 + 4_194_304);
-    assert!(rt; stops_at_frame(alloc, &frame)?);
-    Ok(())
-}
-
 // Whether a paper with less room than the new bytes take is filled, and then the answer is `Write`.
 fn fills(alloc: Global, bytes: &[u8], end: End, written: &[u8]) -> bool {
     let paper = Paper::new(alloc, 5, written.len(), end);
@@ -152,14 +131,6 @@ fn interrupted(alloc: Global, interruptions: u32) -> Result<String, Unmade> {
     let answer = write_all(&mut writer, b"ab");
     let taken = hex::encode(alloc, &writer.into_inner().bytes)?;
     Ok(format!(in alloc; "{answer:?} of {taken}")?)
-}
-
-#[test]
-fn writer_is_interrupted(rt: HostRuntime) -> Result<(), Fail> {
-    let alloc = rt.alloc();
-    expect(&rt, interrupted(alloc, 999), "Ok(()) of 6162")?;
-    expect(&rt, interrupted(alloc, 1_000), "Ok(()) of 6162")?;
-    expect(&rt, interrupted(alloc, 1_001), "Err(Failed) of ")
 }
 
 // Flushes a writer that is interrupted so often first: how that ends, and how often it was flushed.

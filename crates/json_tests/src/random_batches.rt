@@ -62,7 +62,7 @@ fn random_batches_read_back(rt: HostRuntime) -> Result<(), Fail> {
     let alloc = rt.alloc();
     let mut random = Random::new(129);
     let mut scratch = Scratch::new(alloc);
-    for _ in 0..100_000 {
+    for _ in 0..1_000 {
         let batch = draw_batch(alloc, &mut random)?;
         assert!(rt; reads_back(alloc, &batch, &mut scratch)?);
     }
@@ -114,7 +114,7 @@ fn random_replies_read_back(rt: HostRuntime) -> Result<(), Fail> {
     let alloc = rt.alloc();
     let mut random = Random::new(130);
     let mut scratch = Scratch::new(alloc);
-    for _ in 0..10_000 {
+    for _ in 0..1_000 {
         let reply = draw_reply(alloc, &mut random)?;
         assert!(rt; reply_reads_back(alloc, &reply, &mut scratch)?);
     }

@@ -1,7 +1,7 @@
 //! Tests of the conflict set and of the resolver, by their public calls alone.
 //!
-//! `set` and `scan` resolve batches by a conflict set: by hand, and at random beside a plain scan of all committed writes.
-//! `set_stops` has one that is refused memory.
+//! `set` resolves batches by a conflict set, and `set_stops` by one that is refused memory. Random batches beside a plain scan of
+//! all committed writes are tests of the Cargo edition (`cargo/tests`).
 //! `cores` plays the worked rows of `rows` over a core, `rows_over_lanes` the same over lanes of one, and `lanes` those that are of
 //! lanes alone; `serving` has those of two proxies served in one thread. `shares` has two proxies send up to their share and beyond it.
 //! `calls_without_waiting` makes each call over lanes where nothing can wait. `refusals` prints each stop and each refusal.
@@ -17,8 +17,6 @@ mod chained;
 #[cfg(test)]
 mod cores;
 #[cfg(test)]
-mod drawn;
-#[cfg(test)]
 mod gate;
 #[cfg(test)]
 mod lanes;
@@ -30,8 +28,6 @@ mod refusals;
 mod rows;
 #[cfg(test)]
 mod rows_over_lanes;
-#[cfg(test)]
-mod scan;
 #[cfg(test)]
 mod service;
 #[cfg(test)]

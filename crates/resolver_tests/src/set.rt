@@ -99,50 +99,6 @@ fn limit_one_stop(rt: HostRuntime) -> Result<(), Fail> {
     )
 }
 
-// Resolves the batch, and returns how many boundaries the set has then.
-fn boundaries_with(alloc: Global, set: &mut Chained, text: &str) -> Result<usize, Unmade> {
-    match set.resolve(&batch(alloc, text)?)? {
-        Ok(_reply) => Ok(set.boundaries()),
-        Err(_stop) => Err(Unmade::Memory),
-    }
-}
-
-// Returns how many boundaries a new set has once it has resolved the batch.
-fn boundaries_after(alloc: Global, text: &str) -> Result<usize, Unmade> {
-    let mut set = Chained::new(alloc, WINDOW, LIMIT)?;
-    boundaries_with(alloc, &mut set, text)
-}
-
-// Each run of what a batch writes brings two boundaries, and the empty key is always one.
-#[test]
-fn writes_of_a_batch_unite(rt: HostRuntime) -> Result<(), Fail> {
-    for (text, count) in [
-        // no range, and empty ones alone
-        ("-1>0: ", 1_usize),
-        ("-1>0: W[a,a) W[,) W[a,a)", 1),
-        // one, from the empty key on
-        ("-1>0: W[,~)", 2),
-        // touching, in either order
-        ("-1>0: W[a,b) W[b,c)", 3),
-        ("-1>0: W[b,c) W[a,b)", 3),
-        // a key lies between them
-        ("-1>0: W[a,b) W[b\0,c)", 5),
-        // overlapping, one inside another, and equal
-        ("-1>0: W[a,c) W[b,d)", 3),
-        ("-1>0: W[a,z) W[b,c) W[d,e)", 3),
-        ("-1>0: W[a,b) W[a,b) W[a,b)", 3),
-        // of two that begin alike the longer counts, whichever comes first
-        ("-1>0: W[a,c) W[a,b) W[a,d)", 3),
-        // out of order, with several that stay apart
-        ("-1>0: W[x,y) W[c,d) W[m,n) W[a,b) W[d,f)", 9),
-        // an empty range joins nothing: between two, at an end, inside
-        ("-1>0: W[b,b) W[a,b) W[c,c) W[d,f) W[e,e) W[f,f)", 5),
-    ] {
-        assert_eq!(rt; boundaries_after(rt.alloc(), text)?, count, "{text}");
-    }
-    Ok(())
-}
-
 // A transaction that reads and writes the key of this byte.
 fn of_one_key(alloc: Global, byte: u8) -> Result<Txn, Unmade> {
     let mut reads = Vec::new(alloc);

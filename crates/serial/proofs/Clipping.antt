@@ -1,4 +1,4 @@
--- What the committed transactions of batches write at a key, and what a part of the keys keeps of it.
+-- The writes of committed transactions at a key, and what a shard keeps of them.
 use Rattle.std.proofs.Common.{
   ◌≡◌,
   ℕ,
@@ -42,16 +42,9 @@ use Rattle.keys.specs.Key.{IsBytes}
 use Rattle.keyspace.specs.Processed.{Processed}
 use Rattle.keyspace.specs.Writes.{at_version, counted, committed, writes, writes_of}
 use Rattle.keys.proofs.callers.Booleans.{and_left, and_right, and_both, or_either, or_left, or_right}
-use Rattle.serial.specs.Serial.{
-  holds,
-  in_ranges,
-  Part,
-  has_key,
-  IsClip,
-  IsTxnClip,
-  IsBatchClip,
-  SaysCommitted,
-}
+use Rattle.serial.specs.Commits.{holds}
+use Rattle.serial.specs.Stores.{in_ranges}
+use Rattle.serial.specs.Shards.{Shard, has_key, IsClip, IsTxnClip, IsBatchClip, SaysCommitted}
 use Rattle.serial.proofs.Holding.{written_above, written_above-append}
 use Rattle.serial.proofs.Reading.{the_value}
 
@@ -59,7 +52,7 @@ use Rattle.serial.proofs.Reading.{the_value}
 abbrev pub CommittedAt : ℕ → List Entry → Type 0
 CommittedAt l es = IsSomeAnd (slice_get es l) (λ e. e.verdict ≡ Committed)
 
--- where two lists go together element by element, one of the first has its partner at its index in the second
+-- if two lists go together element by element, each element of the first has its partner at its index in the second
 pub partner : {A B : Type 0} (R : A → B → Type 0) (xs : List A) (ys : List B) → AllZip R xs ys
     → (i : ℕ) (x : A) → slice_get xs i ≡ Some x → (y : B) × (slice_get ys i ≡ Some y) × R x y
 partner R xs ys zipped i x at =
@@ -96,7 +89,7 @@ record IsWriter (ts : List Txn) (es : List Entry) (j : ℕ) (key : List ℕ) : T
   verdict : CommittedAt index es
   writes : in_ranges txn.writes key ≡ true
 
--- where a range that was written before index j holds the key, a committed transaction writes it
+-- if a range that was written before index j holds the key, a committed transaction writes it
 writer_from : (ts : List Txn) (es : List Entry) (j : ℕ) (key : List ℕ)
     → in_ranges (committed (take j ts) (take j es)) key ≡ true → IsWriter ts es j key
 writer_from ts es zero key h = let no : ⊥ = cc in absurd no
@@ -127,7 +120,7 @@ writer_from (t ∷ ts) (e ∷ es) (suc j) key h =
           }
     ]
 
--- where a committed transaction before index j writes the key, a range that was written holds it
+-- if a committed transaction before index j writes the key, a range that was written holds it
 writer_held : (ts : List Txn) (es : List Entry) (j : ℕ) (key : List ℕ) (l : ℕ) (t : Txn) → l < j
     → slice_get ts l ≡ Some t → CommittedAt l es → in_ranges t.writes key ≡ true
     → in_ranges (committed (take j ts) (take j es)) key ≡ true
@@ -166,7 +159,7 @@ either_of false true = refl
 either_of false false = refl
 
 -- writes at one version hold the key above the snapshot exactly if their ranges hold it and the version is above
-above_at_version : (snapshot version : ℤ) (key : List ℕ) (ranges : List Range)
+pub above_at_version : (snapshot version : ℤ) (key : List ℕ) (ranges : List Range)
     → written_above snapshot key (at_version version ranges)
     ≡ (in_ranges ranges key && not (int_le version snapshot))
 above_at_version snapshot version key [] = refl
@@ -179,13 +172,13 @@ above_at_version snapshot version key (range ∷ ranges) =
       | false ↦ rest
     ]
 
-module _ (part : Part) (key : List ℕ) (bytes : IsBytes key) (has : has_key part key ≡ true) where
-  -- what a part that has the key keeps of a range holds the key exactly if the range does
-  pub clip_holds : (range clip : Range) → IsClip part range clip → holds clip key ≡ holds range key
+module _ (shard : Shard) (key : List ℕ) (bytes : IsBytes key) (has : has_key shard key ≡ true) where
+  -- what a shard that has the key keeps of a range holds the key exactly if the range does
+  pub clip_holds : (range clip : Range) → IsClip shard range clip → holds clip key ≡ holds range key
   clip_holds range clip is_clip = is_clip key bytes ∙ ap (λ b. b && holds range key) has
 
   -- and so it is with many ranges
-  clips_hold : (ranges clips : List Range) → AllZip (IsClip part) ranges clips
+  clips_hold : (ranges clips : List Range) → AllZip (IsClip shard) ranges clips
       → in_ranges clips key ≡ in_ranges ranges key
   clips_hold [] [] zipped = refl
   clips_hold [] (clip ∷ clips) zipped = absurd zipped
@@ -194,19 +187,19 @@ module _ (part : Part) (key : List ℕ) (bytes : IsBytes key) (has : has_key par
       ap (λ b. b || in_ranges clips key) (clip_holds range clip zipped.0)
       ∙ ap (λ b. holds range key || b) (clips_hold ranges clips zipped.1)
 
-  -- a key that committed transactions before index j write is written by their clips, where those are committed too
+  -- a key that committed transactions before index j write is written by their clips, if those are committed too
   pub written_by_clips : (ts clips : List Txn) (es others : List Entry) (j : ℕ)
-      → AllZip (IsTxnClip part) ts clips → ((l : ℕ) → CommittedAt l es → CommittedAt l others)
+      → AllZip (IsTxnClip shard) ts clips → ((l : ℕ) → CommittedAt l es → CommittedAt l others)
       → in_ranges (committed (take j ts) (take j es)) key ≡ true
       → in_ranges (committed (take j clips) (take j others)) key ≡ true
   written_by_clips ts clips es others j zipped says h =
       let w = writer_from ts es j key h in
-      let clip = partner (IsTxnClip part) ts clips zipped w.index w.txn w.there in
+      let clip = partner (IsTxnClip shard) ts clips zipped w.index w.txn w.there in
       writer_held clips others j key w.index clip.0 w.below clip.1 (says w.index w.verdict)
       (clips_hold w.txn.writes clip.0.writes clip.2.writes ∙ w.writes)
 
   -- a write of a batch above the snapshot that holds the key has one of the batch's clip
-  batch_above : (snapshot : ℤ) (p c : Processed) → IsBatchClip part p.batch c.batch
+  batch_above : (snapshot : ℤ) (p c : Processed) → IsBatchClip shard p.batch c.batch
       → ((l : ℕ) → CommittedAt l p.reply.entries → CommittedAt l c.reply.entries)
       → written_above snapshot key (writes_of p.batch p.reply) ≡ true
       → written_above snapshot key (writes_of c.batch c.reply) ≡ true
@@ -216,7 +209,7 @@ module _ (part : Part) (key : List ℕ) (bytes : IsBytes key) (has : has_key par
       let clips = committed c.batch.txns c.reply.entries in
       let is_high = not (int_le p.batch.version snapshot) in
       let both = sym (above_at_version snapshot p.batch.version key ranges) ∙ h in
-      let long = AllZip-long (IsTxnClip part) p.batch.txns c.batch.txns clip.txns in
+      let long = AllZip-long (IsTxnClip shard) p.batch.txns c.batch.txns clip.txns in
       let in_all = λ (ranges : List Range). in_ranges ranges key in
       let written = written_by_clips p.batch.txns c.batch.txns p.reply.entries c.reply.entries n clip.txns says
       (sym (ap in_all (committed-whole n p.batch.txns p.reply.entries (omega arith)))
@@ -228,7 +221,7 @@ module _ (part : Part) (key : List ℕ) (bytes : IsBytes key) (has : has_key par
 
   -- and so it is with the writes of many batches
   pub clips_above : (snapshot : ℤ) (i : ℕ) (ps own : List Processed)
-      → AllZip (λ (p c : Processed). IsBatchClip part p.batch c.batch) ps own
+      → AllZip (λ (p c : Processed). IsBatchClip shard p.batch c.batch) ps own
       → ((k l : ℕ) → SaysCommitted k l ps → SaysCommitted k l own)
       → written_above snapshot key (writes (take i ps)) ≡ true
       → written_above snapshot key (writes (take i own)) ≡ true

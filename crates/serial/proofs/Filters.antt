@@ -22,7 +22,7 @@ use Rattle.std.proofs.Common.{
 }
 use Rattle.std.specs.List.{list_any}
 
--- where each element that passes p passes q too, filtering by q first makes no difference
+-- if each element that passes p passes q too, filtering by q first makes no difference
 pub filter_same : {X : Type 0} (p q : X → Bool) (xs : List X) → list_any (λ x. p x && not (q x)) xs ≡ false
     → filter p xs ≡ filter p (filter q xs)
 filter_same p q [] h = refl
@@ -55,7 +55,7 @@ filter_fewer p q (x ∷ xs) =
           ≤ length (cond b (x ∷ filter p xs) (filter p xs))) [ true ↦ omega (arith, more) | false ↦ more ]
     ]
 
--- where filtering by q first leaves as many of those that pass p, each that passes p passes q too
+-- if filtering by q first leaves as many of those that pass p, each that passes p passes q too
 pub none_lost : {X : Type 0} (p q : X → Bool) (xs : List X)
     → length (filter p xs) ≤ length (filter p (filter q xs)) → list_any (λ x. p x && not (q x)) xs ≡ false
 none_lost p q [] h = refl
@@ -79,7 +79,7 @@ none_lost p q (x ∷ xs) h =
           ]
     ] refl h
 
--- where none passes, none is left
+-- if none passes, none is left
 pub filter_none : {X : Type 0} (p : X → Bool) (xs : List X) → list_any p xs ≡ false → filter p xs ≡ []
 filter_none p [] h = refl
 filter_none p (x ∷ xs) h =
@@ -88,7 +88,7 @@ filter_none p (x ∷ xs) h =
       | false ↦ λ k. filter_none p xs k
     ] h
 
--- and where none is left, none passes
+-- and if none is left, none passes
 pub none_passes : {X : Type 0} (p : X → Bool) (xs : List X) → length (filter p xs) ≡ 0 → list_any p xs ≡ false
 none_passes p [] h = refl
 none_passes p (x ∷ xs) h =

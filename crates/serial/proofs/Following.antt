@@ -1,6 +1,8 @@
--- In a chain, a committed transaction reads what was written by those that its snapshot includes.
-use Rattle.std.proofs.Common.{◌≡◌, ℕ, zero, suc, ◌<◌, List, [], ◌∷◌, ◌++◌, take, ℤ, sym, ◌∙◌, ap, append_assoc, arith}
-use Rattle.std.specs.Prelude.{Some, slice_get}
+-- If versions rise, a snapshot includes the writes up to each transaction that it includes.
+use Rattle.std.proofs.Common.{◌≡◌, ℕ, zero, suc, ◌<◌, ◌≤◌, Bool, true, false, ◌||◌, int_le, refl, append-nil, List, [], ◌∷◌, ◌++◌, take, ℤ, sym, ◌∙◌, ap, append_assoc, arith}
+use Rattle.std.specs.Prelude.{◌≤ℤ◌, Option, Some, None, slice_get}
+use Rattle.std.proofs.lemmas.Int.{ints}
+use Rattle.std.proofs.Math.Bool.{and-false}
 use Rattle.std.proofs.lemmas.List.{map-append}
 use Rattle.std.proofs.lemmas.List.Elements.{filter-append}
 use Rattle.keys.specs.declared.range.Range.{Range}
@@ -10,9 +12,15 @@ use Rattle.keyspace.specs.declared.reply.Entry.{Entry}
 use Rattle.keyspace.specs.Processed.{Processed}
 use Rattle.keyspace.specs.Writes.{Write, at_version, counted, committed, writes, writes_of, earlier}
 use Rattle.keyspace.specs.Chain.{IsChain}
-use Rattle.serial.specs.Serial.{IsCommitted, before, holds, holding, ReadsBelow, RealTime}
-use Rattle.serial.proofs.Reading.{the_value, chain_current}
-use Rattle.serial.proofs.Versions.{comes_before}
+use Rattle.serial.specs.Commits.{IsCommitted, before, holds, holding, up_to}
+use Rattle.serial.specs.Serial.{RealTime}
+use Rattle.serial.specs.Stores.{in_ranges}
+use Rattle.serial.proofs.Filters.{filter_same}
+use Rattle.serial.proofs.Holding.{written_above, written_above-append}
+use Rattle.serial.proofs.Reading.{the_value}
+use Rattle.serial.proofs.Steps.{maybe_writes, writes-suc}
+use Rattle.serial.proofs.Clipping.{above_at_version}
+use Rattle.serial.proofs.Versions.{at_most_through, VersionsRise, version_up_to, comes_before}
 
 -- the writes of the first batches are those before an earlier batch, its own, and later ones
 writes_split : (ps : List Processed) (k i : ℕ) (q : Processed) → slice_get ps k ≡ Some q → k < i
@@ -96,18 +104,75 @@ before_split ps k l q u c i j p h =
           ∙ regrouped first own txn others ws.0 last,
     )
 
--- in a chain whose transactions read below their batch's version, real time is kept
-pub chain_real_time : (window : ℤ) (ps : List Processed) → IsChain window ps → ReadsBelow ps → RealTime ps
-chain_real_time window ps chain below k l q u c i j p t d above =
-    let is_later = comes_before window ps chain k i q p t.snapshot c.batch d.batch above (below i j p t d) in
-    let split = before_split ps k l q u c i j p is_later in
-    let txn = at_version q.batch.version u.writes in
+-- no write at a version at or below the snapshot is above it
+none_above_at : (snapshot version : ℤ) (key : List ℕ) (ranges : List Range) → version ≤ℤ snapshot
+    → written_above snapshot key (at_version version ranges) ≡ false
+none_above_at snapshot version key ranges h =
+    let low : int_le version snapshot ≡ true = grind (arith, ints) in
+    above_at_version snapshot version key ranges ∙ rw low (and-false (in_ranges ranges key))
+
+-- if none of two parts passes, neither does one of both
+none_of_both : (a b : Bool) → a ≡ false → b ≡ false → (a || b) ≡ false
+none_of_both a b h k = rw (h, k) refl
+
+-- the same of a batch, if there is one
+maybe_none_above : (snapshot : ℤ) (key : List ℕ) (o : Option Processed)
+    → ((p : Processed) → o ≡ Some p → p.batch.version ≤ℤ snapshot)
+    → written_above snapshot key (maybe_writes o) ≡ false
+maybe_none_above snapshot key None low = refl
+maybe_none_above snapshot key (Some p) low =
+    none_above_at snapshot p.batch.version key (committed p.batch.txns p.reply.entries) (low p refl)
+
+module _ (ps : List Processed) (rise : VersionsRise ps) (snapshot : ℤ) (key : List ℕ) where
+  -- up to a batch with a version at or below the snapshot, no write is above it
+  none_above : (k : ℕ) (q : Processed) → slice_get ps k ≡ Some q → q.batch.version ≤ℤ snapshot → (n : ℕ) → n ≤ k
+      → written_above snapshot key (writes (take n ps)) ≡ false
+  none_above k q there low zero h = refl
+  none_above k q there low (suc n) h =
+      let earlier = none_above k q there low n (omega (arith, h)) in
+      let one = maybe_none_above snapshot key (slice_get ps n) (λ p here.
+      at_most_through p.batch.version q.batch.version snapshot (rise n k p q here there (omega (arith, h))) low) in
+      ap (written_above snapshot key) (writes-suc ps n)
+      ∙ written_above-append snapshot key (writes (take n ps)) (maybe_writes (slice_get ps n))
+      ∙ none_of_both _ _ earlier one
+
+  -- a snapshot that includes a committed transaction includes all writes up to it
+  included : (k l : ℕ) (q : Processed) (u : Txn) → IsCommitted ps k l q u → q.batch.version ≤ℤ snapshot
+      → (i : ℕ) (p : Processed) → k < i
+      → (rest : List Write) × (holding key (up_to snapshot (writes (take i ps)))
+      ≡ holding key (before ps k q l) ++ (holding key (at_version q.batch.version u.writes) ++ rest))
+  included k l q u c low i p h =
+      let split = before_split ps k l q u c i 0 p h in
+      let first = before ps k q l in
+      let txn = at_version q.batch.version u.writes in
+      let is_low = λ (w : Write). int_le w.version snapshot in
+      let same = λ (ws : List Write) (none : written_above snapshot key ws ≡ false).
+      sym (filter_same (λ w. holds w.range key) is_low ws none) in
+      let first_low = written_above-append snapshot key (writes (take k ps))
+      (at_version q.batch.version (earlier q.batch q.reply l))
+      ∙ none_of_both _ _ (none_above k q c.batch low k (omega arith))
+      (none_above_at snapshot q.batch.version key (earlier q.batch q.reply l) low) in
+      let txn_low = none_above_at snapshot q.batch.version key u.writes low in
+      let whole = sym (append-nil (writes (take i ps))) ∙ split.1 in (
+        holding key (up_to snapshot split.0),
+        ap (λ ws. holding key (up_to snapshot ws)) whole
+            ∙ ap (holding key) (filter-append is_low first (txn ++ split.0)
+            ∙ ap (λ ws. up_to snapshot first ++ ws) (filter-append is_low txn split.0))
+            ∙ holding-parts key (up_to snapshot first) (up_to snapshot txn) (up_to snapshot split.0)
+            ∙ ap (λ ws. ws ++ (holding key (up_to snapshot txn) ++ holding key (up_to snapshot split.0)))
+            (same first first_low)
+            ∙ ap (λ ws. holding key first ++ (ws ++ holding key (up_to snapshot split.0))) (same txn txn_low),
+      )
+
+-- if versions rise, real time is kept by transactions that read below their batch's version, whatever the verdicts are
+pub real_time : (ps : List Processed) → VersionsRise ps → RealTime ps
+real_time ps rise k l q u c i j p t d below above =
+    let is_later = comes_before ps rise k i q p t.snapshot c.batch d.batch above below in
     record {
       later = is_later;
-      reads = λ range read key bytes held. (
-        holding key split.0,
-        sym (chain_current window ps chain i j p t d range read key bytes held)
-            ∙ ap (holding key) split.1
-            ∙ holding-parts key (before ps k q l) txn split.0,
-      );
+      reads = λ range read key bytes held. included ps rise t.snapshot key k l q u c above i p is_later;
     }
+
+-- so it is kept in a chain
+pub chain_real_time : (window : ℤ) (ps : List Processed) → IsChain window ps → RealTime ps
+chain_real_time window ps chain = real_time ps (version_up_to window ps chain)

@@ -25,7 +25,8 @@ use Rattle.std.proofs.lemmas.List.Elements.{filter-append}
 use Rattle.std.proofs.lemmas.List.Folds.{list_any-append}
 use Rattle.keys.specs.declared.range.Range.{Range}
 use Rattle.keyspace.specs.Writes.{Write, at_version}
-use Rattle.serial.specs.Serial.{holds, holding, up_to, in_ranges}
+use Rattle.serial.specs.Commits.{holds, holding, up_to}
+use Rattle.serial.specs.Stores.{in_ranges}
 use Rattle.serial.proofs.Filters.{filter_same, filter_fewer, none_lost, filter_none, none_passes, list_any-map}
 
 -- the write holds the key and is above the snapshot
@@ -48,7 +49,7 @@ pub any_at_version : (version : ℤ) (key : List ℕ) (ranges : List Range)
 any_at_version version key ranges =
     list_any-map (λ w. holds w.range key) (λ range. record { range = range; version = version }) ranges
 
--- where no write that holds the key is above the snapshot, and no range holds it, reads of the key are current
+-- if no write that holds the key is above the snapshot, and no range holds it, reads of the key are current
 pub current_from_tests : (snapshot version : ℤ) (key : List ℕ) (ws : List Write) (ranges : List Range)
     → written_above snapshot key ws ≡ false → in_ranges ranges key ≡ false
     → holding key (ws ++ at_version version ranges) ≡ holding key (up_to snapshot ws)
@@ -59,7 +60,7 @@ current_from_tests snapshot version key ws ranges low none =
     ∙ append-nil (holding key ws)
     ∙ filter_same (λ w. holds w.range key) (λ w. int_le w.version snapshot) ws low
 
--- where reads of the key are current, as many writes hold it before the transaction as at its snapshot
+-- if reads of the key are current, as many writes hold it before the transaction as at its snapshot
 same_count : (snapshot version : ℤ) (key : List ℕ) (ws : List Write) (ranges : List Range)
     → holding key (ws ++ at_version version ranges) ≡ holding key (up_to snapshot ws)
     → length (holding key ws) + length (holding key (at_version version ranges))
@@ -68,7 +69,7 @@ same_count snapshot version key ws ranges h =
     sym (length-append (holding key ws) (holding key (at_version version ranges)))
     ∙ ap length (sym (filter-append (λ w. holds w.range key) ws (at_version version ranges)) ∙ h)
 
--- where reads of the key are current, no write that holds it is above the snapshot
+-- if reads of the key are current, no write that holds it is above the snapshot
 pub low_from_current : (snapshot version : ℤ) (key : List ℕ) (ws : List Write) (ranges : List Range)
     → holding key (ws ++ at_version version ranges) ≡ holding key (up_to snapshot ws)
     → written_above snapshot key ws ≡ false

@@ -39,10 +39,11 @@ use Rattle.keyspace.specs.Writes.{Write, writes, earlier}
 use Rattle.keyspace.specs.Judged.{IsInConflict, HasVerdict, edge}
 use Rattle.keyspace.specs.Chain.{IsChain}
 use Rattle.keys.proofs.callers.Booleans.{and_left, and_right, false_unless}
-use Rattle.serial.specs.Serial.{IsCommitted, holds, in_ranges, Current}
+use Rattle.serial.specs.Commits.{IsCommitted, holds, Current}
+use Rattle.serial.specs.Stores.{in_ranges}
 use Rattle.serial.proofs.Holding.{is_above, written_above, current_from_tests}
 
--- a list is what stands before an element, the element, and what stands behind it
+-- a list is the elements before one, that one, and those after it
 pub split_at : {X : Type 0} (xs : List X) (i : ℕ) (x : X) → slice_get xs i ≡ Some x
     → xs ≡ take i xs ++ x ∷ drop (suc i) xs
 split_at [] i x h = cc
@@ -65,18 +66,18 @@ holds_from_test range key h = (
   and_right (not (is_before key range.begin)) (is_before key range.end) h,
 )
 
--- an element of a list stands at an index
+-- an element of a list is at an index
 pub at_index : {X : Type 0} (xs : List X) (x : X) → Contains xs x → (i : ℕ) × (slice_get xs i ≡ Some x)
 at_index xs x c = (c.0, slice_get_read xs _ c.0 x refl c.1 (sym c.2))
 
 -- a version that isn't at or below the snapshot is above it
-above_from_test : (version snapshot : ℤ) → not (int_le version snapshot) ≡ true → snapshot <ℤ version
+pub above_from_test : (version snapshot : ℤ) → not (int_le version snapshot) ≡ true → snapshot <ℤ version
 above_from_test version snapshot h = grind (arith, ints)
 
 module _ (ws : List Write) (written : List Range) (t : Txn) (range : Range) (key : List ℕ)
     (free : IsInConflict ws written t → ⊥) (read : Contains t.reads range) (bytes : IsBytes key)
     (held : holds range key ≡ true) where
-  -- where there is no conflict, no write that holds a key of a read range is above the snapshot
+  -- without a conflict, no write that holds a key of a read range is above the snapshot
   pub low_unless_conflict : written_above t.snapshot key ws ≡ false
   low_unless_conflict =
       false_unless (written_above t.snapshot key ws) (λ h.

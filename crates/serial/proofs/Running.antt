@@ -1,248 +1,133 @@
--- Where reads are current, the two ways to run the committed transactions give the same store.
-use Rattle.std.proofs.Common.{
-  ◌≡◌,
-  ℕ,
-  zero,
-  suc,
-  ◌+◌,
-  true,
-  false,
-  not,
-  ◌&&◌,
-  ◌||◌,
-  cond,
-  List,
-  [],
-  ◌∷◌,
-  ◌++◌,
-  length,
-  take,
-  ℤ,
-  int_le,
-  refl,
-  sym,
-  ◌∙◌,
-  ap,
-  subst,
-  append-nil,
-  arith,
-}
+-- If reads are current and committed transactions read only what they declare, both ways to run them leave the same store.
+use Rattle.std.proofs.Common.{◌≡◌, ℕ, zero, suc, ◌+◌, true, false, cond, List, length, take, refl, sym, ◌∙◌, ap, subst, arith}
 use Rattle.std.specs.Prelude.{Option, Some, None, slice_get}
-use Rattle.std.proofs.lemmas.List.Folds.{Any-from_list_any}
-use Rattle.keys.specs.declared.range.Range.{Range}
+use Rattle.std.proofs.Math.Path.{fun_ext}
 use Rattle.keyspace.specs.declared.txn.Txn.{Txn}
 use Rattle.keyspace.specs.declared.reply.Verdict.{Verdict}
 use Rattle.keyspace.specs.declared.reply.Verdict.TheVariants.{Conflict, TooOld, Committed}
 use Rattle.keyspace.specs.declared.reply.Entry.{Entry}
 use Rattle.keyspace.specs.Processed.{Processed}
-use Rattle.keyspace.specs.Writes.{Write, at_version, committed, writes, writes_of, earlier}
+use Rattle.serial.specs.Commits.{IsCommitted, Current}
+use Rattle.serial.specs.Stores.{Store, in_ranges, Plan, KeepsToWrites, Plans, AllKeepToWrites, Stores, start, at_snapshot, run_txn, stores_after, stores_at}
 use Rattle.serial.specs.Serial.{
-  IsCommitted,
-  holds,
-  in_ranges,
-  Current,
-  Store,
-  SameIn,
-  Same,
-  IsEffect,
-  Effects,
-  AreEffects,
-  Stores,
-  start,
-  at_snapshot,
-  commit,
-  run_txn,
-  run_txns,
-  run_batches,
-  stores_at,
+  ReadsOnlyDeclared,
+  AllReadOnlyDeclared,
   IsSerial,
   Serializable,
+  IsEffect,
+  plan_of,
+  EffectsAreSerializable,
 }
-use Rattle.serial.proofs.Holding.{written_above, written_above-append, low_from_current, none_from_current}
 use Rattle.serial.proofs.Reading.{some_at}
-use Rattle.serial.proofs.Steps.{
-  maybe_txn,
-  maybe_batch,
-  maybe_writes,
-  run_txns-suc,
-  run_txns-whole,
-  run_batches-suc,
-  writes-suc,
-  run_txns-after,
-  run_txns-keeps,
-  none_of_first,
-  none_of_second,
-  at_snapshot-low,
-  at_snapshot-high,
-}
+use Rattle.serial.proofs.Steps.{maybe_txn, maybe_batch, run_txns-suc, run_txns-whole, run_batches-suc}
+use Rattle.serial.proofs.Isolation.{current_isolated}
 
--- both stores have the same at every key
-abbrev AreSame : Stores → Type 0
-AreSame s = Same s.as_run s.serially
+-- both ways leave the same store
+abbrev pub AreSame : Stores → Type 0
+AreSame s = s.as_run ≡ s.serially
 
--- a committed transaction whose reads find at its snapshot what they find as run leaves both stores the same
-commit_same : (first : Store) (t : Txn) (effect : Store → Store) (s : Stores) → IsEffect t effect
-    → SameIn t.reads (at_snapshot t.snapshot first s.after) s.as_run → AreSame s
-    → AreSame (commit first t effect s)
-commit_same first t effect s is_effect reads same key bytes =
-    let found = at_snapshot t.snapshot first s.after in
-    elim (in_ranges t.writes key) as (λ b. in_ranges t.writes key ≡ b
-    → cond b (effect found key) (s.as_run key) ≡ effect s.serially key) [
-      | true ↦ λ e. is_effect.reads found s.serially
-          (λ other other_bytes read. reads other other_bytes read ∙ same other other_bytes) key bytes e
-      | false ↦ λ e. same key bytes ∙ sym (is_effect.writes s.serially key bytes e)
-    ] refl
+-- the plan leaves the same store if it reads the store that it changes
+abbrev MayReadNow : Store → Plan → Stores → Txn → Type 0
+MayReadNow first plan s t = plan (at_snapshot t.snapshot first s.after) s.as_run ≡ plan s.as_run s.as_run
 
--- what has to be known of a committed transaction before it is run
-record IsReady (first : Store) (t : Txn) (effect : Store → Store) (s : Stores) : Type 0 where
-  is_effect : IsEffect t effect
-  reads : SameIn t.reads (at_snapshot t.snapshot first s.after) s.as_run
-
--- a transaction that is ready if it is committed leaves both stores the same
-run_txn_same : (first : Store) (t : Txn) (verdict : Verdict) (effect : Store → Store) (s : Stores)
-    → (verdict ≡ Committed → IsReady first t effect s) → AreSame s → AreSame (run_txn first t verdict effect s)
-run_txn_same first t Committed effect s ready same =
-    commit_same first t effect s (ready refl).is_effect (ready refl).reads same
-run_txn_same first t Conflict effect s ready same = same
-run_txn_same first t TooOld effect s ready same = same
+-- a committed transaction that may read the store that it changes leaves both stores the same
+run_txn_same : (first : Store) (t : Txn) (verdict : Verdict) (plan : Plan) (s : Stores)
+    → (verdict ≡ Committed → MayReadNow first plan s t) → AreSame s → AreSame (run_txn first t verdict plan s)
+run_txn_same first t Committed plan s now same = now refl ∙ ap (λ store. plan store store) same
+run_txn_same first t Conflict plan s now same = same
+run_txn_same first t TooOld plan s now same = same
 
 -- the same of a transaction and an entry that may not be there
-maybe_txn_same : (first : Store) (ot : Option Txn) (oe : Option Entry) (effect : Store → Store) (s : Stores)
-    → ((t : Txn) (e : Entry) → ot ≡ Some t → oe ≡ Some e → e.verdict ≡ Committed → IsReady first t effect s)
-    → AreSame s → AreSame (maybe_txn first ot oe effect s)
-maybe_txn_same first None oe effect s ready same = same
-maybe_txn_same first (Some t) None effect s ready same = same
-maybe_txn_same first (Some t) (Some e) effect s ready same =
-    run_txn_same first t e.verdict effect s (λ v. ready t e refl refl v) same
+maybe_txn_same : (first : Store) (ot : Option Txn) (oe : Option Entry) (plan : Plan) (s : Stores)
+    → ((t : Txn) (e : Entry) → ot ≡ Some t → oe ≡ Some e → e.verdict ≡ Committed → MayReadNow first plan s t)
+    → AreSame s → AreSame (maybe_txn first ot oe plan s)
+maybe_txn_same first None oe plan s now same = same
+maybe_txn_same first (Some t) None plan s now same = same
+maybe_txn_same first (Some t) (Some e) plan s now same =
+    run_txn_same first t e.verdict plan s (λ v. now t e refl refl v) same
 
--- What is known of the stores after batches that committed these writes.
-record IsTracked (first : Store) (ws : List Write) (s : Stores) : Type 0 where
-  same : AreSame s
-  -- where no write that holds the key is above the snapshot, the key is found there as it is now
-  found : (snapshot : ℤ) (key : List ℕ) → written_above snapshot key ws ≡ false
-      → at_snapshot snapshot first s.after key ≡ s.as_run key
-
--- where no write that holds the key is above the snapshot, no range written at a version above it holds the key
-none_written : (snapshot version : ℤ) (key : List ℕ) (ranges : List Range) → int_le version snapshot ≡ false
-    → written_above snapshot key (at_version version ranges) ≡ false → in_ranges ranges key ≡ false
-none_written snapshot version key [] high h = refl
-none_written snapshot version key (range ∷ ranges) high h =
-    elim (holds range key) as (λ b. ((b && not (int_le version snapshot))
-    || written_above snapshot key (at_version version ranges)) ≡ false → (b || in_ranges ranges key) ≡ false) [
-      | true ↦ λ k. let l = rw high at k in cc
-      | false ↦ λ k. none_written snapshot version key ranges high k
-    ] h
-
--- after one more batch, whose transactions leave the stores the same, as much is known
-batch_tracked : (first : Store) (effect : ℕ → Store → Store) (ws : List Write) (p : Processed) (s : Stores)
-    → IsTracked first ws s → AreSame (run_txns first effect 0 p.batch.txns p.reply.entries s)
-    → IsTracked first (ws ++ writes_of p.batch p.reply) (maybe_batch first (Some p) effect s)
-batch_tracked first effect ws p s tracked same =
-    let ts = p.batch.txns in
-    let es = p.reply.entries in
-    let ran = run_txns first effect 0 ts es s in
-    let version = p.batch.version in
-    let at_key = λ (key : List ℕ) (store : Store). store key in
-    record {
-      same = same;
-      found = λ snapshot key low.
-          let parts = sym (written_above-append snapshot key ws (writes_of p.batch p.reply)) ∙ low in
-          let before = written_above snapshot key ws in
-          let here = written_above snapshot key (writes_of p.batch p.reply) in
-          elim (int_le version snapshot) as (λ b. int_le version snapshot ≡ b
-          → at_snapshot snapshot first (ran.after ++ (version, ran.as_run) ∷ []) key ≡ ran.as_run key) [
-            | true ↦ λ e. ap (at_key key) (at_snapshot-low snapshot first ran.after version ran.as_run e)
-            | false ↦ λ e. ap (at_key key) (at_snapshot-high snapshot first ran.after version ran.as_run e)
-                ∙ ap (λ after. at_snapshot snapshot first after key) (run_txns-after first effect 0 ts es s)
-                ∙ tracked.found snapshot key (none_of_first before here parts)
-                ∙ sym (run_txns-keeps first effect 0 ts es s key
-                (none_written snapshot version key (committed ts es) e (none_of_second before here parts)))
-          ] refl;
-    }
-
--- the stores after the first i batches
-abbrev after_batches : Store → Effects → List Processed → ℕ → Stores
-after_batches first effects ps i = run_batches first effects 0 (take i ps) (start first)
-
-module _ (first : Store) (effects : Effects) (ps : List Processed) (current : Current ps)
-    (are_effects : AreEffects ps effects) where
-  -- a committed transaction finds at its snapshot what it finds as run, at each key that it reads
-  reads_found : (i j : ℕ) (p : Processed) (t : Txn) → IsCommitted ps i j p t
-      → IsTracked first (writes (take i ps)) (after_batches first effects ps i)
-      → SameIn t.reads (at_snapshot t.snapshot first (stores_at first effects ps i p j).after)
-      (stores_at first effects ps i p j).as_run
-  reads_found i j p t c tracked key bytes read =
-      let a = Any-from_list_any (λ range. holds range key) t.reads read in
-      let ws = writes (take i ps) in
-      let written = earlier p.batch p.reply j in
-      let s = after_batches first effects ps i in
-      let ts = take j p.batch.txns in
-      let es = take j p.reply.entries in
-      let known = current i j p t c a.1 (a.0, a.2, a.3) key bytes a.4 in
-      let low = low_from_current t.snapshot p.batch.version key ws written known in
-      let none = none_from_current t.snapshot p.batch.version key ws written known in
-      ap (λ after. at_snapshot t.snapshot first after key) (run_txns-after first (effects i) 0 ts es s)
-      ∙ tracked.found t.snapshot key low
-      ∙ sym (run_txns-keeps first (effects i) 0 ts es s key none)
-
+module _ (first : Store) (plans : Plans) (ps : List Processed) (current : Current ps)
+    (keep : AllKeepToWrites ps plans) (declared : AllReadOnlyDeclared first plans ps) where
   -- the stores are the same before each transaction of a batch
   same_in_batch : (i : ℕ) (p : Processed) → slice_get ps i ≡ Some p
-      → IsTracked first (writes (take i ps)) (after_batches first effects ps i)
-      → (j : ℕ) → AreSame (stores_at first effects ps i p j)
-  same_in_batch i p at tracked zero = tracked.same
-  same_in_batch i p at tracked (suc j) =
-      let s = stores_at first effects ps i p j in
+      → AreSame (stores_after first plans (take i ps)) → (j : ℕ) → AreSame (stores_at first plans ps i j p)
+  same_in_batch i p at same zero = same
+  same_in_batch i p at same (suc j) =
+      let s = stores_at first plans ps i j p in
       let ot = slice_get p.batch.txns j in
       let oe = slice_get p.reply.entries j in
-      let more = run_txns-suc first (effects i) 0 p.batch.txns p.reply.entries j
-      (after_batches first effects ps i) in
+      let more = run_txns-suc first (plans i) 0 p.batch.txns p.reply.entries j
+      (stores_after first plans (take i ps)) in
       let index : 0 + j ≡ j = omega arith in
-      subst AreSame (sym (more ∙ ap (λ n. maybe_txn first ot oe (effects i n) s) index))
-      (maybe_txn_same first ot oe (effects i j) s (λ t e is_txn is_entry verdict.
+      subst AreSame (sym (more ∙ ap (λ n. maybe_txn first ot oe (plans i n) s) index))
+      (maybe_txn_same first ot oe (plans i j) s (λ t e is_txn is_entry verdict.
       let c : IsCommitted ps i j p t = record {
         batch = at;
         txn = is_txn;
         verdict = some_at (λ (e : Entry). e.verdict ≡ Committed) oe e is_entry verdict;
       } in
-      record { is_effect = are_effects i j p t c; reads = reads_found i j p t c tracked })
-      (same_in_batch i p at tracked j))
+      (current_isolated ps current first plans keep i j p t c).place (declared i j p t c))
+      (same_in_batch i p at same j))
 
-  -- as much is known after one more batch, if there is one
-  maybe_batch_tracked : (i : ℕ) (o : Option Processed) → slice_get ps i ≡ o
-      → IsTracked first (writes (take i ps)) (after_batches first effects ps i)
-      → IsTracked first (writes (take i ps) ++ maybe_writes o)
-      (maybe_batch first o (effects i) (after_batches first effects ps i))
-  maybe_batch_tracked i None at tracked = rw append-nil tracked
-  maybe_batch_tracked i (Some p) at tracked =
-      let s = after_batches first effects ps i in
-      let ts = p.batch.txns in
-      let es = p.reply.entries in
-      batch_tracked first (effects i) (writes (take i ps)) p s tracked
-      (subst AreSame (sym (run_txns-whole first (effects i) 0 ts es s))
-      (same_in_batch i p at tracked (length ts)))
+  -- and after one more batch, if there is one
+  maybe_batch_same : (i : ℕ) (o : Option Processed) → slice_get ps i ≡ o
+      → AreSame (stores_after first plans (take i ps))
+      → AreSame (maybe_batch first o (plans i) (stores_after first plans (take i ps)))
+  maybe_batch_same i None at same = same
+  maybe_batch_same i (Some p) at same =
+      let s = stores_after first plans (take i ps) in
+      subst AreSame (sym (run_txns-whole first (plans i) 0 p.batch.txns p.reply.entries s))
+      (same_in_batch i p at same (length p.batch.txns))
 
-  -- so it is known after any number of batches
-  tracked_after : (i : ℕ) → IsTracked first (writes (take i ps)) (after_batches first effects ps i)
-  tracked_after zero = record { same = λ key bytes. refl; found = λ snapshot key low. refl }
-  tracked_after (suc i) =
+  -- so they are after any number of batches
+  pub same_after : (i : ℕ) → AreSame (stores_after first plans (take i ps))
+  same_after zero = refl
+  same_after (suc i) =
       let index : 0 + i ≡ i = omega arith in
-      subst (λ ws. IsTracked first ws (after_batches first effects ps (suc i))) (sym (writes-suc ps i))
-      (subst (λ s. IsTracked first (writes (take i ps) ++ maybe_writes (slice_get ps i)) s)
-      (sym (run_batches-suc first effects 0 ps i (start first)
-      ∙ ap (λ n. maybe_batch first (slice_get ps i) (effects n) (after_batches first effects ps i)) index))
-      (maybe_batch_tracked i (slice_get ps i) refl (tracked_after i)))
+      subst AreSame (sym (run_batches-suc first plans 0 ps i (start first)
+      ∙ ap (λ n. maybe_batch first (slice_get ps i) (plans n) (stores_after first plans (take i ps))) index))
+      (maybe_batch_same i (slice_get ps i) refl (same_after i))
 
   -- and each committed transaction is serial
-  each_serial : (i j : ℕ) (p : Processed) (t : Txn) → IsCommitted ps i j p t → IsSerial first effects ps i j p t
+  each_serial : (i j : ℕ) (p : Processed) (t : Txn) → IsCommitted ps i j p t → IsSerial first plans ps i j p t
   each_serial i j p t c =
-      let tracked = tracked_after i in
-      let same = same_in_batch i p c.batch tracked in
+      let same = same_in_batch i p c.batch (same_after i) in
+      let reads = (current_isolated ps current first plans keep i j p t c).reads in
       let next : suc j ≡ j + 1 = omega arith in
       record {
-        reads = λ key bytes read. reads_found i j p t c tracked key bytes read ∙ same j key bytes;
-        stores = subst (λ n. AreSame (stores_at first effects ps i p n)) next (same (suc j));
+        reads = λ key bytes read. reads key bytes read ∙ ap (λ store. store key bytes) (same j);
+        store = subst (λ n. AreSame (stores_at first plans ps i n p)) next (same (suc j));
       }
 
--- where reads are current, the committed transactions are serializable
+-- if reads are current, the committed transactions are serializable
 pub current_serializable : (ps : List Processed) → Current ps → Serializable ps
-current_serializable ps current first effects are_effects = each_serial first effects ps current are_effects
+current_serializable ps current first plans keep declared = each_serial first plans ps current keep declared
+
+-- Functions of the read ranges.
+
+-- the plan of a function keeps to the write ranges
+pub effect_keeps : (t : Txn) (effect : Store → Store) (plan : Plan) → plan ≡ plan_of t effect → KeepsToWrites t plan
+effect_keeps t effect plan is =
+    let keeps : KeepsToWrites t (plan_of t effect) = λ read changed key bytes h. rw h refl in
+    subst (KeepsToWrites t) (sym is) keeps
+
+-- and reads only what is declared, whatever it reads and changes
+pub effect_declared : (t : Txn) (effect : Store → Store) (plan : Plan) → IsEffect t effect → plan ≡ plan_of t effect
+    → (read changed : Store) → ReadsOnlyDeclared t plan read changed
+effect_declared t effect plan is_effect is read changed =
+    let declared : ReadsOnlyDeclared t (plan_of t effect) read changed = λ other same.
+    fun_ext (λ key. fun_ext (λ bytes.
+    elim (in_ranges t.writes key) as (λ b. in_ranges t.writes key ≡ b
+    → cond b (effect read key bytes) (changed key bytes) ≡ cond b (effect other key bytes) (changed key bytes)) [
+      | true ↦ λ e. is_effect.reads read other same key bytes e
+      | false ↦ λ e. refl
+    ] refl)) in
+    subst (λ plan. ReadsOnlyDeclared t plan read changed) (sym is) declared
+
+-- so if reads are current, functions of the read ranges are serializable
+pub current_effects : (ps : List Processed) → Current ps → EffectsAreSerializable ps
+current_effects ps current first plans effects are =
+    current_serializable ps current first plans
+    (λ i j p t c. let is = are i j p t c in effect_keeps t (effects i j) (plans i j) is.1)
+    (λ i j p t c. let is = are i j p t c in
+    effect_declared t (effects i j) (plans i j) is.0 is.1 _ _)

@@ -34,14 +34,14 @@ use Rattle.keyspace.proofs.callers.Chains.{version_of-more}
 use Rattle.serial.proofs.Reading.{split_at}
 
 -- the first n elements and one more are the first n, and the one
-take_one_more : {X : Type 0} (xs : List X) (n : ℕ) (x : X) → slice_get xs n ≡ Some x
+pub take_one_more : {X : Type 0} (xs : List X) (n : ℕ) (x : X) → slice_get xs n ≡ Some x
     → take (suc n) xs ≡ take n xs ++ x ∷ []
 take_one_more [] n x h = cc
 take_one_more (y ∷ xs) zero x h = let e : y ≡ x = cc in ap (λ z. z ∷ []) e
 take_one_more (y ∷ xs) (suc n) x h = ap (λ ys. y ∷ ys) (take_one_more xs n x h)
 
--- and where there is no more, they are the first n
-take_no_more : {X : Type 0} (xs : List X) (n : ℕ) → slice_get xs n ≡ None → take (suc n) xs ≡ take n xs
+-- and if there is no more, they are the first n
+pub take_no_more : {X : Type 0} (xs : List X) (n : ℕ) → slice_get xs n ≡ None → take (suc n) xs ≡ take n xs
 take_no_more [] zero h = refl
 take_no_more [] (suc n) h = refl
 take_no_more (y ∷ xs) zero h = cc
@@ -61,12 +61,18 @@ at_most_if_below : (a b : ℤ) → a <ℤ b → a ≤ℤ b
 at_most_if_below a b h = omega (arith, ints)
 
 -- `at or below` goes from the first to the last by way of one between
-at_most_through : (a b c : ℤ) → a ≤ℤ b → b ≤ℤ c → a ≤ℤ c
+pub at_most_through : (a b c : ℤ) → a ≤ℤ b → b ≤ℤ c → a ≤ℤ c
 at_most_through a b c h k = omega (arith, ints)
 
 -- the last of three versions, each at or below the next, isn't below the first
 no_circle : (a b c : ℤ) → a ≤ℤ b → b ≤ℤ c → c <ℤ a → ⊥
 no_circle a b c h k l = omega (arith, ints)
+
+-- a batch at or before another has a version at or below the other's
+abbrev pub VersionsRise : List Processed → Type 0
+VersionsRise ps =
+    (i k : ℕ) (p q : Processed) → slice_get ps i ≡ Some p → slice_get ps k ≡ Some q → i ≤ k
+    → p.batch.version ≤ℤ q.batch.version
 
 module _ (window : ℤ) (ps : List Processed) (chain : IsChain window ps) where
   -- the version before a batch is below the batch's
@@ -97,21 +103,21 @@ module _ (window : ℤ) (ps : List Processed) (chain : IsChain window ps) where
       (at_most_through (version_of (take n ps)) (version_of (take (d + n) ps)) (version_of (take (suc (d + n)) ps))
       (rises_by d n) (maybe_rises (d + n) (slice_get ps (d + n)) refl))
 
-  -- a batch at or before another has a version at or below the other's
-  version_up_to : (i k : ℕ) (p q : Processed) → slice_get ps i ≡ Some p → slice_get ps k ≡ Some q → i ≤ k
-      → p.batch.version ≤ℤ q.batch.version
+  -- so versions rise
+  pub version_up_to : VersionsRise ps
   version_up_to i k p q here there h =
       let index : (k - i) + suc i ≡ suc k = omega arith in
       let rises = subst (λ m. version_of (take (suc i) ps) ≤ℤ version_of (take m ps)) index (rises_by (k - i) (suc i)) in
       let from_here = subst (λ v. v ≤ℤ version_of (take (suc k) ps)) (version_after ps i p here) rises in
       subst (λ v. p.batch.version ≤ℤ v) (version_after ps k q there) from_here
 
-  -- a batch with a version at or below a snapshot that is below another batch's version comes before the other
-  pub comes_before : (k i : ℕ) (q p : Processed) (snapshot : ℤ) → slice_get ps k ≡ Some q → slice_get ps i ≡ Some p
-      → q.batch.version ≤ℤ snapshot → snapshot <ℤ p.batch.version → k < i
-  comes_before k i q p snapshot there here above below =
-      elim (cases_lt k i) [
-        | inl earlier ↦ earlier
-        | inr later ↦ absurd (no_circle p.batch.version q.batch.version snapshot
-            (version_up_to i k p q here there later) above below)
-      ]
+-- if versions rise, a batch with a version at or below a snapshot that is below another batch's version comes before the other
+pub comes_before : (ps : List Processed) → VersionsRise ps → (k i : ℕ) (q p : Processed) (snapshot : ℤ)
+    → slice_get ps k ≡ Some q → slice_get ps i ≡ Some p → q.batch.version ≤ℤ snapshot → snapshot <ℤ p.batch.version
+    → k < i
+comes_before ps rise k i q p snapshot there here above below =
+    elim (cases_lt k i) [
+      | inl earlier ↦ earlier
+      | inr later ↦ absurd (no_circle p.batch.version q.batch.version snapshot (rise i k p q here there later) above
+          below)
+    ]

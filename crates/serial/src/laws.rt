@@ -1,47 +1,71 @@
-//! The laws. Each is the contract of a function with an empty body.
+//! The laws. Each is the contract of a function that does nothing.
 
 ghost use Rattle.std.specs.Prelude.{ℕ, ℤ, List};
 ghost use Rattle.keyspace.specs.Processed.{Processed};
 ghost use Rattle.keyspace.specs.Chain.{IsChain};
 ghost use Rattle.keyspace.specs.Rows.{Limits};
+ghost use Rattle.serial.specs.Commits.{Current};
+ghost use Rattle.serial.specs.Serial.{EachIsIsolated, Serializable, EffectsAreSerializable, SnapshotsArePlaces, RealTime};
+ghost use Rattle.serial.specs.Shards.{OneShardEach, AreByShards};
 ghost use Rattle.serial.specs.Rows.{WorkedRows};
-ghost use Rattle.serial.specs.Serial.{Current, Serializable, ReadsBelow, RealTime, OnePartEach, AreByParts};
 
-/// What a committed transaction of a chain has read at its snapshot is what it would read at its place in the commit order.
+/// Every write that a committed transaction of a chain could have missed is one that it has read: at each key of its read ranges,
+/// the writes before it are those that its snapshot includes.
 pub fn reads_are_current()
     ensures current { (window : ℤ) (ps : List Processed) → IsChain window ps → Current ps }
 {}
 
-/// Where reads are current, running the committed transactions one at a time, in the order of commit, reads and writes
-/// what they read at their snapshots and wrote, whatever they do and whatever the first store is. So does every chain.
+/// Each committed transaction of a chain reads current values and may be run at its place in the commit order, whatever the other
+/// transactions read.
+pub fn isolated()
+    ensures isolated { (ps : List Processed) → Current ps → EachIsIsolated ps }
+    ensures chains { (window : ℤ) (ps : List Processed) → IsChain window ps → EachIsIsolated ps }
+{}
+
+/// If the committed transactions of a chain read only what they declare, running them one at a time, in the order of commit, reads
+/// and leaves what was read and left as they were run. Functions of the read ranges are such transactions.
 pub fn serializable()
     ensures serializable { (ps : List Processed) → Current ps → Serializable ps }
     ensures chains { (window : ℤ) (ps : List Processed) → IsChain window ps → Serializable ps }
+    ensures effects { (window : ℤ) (ps : List Processed) → IsChain window ps → EffectsAreSerializable ps }
 {}
 
-/// In a chain whose transactions read below their batch's version, a transaction comes after all that had been committed when
-/// it read, by the versions, and it reads what they wrote or a later write.
+/// A snapshot is a place in the commit order of a chain, so transactions that only read are run there.
+pub fn snapshots_are_places()
+    ensures places { (window : ℤ) (ps : List Processed) → IsChain window ps → SnapshotsArePlaces ps }
+{}
+
+/// A committed transaction of a chain that reads below its own batch's version comes after each transaction that was committed when
+/// it read, and reads what that one wrote or a later write.
 pub fn real_time()
-    ensures follows { (window : ℤ) (ps : List Processed) → IsChain window ps → ReadsBelow ps → RealTime ps }
+    ensures follows { (window : ℤ) (ps : List Processed) → IsChain window ps → RealTime ps }
 {}
 
-/// Rising cuts make parts of the keys of which each key lies in exactly one.
-pub fn one_part_a_key()
-    ensures one { OnePartEach }
+/// Rising split points make shards of which exactly one has each key.
+pub fn one_shard_per_key()
+    ensures one { OneShardEach }
 {}
 
-/// Where the keys are cut into parts, each with a resolver of its own, and a transaction is committed where every one of them
-/// says so, reads are current, and the committed transactions are serializable. Each part remembers what it committed itself,
-/// which may be more than what all did.
-pub fn serializable_by_parts()
-    ensures current { (window : ℤ) (cuts : List (List ℕ)) (each : List (List Processed)) (ps : List Processed)
-        → AreByParts window cuts each ps → Current ps }
-    ensures serializable { (window : ℤ) (cuts : List (List ℕ)) (each : List (List Processed)) (ps : List Processed)
-        → AreByParts window cuts each ps → Serializable ps }
+/// If each shard of the keys has its own resolver, and a transaction is committed only if every one of them says so, the laws hold of
+/// the verdicts that the clients received. Each shard remembers what it committed, which may be more than what all of them did.
+pub fn serializable_by_shards()
+    ensures current { (window : ℤ) (points : List (List ℕ)) (each : List (List Processed)) (ps : List Processed)
+        → AreByShards window points each ps → Current ps }
+    ensures isolated { (window : ℤ) (points : List (List ℕ)) (each : List (List Processed)) (ps : List Processed)
+        → AreByShards window points each ps → EachIsIsolated ps }
+    ensures serializable { (window : ℤ) (points : List (List ℕ)) (each : List (List Processed)) (ps : List Processed)
+        → AreByShards window points each ps → Serializable ps }
+    ensures effects { (window : ℤ) (points : List (List ℕ)) (each : List (List Processed)) (ps : List Processed)
+        → AreByShards window points each ps → EffectsAreSerializable ps }
+    ensures places { (window : ℤ) (points : List (List ℕ)) (each : List (List Processed)) (ps : List Processed)
+        → AreByShards window points each ps → SnapshotsArePlaces ps }
+    ensures follows { (window : ℤ) (points : List (List ℕ)) (each : List (List Processed)) (ps : List Processed)
+        → AreByShards window points each ps → RealTime ps }
 {}
 
-/// The worked examples, computed on the definitions: a chain whose two stores are the same, the same with one verdict flipped,
-/// whose stores differ, and transactions on which one resolver and the resolvers of two parts decide otherwise.
+/// The worked examples, computed on the definitions.
 pub fn worked_rows()
     ensures rows { (limits : Limits) × WorkedRows limits }
-{}
+{
+    keyspace::laws::runs_are_chains();
+}

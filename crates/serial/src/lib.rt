@@ -1,12 +1,11 @@
-//! Why a verdict matters: the committed transactions are serializable.
+//! Why verdicts matter: each committed transaction may be run at its place in the commit order, and all of them one at a time.
 //!
-//! Running the committed transactions one at a time, in the order of commit, reads and writes exactly what they read at their
-//! snapshots and wrote. `specs/Serial.antt` says so in definitions over any list of processed batches, to be read in their
-//! order, and the laws here prove it of every chain, which is what the resolver promises.
+//! `specs/Commits.antt`, `specs/Stores.antt`, `specs/Serial.antt` and `specs/Shards.antt`, to be read in this order, say so of any
+//! list of processed batches. The laws prove it of every chain, which is what the resolver promises to process.
 //!
-//! The laws speak of the reads and writes that transactions declare, and of the order of commit versions. They say nothing
-//! of reads outside the declared ranges, of atomic operations, which add to what they don't read, of versionstamps, or of
-//! what comes after `Never`, `Held` or a stop.
+//! A transaction is a plan that changes no key outside its write ranges. Index look-ups, atomic additions and versionstamps are plans.
+//! A reader of keys that it doesn't declare is one too: the laws then say nothing of its own reads, and all of the others'. Batches
+//! that were answered `Never` or `Held`, and batches after a stop, are not specified.
 #![tactic(auto)]
 
 pub mod laws;

@@ -1,7 +1,7 @@
 //! The worked rows of the arena, and random calls beside a map.
 
 use arena::{Arena, ArenaError, MAX_LENGTH, Slot};
-use fixtures::{Random, prints};
+use fixtures::prints;
 use std::alloc::{AllocError, Allocator, Global};
 use std::collections::BTreeMap;
 use std::process::Abort;
@@ -114,51 +114,6 @@ impl Both {
     }
 }
 
-// Draws a length of a key, each size as often as another.
-fn draw_length(random: &mut Random) -> usize {
-    let most = 32_u32 << random.below(10);
-    random.below(most + 1) as usize
-}
-
-#[test]
-fn random_calls_agree_with_a_map(rt: HostRuntime) -> Result<(), Fail> {
-    let mut random = Random::new(20_221_107);
-    let mut both = Both::new(rt.alloc());
-    for number in 0..5_000_u32 {
-        if random.below(5) < 3 {
-            both.place(rt.alloc(), number, draw_length(&mut random))?;
-        } else {
-            both.release_from(&rt, random.below(number + 1));
-        }
-        assert_eq!(rt; both.arena.live(), both.records.len());
-    }
-    assert!(rt; both.records.len() > 500);
-    assert!(rt; both.shows_all());
-    Ok(())
-}
-
-// Places two records, and writes a header over that of each. Returns whether the records have these then, and their keys.
-fn headers_change(arena: &mut Arena<u32>) -> Result<bool, ArenaError> {
-    let first = arena.place(1, b"first")?;
-    let second = arena.place(2, b"second")?;
-    if !arena.is_live(first) {
-        return Ok(false);
-    }
-    arena.set_header(first, 10);
-    if !arena.is_live(second) {
-        return Ok(false);
-    }
-    *arena.header_mut(second) = 22;
-    Ok(shows(arena, first, 10, b"first") && shows(arena, second, 22, b"second"))
-}
-
-#[test]
-fn headers_are_written_where_they_lie(rt: HostRuntime) -> Result<(), Fail> {
-    let mut arena = Arena::new(rt.alloc());
-    assert!(rt; headers_change(&mut arena)?);
-    Ok(())
-}
-
 #[test]
 fn refusals_print_their_numbers(rt: HostRuntime) -> Result<(), Fail> {
     for (refusal, text) in [
@@ -180,26 +135,5 @@ fn an_arena_prints_its_count(rt: HostRuntime) -> Result<(), Fail> {
     arena.place(2, b"another")?;
     let two = format!(in rt.alloc(); "{arena:?}")?;
     assert_eq!(rt; two.as_str(), "Arena { live: 2 }");
-    Ok(())
-}
-
-// Places so many of the longest keys, each of which has a chunk of its own.
-fn place_longest(both: &mut Both, alloc: Global, count: u32) -> Result<(), Fail> {
-    for number in 0..count {
-        both.place(alloc, number, MAX_LENGTH)?;
-    }
-    Ok(())
-}
-
-// More chunks than a chunk has slots at most.
-#[test]
-fn many_chunks(rt: HostRuntime) -> Result<(), Fail> {
-    let mut both = Both::new(rt.alloc());
-    place_longest(&mut both, rt.alloc(), 514)?;
-    assert_eq!(rt; both.arena.live(), 514);
-    both.release_from(&rt, 513);
-    both.place(rt.alloc(), 600, MAX_LENGTH)?;
-    assert_eq!(rt; both.arena.live(), 514);
-    assert!(rt; both.shows_all());
     Ok(())
 }

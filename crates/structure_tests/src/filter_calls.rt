@@ -78,19 +78,3 @@ fn filter_with_one_growth_refused(rt: HostRuntime) -> Result<(), Fail> {
     assert!(rt; is_as_written(&filter));
     Ok(())
 }
-
-// Counts the cells, of 4,096, into which the first thousand keys fall.
-#[test]
-fn hash_spreads(rt: HostRuntime) -> Result<(), Fail> {
-    let mut is_filled = vec![in rt.alloc(); false; 4_096]?;
-    for number in 0..1_000 {
-        let key = format!(in rt.alloc(); "user/{number:06}")?;
-        let cell = key_hash(key.as_bytes()) / 0x10_0000;
-        if let Some(is_filled) = is_filled.get_mut(cell as usize) {
-            *is_filled = true;
-        }
-    }
-    let count = is_filled.iter().filter(|is_filled| **is_filled).count();
-    assert!(rt; count >= 600, "{count}");
-    Ok(())
-}

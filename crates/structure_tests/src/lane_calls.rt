@@ -89,15 +89,6 @@ fn lane_of_one(rt: HostRuntime) -> Result<(), Fail> {
     Ok(())
 }
 
-#[test]
-fn ends_agree_once_all_is_taken(rt: HostRuntime) -> Result<(), Fail> {
-    let calls = "agree take beside 7 agree close close agree take agree beside take";
-    let answers = answers(rt.alloc(), 2, calls)?;
-    let expected = "true empty empty sent false closed closed false item:7 true end end ";
-    assert_eq!(rt; answers.as_str(), expected);
-    Ok(())
-}
-
 // Returns whether an item goes through the lane, or memory was refused.
 fn carries_or_refused(made: Result<(Port<u32>, Intake<u32>), LaneError>) -> bool {
     match made {

@@ -1,10 +1,8 @@
 //! The worked rows of the step map, and a growth that is refused.
 
-use crate::queries::Queries;
 use crate::written::{Written, shows};
 use fixtures::{prints, range};
-use keyspace::Range;
-use std::alloc::{AllocError, Global};
+use std::alloc::Global;
 use std::process::Abort;
 use std::test::Fail;
 use stepmap::{MAX_LIMIT, StepError, StepMap, SweepEnd};
@@ -85,66 +83,6 @@ fn paced_sweep_after_write(rt: HostRuntime) -> Result<(), Fail> {
     assert!(rt; has(written.map(), 4, "=-1 b=200 bb=300 d=300 e=-1"));
     assert!(rt; written.sweep(1) == SweepEnd::Round);
     assert!(rt; has(written.map(), 4, ""));
-    Ok(())
-}
-
-// Returns whether this is the greatest version in the range, and no greater one.
-fn is_greatest(map: &StepMap, range: &Range, greatest: i64) -> bool {
-    map.greatest_in(range) == greatest
-        && !map.exceeds(range, greatest)
-        && map.exceeds(range, greatest.saturating_sub(1)) != range.is_empty()
-}
-
-#[test]
-fn greatest_versions(rt: HostRuntime) -> Result<(), Fail> {
-    let written = two_writes(&rt, rt.alloc())?;
-    for (begin, end, greatest) in [
-        ("a", "b", 100),
-        ("a", "bb", 200),
-        ("bb", "c", 200),
-        ("c", "z", 100),
-        ("", "a", -1),
-        ("b", "b", -1),
-    ] {
-        let range = range(rt.alloc(), begin.as_bytes(), end.as_bytes())?;
-        assert!(rt;
-            is_greatest(written.map(), &range, greatest),
-            "{begin} to {end}"
-        );
-    }
-    Ok(())
-}
-
-// Asks at once for a range with many versions, more than are looked up side by side, and for an empty range between them.
-// Returns whether each answer is that of the greatest version alone.
-fn answers_each(
-    alloc: Global,
-    map: &StepMap,
-    range: &Range,
-    none: &Range,
-    greatest: i64,
-) -> Result<bool, AllocError> {
-    let mut asked = Vec::new(alloc);
-    let mut expected = Vec::new(alloc);
-    for version in 80..120 {
-        asked.push((range, version))?;
-        expected.push(version < greatest)?;
-        if version == 110 {
-            asked.push((none, -2))?;
-            expected.push(false)?;
-        }
-    }
-    let mut answers = Vec::from_slice(alloc, &[true])?;
-    map.exceeds_each(&Queries { all: asked }, &mut answers)?;
-    Ok(answers.as_slice() == expected.as_slice())
-}
-
-#[test]
-fn each_as_alone(rt: HostRuntime) -> Result<(), Fail> {
-    let written = two_writes(&rt, rt.alloc())?;
-    let none = range(rt.alloc(), b"b", b"b")?;
-    let at_a = range(rt.alloc(), b"a", b"b")?;
-    assert!(rt; answers_each(rt.alloc(), written.map(), &at_a, &none, 100)?);
     Ok(())
 }
 

@@ -1,6 +1,9 @@
 use Rattle.std.proofs.Common.{refl}
 use Rattle.keyspace.proofs.callers.Chains.{limits}
-use Rattle.serial.proofs.Examples.{are_effects, values_differ}
+use Rattle.serial.proofs.EffectRows.{are_effects}
+use Rattle.serial.proofs.ClauseRows as clauses
+use Rattle.serial.proofs.PlanRows as plans
+use Rattle.serial.proofs.ShardRows as shards
 use Rattle.serial.proofs.laws.worked_rows.Goals as goal
 
 pub returns : goal.returns
@@ -11,10 +14,10 @@ returns c = record {
       effects_keep_to_ranges = are_effects;
       chain_of_all_kinds = refl;
       flipped_verdict = refl;
-      flipped_verdict_differs = values_differ _ _ refl refl;
-      parts_clip = refl;
-      parts_refuse = refl;
-      parts_commit = refl;
+      flipped_verdict_differs = clauses.not_same_x _ _ refl refl;
+      clauses = clauses.rows limits c.runs_are_chains.ensures.chain;
+      plans = plans.rows limits c.runs_are_chains.ensures.chain;
+      shards = shards.rows limits c.runs_are_chains.ensures.chain;
     },
   );
 }
