@@ -1,7 +1,8 @@
-.PHONY: quick demo rust rust-packages rust-package library-unproved eraser-test replay batches check test more-edits \
-	refused-memory json-examples stalled-pipes readme-runs manual-page library install library-test plant bench bench-quick bench-test profile
+.PHONY: quick demo rust rust-packages rust-crate-test rust-doc rust-package library-unproved quick-test rust-test \
+	rust-test-long replay batches check test more-edits \
+	refused-memory json-examples stalled-pipes readme-runs manual-page library install library-test plant bench profile
 
-# The Cargo edition: the same sources, clauses erased, built by rustc. It needs Rust 1.88, cc, make and python3, and no network.
+# The Cargo edition: the same sources, clauses erased, built by rustc. It needs Rust 1.85, cc, make and python3, and no network.
 
 # Builds the programs: out/quick/replay, out/quick/batches, out/quick/workload. Not proved.
 quick:
@@ -24,6 +25,14 @@ rust:
 rust-packages:
 	cargo/packages
 
+# Tests the crate archcaraway of out/rust, its examples in the documentation too.
+rust-crate-test: rust
+	cd out/rust && cargo test --release --quiet --package archcaraway
+
+# Builds the documentation of out/rust: out/rust/target/doc/archcaraway/index.html. A warning is an error.
+rust-doc: rust
+	cd out/rust && RUSTDOCFLAGS='-D warnings' cargo doc --quiet --workspace --no-deps
+
 # Packages each crate of out/rust, as for crates.io, without building it.
 rust-package: rust
 	cargo/package
@@ -32,9 +41,21 @@ rust-package: rust
 library-unproved:
 	cargo/library
 
-# Tests the eraser.
-eraser-test:
-	cd cargo && python3 -m unittest
+# Tests the Cargo edition in two minutes, without the Rattle toolchain: the eraser, the programs beside what the documents say, the crates.
+quick-test: quick
+	cd cargo && python3 -m unittest discover --quiet --pattern 'test_*.py'
+	cargo/compare --alone
+	cargo/test
+
+# After `make quick` and `make test`, compares the Cargo edition with the proved programs: the worked rows, the examples and 2,000 drawn
+# cases. If the proved programs are not there, it says so, and compares with what the documents say alone.
+rust-test:
+	cargo/compare
+
+# The same with 20,000 drawn cases, and a hundred times as many cases of the crates' tests.
+rust-test-long:
+	cargo/compare --runs 20000
+	ARCHCARAWAY_LONG=1 cargo/test
 
 # The proved edition: everything below needs the Rattle toolchain with its command `rt`.
 
@@ -120,6 +141,8 @@ manual-page:
 plant:
 	for crate in crates/*/; do (cd "$$crate" && rt plant); done
 
+.PHONY: bench-quick bench-test
+
 # Measures replay, proved if it is built, beside the baselines of bench/baselines, and redraws the charts. Needs cc, c++, cargo and python3.
 # Arguments for bench/measure: make bench BENCH='--rounds 3 --only wide'.
 bench:
@@ -139,22 +162,3 @@ profile:
 	cargo/erase.py out/profile --add profile/detect
 	RUSTFLAGS="-Ctarget-cpu=x86-64-v2 -g" cargo build --manifest-path out/profile/Cargo.toml --quiet --release --offline --bin archcaraway-detect
 	out/profile/target/release/archcaraway-detect '$(FILE)'
-
-.PHONY: rust-test rust-test-long quick-test
-
-# After `make quick` and `make test`, compares the Cargo edition with the proved programs: the worked rows, the examples and 2,000 drawn
-# cases. If the proved programs are not there, it says so, and compares with what the documents say alone.
-rust-test:
-	cargo/compare
-
-# The same with 20,000 drawn cases.
-rust-test-long:
-	cargo/compare --runs 20000
-
-# Tests the Cargo edition without the Rattle toolchain: its tools, and its programs beside what the documents say.
-quick-test: quick
-	cd cargo && python3 -m unittest discover -p 'test_*.py'
-	cargo/compare --alone
-	@if grep -qs '#\[test\]' -r out/quick/workspace --include='*.rs'; then \
-		cargo test --manifest-path out/quick/workspace/Cargo.toml --offline --quiet; \
-	fi

@@ -24,7 +24,7 @@ from eraser.tokens import Refused
 TOP = Path(__file__).resolve().parent.parent
 VERSION = "0.2.0"
 PROGRAMS = ("replay", "batches", "workload")
-LIBRARIES = ("archcaraway_c", "codec_c")
+LIBRARIES = ("archcaraway_c", "codec_c_tests")
 
 # What Rust programs call: a crate of plain Rust over the erased ones.
 FACADE = TOP / "cargo" / "archcaraway"

@@ -8,7 +8,7 @@ from dataclasses import dataclass
 from svg import Picture, width_of, write
 
 LIST = pathlib.Path(__file__).resolve().parent.parent.parent / 'crates.txt'
-TESTS = re.compile(r'fixtures|codec_c|\w+_tests')
+TESTS = re.compile(r'test_values|codec_c_tests|\w+_tests')
 PROGRAMS = {'replay', 'batches', 'workload', 'archcaraway_c'}
 SIZE, ROW, HEIGHT, GAP, MARGIN = 13, 78, 32, 16, 12
 

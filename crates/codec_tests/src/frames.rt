@@ -3,9 +3,9 @@
 use crate::readers::{FailsOnce, Pieces};
 use crate::rows::{Way, expect, expect_rows};
 use crate::texts::{EMPTY_BATCH, EMPTY_BATCH_2, ONE_WRITE, ONE_WRITE_2, bytes_of, joined, refused};
-use fixtures::{Unmade, show_batch};
 use std::alloc::Global;
 use std::test::Fail;
+use test_values::{Unmade, show_batch};
 use wire::{Frames, Source, StdSource, read_frames};
 
 // The next answer as text: the batch, `none`, or the number and the name of the refusal.

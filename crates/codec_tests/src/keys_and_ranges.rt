@@ -1,11 +1,11 @@
 //! Tests of keys and of ranges.
 
 use crate::rows::expect;
-use fixtures::{Unmade, key, range};
 use keys::key_hash;
 use keyspace::Range;
 use std::alloc::Global;
 use std::test::Fail;
+use test_values::{Unmade, key, range};
 
 // A copy of a key, in hexadecimal.
 fn copied_key(alloc: Global, bytes: &[u8]) -> Result<String, Unmade> {

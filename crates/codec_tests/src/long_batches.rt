@@ -2,10 +2,10 @@
 
 use crate::rows::expect;
 use crate::texts::{bytes_of, encoded, refused};
-use fixtures::{Unmade, range, txn};
 use keyspace::{Batch, RangeRef};
 use std::alloc::{AllocError, Global};
 use std::test::Fail;
+use test_values::{Unmade, range, txn};
 use wire::{WireError, WireVersion, decode_batch};
 
 // The digits of this head and of a key of so many bytes.

@@ -1,11 +1,11 @@
 //! Tests of the ranks of a batch's ranges: by hand, at random compared with a plain count, and where memory is refused.
 
 use crate::rows::expect;
-use fixtures::{Unmade, batch, batch_of, ranges, single_key, txn};
 use keys::{MAX_RANKED, Ranks};
 use keyspace::Txns;
 use std::alloc::{AllocError, Global};
 use std::test::Fail;
+use test_values::{Unmade, batch, batch_of, ranges, single_key, txn};
 
 // Five ranges with five begins, and an empty range.
 const THREE_TXNS: &str = "0>1: R[b,d) R[m,m) W[a,c); W[aa,y); R[c,d) W[,a)";

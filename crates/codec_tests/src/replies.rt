@@ -2,9 +2,9 @@
 
 use crate::rows::{Way, expect, expect_rows};
 use crate::texts::{bytes_of, refused};
-use fixtures::{Unmade, show_reply};
 use std::alloc::Global;
 use std::test::Fail;
+use test_values::{Unmade, show_reply};
 use wire::decode_reply;
 
 // The first frame is that of a batch.

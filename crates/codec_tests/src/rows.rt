@@ -4,10 +4,10 @@
 use crate::frames::of_text;
 use crate::texts::{batch_at, batch_both_ways, reply_at, reply_both_ways};
 use crate::upgrades::upgraded_text;
-use fixtures::Unmade;
 use std::alloc::Global;
 use std::process::Abort;
 use std::test::Fail;
+use test_values::Unmade;
 use wire::WireVersion;
 
 /// What is done with the text of a row.

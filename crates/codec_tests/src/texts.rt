@@ -1,9 +1,9 @@
 //! The texts of the frames that several tests read, and what comes of a text, as text too. Blanks stand between the fields
 //! of a text and aren't part of the bytes.
 
-use fixtures::{Unmade, show_batch, show_reply};
 use keyspace::Batch;
 use std::alloc::Global;
+use test_values::{Unmade, show_batch, show_reply};
 use wire::{
     WireError, WireVersion, decode_batch, decode_reply, encode_batch, encode_batch_1, encode_reply,
 };

@@ -3,9 +3,9 @@
 use crate::paper::{End, Paper};
 use crate::rows::{Way, expect, expect_rows};
 use crate::texts::{EMPTY_BATCH, EMPTY_BATCH_2, ONE_WRITE, ONE_WRITE_2, bytes_of, joined};
-use fixtures::Unmade;
 use std::alloc::Global;
 use std::test::Fail;
+use test_values::Unmade;
 use wire::{Sink, StdSink, StdSource, WireError, upgrade, write_all};
 
 const ALL: usize = 10_000_000;

@@ -1,8 +1,7 @@
-//! What no clause of `generator` says: that a file decodes again, that what is drawn varies, which words are taken, and that what is
+//! What no clause of `workload_program` says: that a file decodes again, that what is drawn varies, which words are taken, and that what is
 //! written is passed on.
 
 use crate::texts::is_again;
-use generator::{Random, Shape, USAGE, draw_batch, draw_range, read_words, run, run_in};
 use keyspace::Batch;
 use std::alloc::{Alloc, Global};
 use std::collections::BTreeSet;
@@ -12,6 +11,7 @@ use std::io::{ErrorKind, Write};
 use std::rt::Env;
 use std::test::Fail;
 use wire::{StdSink, WireError, WireVersion, decode_batch, encode_batch_1};
+use workload_program::{Random, Shape, USAGE, draw_batch, draw_range, read_words, run, run_in};
 
 fn words(alloc: Global, text: &str) -> Result<Vec<String>, Fail> {
     let mut words = Vec::new(alloc);

@@ -1,6 +1,6 @@
-//! The program `batches` over streams in memory, by the public calls of `converter`.
+//! The program `batches` over streams in memory, by the public calls of `batches_program`.
 
-use converter::{Failure, Kind, Progress, decode, encode, show};
+use batches_program::{Failure, Kind, Progress, decode, encode, show};
 use std::alloc::{AllocError, Global};
 use std::str;
 use std::test::Fail;

@@ -1,10 +1,10 @@
 //! Keys as text.
 
-use fixtures::Unmade;
 use json_lines::put_key_form;
 use std::alloc::Global;
 use std::str;
 use std::test::Fail;
+use test_values::Unmade;
 
 fn form_of(alloc: Global, key: &[u8]) -> Result<String, Unmade> {
     let mut form = Vec::new(alloc);

@@ -2,11 +2,11 @@
 
 ghost use Rattle.std.specs.Prelude.{◌<◌};
 
-use fixtures::{Random, Unmade, batch_of, entry, reply, single_key, txn};
 use json_lines::{Scratch, read_batch, read_reply, write_batch, write_reply};
 use keyspace::{Batch, Entry, Places, Range, Reply, Txn, Verdict};
 use std::alloc::{AllocError, Global};
 use std::test::Fail;
+use test_values::{Random, Unmade, batch_of, entry, reply, single_key, txn};
 use wire::{encode_batch, encode_reply};
 
 // The bytes of keys: those that have to be escaped, and others.

@@ -1,9 +1,9 @@
 //! Lines that are refused, by the member that is wrong and why.
 
 use crate::rows::{Way, expect_rows, outcome};
-use fixtures::Unmade;
 use std::alloc::Global;
 use std::test::Fail;
+use test_values::Unmade;
 
 const REFUSED: &str = r#" => not JSON
 { => not JSON

@@ -1,11 +1,11 @@
 //! Tables of lines: each row is a line, `=>`, and what comes of it as text.
 
-use fixtures::{Unmade, show_batch, show_reply};
 use json_lines::{Scratch, read_batch, read_reply, write_batch, write_reply};
 use std::alloc::{AllocError, Global};
 use std::process::Abort;
 use std::str;
 use std::test::Fail;
+use test_values::{Unmade, show_batch, show_reply};
 
 /// What a line is read as, and what is told of it.
 #[derive(Clone, Copy)]

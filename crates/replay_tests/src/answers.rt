@@ -1,9 +1,9 @@
 //! Answers from their texts, and the lines of them.
 
-use fixtures::{Unmade, entry, reply};
 use keyspace::{Answer, Entry, Places, Verdict};
 use replay_program::{Form, Line};
 use std::alloc::{AllocError, Global};
+use test_values::{Unmade, entry, reply};
 use wire::encode_reply;
 
 // The entry of a word, as it is printed: `committed`, `tooold`, `conflict`, or with one of these lists of places.

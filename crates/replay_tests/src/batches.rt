@@ -1,10 +1,10 @@
 //! Rows of batches and their answers: those off the chain, repeats, held ones and stops.
 
 use crate::runs::{ends, gives, opened, prints, push_batch};
-use fixtures::Unmade;
 use replay_program::Options;
 use std::alloc::Global;
 use std::test::Fail;
+use test_values::Unmade;
 
 #[test]
 fn empty_batch(rt: HostRuntime) -> Result<(), Fail> {

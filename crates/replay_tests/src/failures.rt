@@ -1,12 +1,12 @@
 //! What failed, as a report without answers prints it, and why a run could not start.
 
 use crate::runs::ended;
-use fixtures::Unmade;
 use replay_program::{Ending, Line, ProxyFailure, StartError, fail_to_start, print_report};
 use resolver::{OpenError, Stop};
 use std::alloc::{AllocError, Global};
 use std::process::Abort;
 use std::test::Fail;
+use test_values::Unmade;
 use wire::{StdSink, WireError};
 
 /// Nothing failed.

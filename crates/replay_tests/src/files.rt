@@ -2,7 +2,6 @@
 
 use crate::failing::Failing;
 use crate::runs::{ended, ends, file_of, gives, opened, reader, replayed_from, waiting_room};
-use fixtures::Unmade;
 use replay_program::{Options, replay_over};
 use std::alloc::{AllocError, Global};
 use std::io;
@@ -11,6 +10,7 @@ use std::process::Abort;
 use std::sync::Wait;
 use std::test::Fail;
 use std::thread::Threads;
+use test_values::Unmade;
 use wire::{StdSink, StdSource};
 
 const SHORT: &str = "failed: replay: proxy 0: wire 1 Short\n";

@@ -2,10 +2,10 @@
 
 use crate::answers::{line_of, received_of};
 use crate::failing::Failing;
-use fixtures::Unmade;
 use replay_program::{Form, PrintError, print_answers};
 use std::alloc::Global;
 use std::test::Fail;
+use test_values::Unmade;
 use wire::StdSink;
 
 fn text_of(bytes: Vec<u8>) -> Result<String, Unmade> {

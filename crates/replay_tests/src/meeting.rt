@@ -4,7 +4,6 @@
 //! the other was answered.
 
 use crate::runs::{file_of, opened, reader, replayed_from};
-use fixtures::Unmade;
 use flow::{Stand, Told};
 use lane::MAX_CAPACITY;
 use replay_program::{Gatekeeper, Options};
@@ -14,6 +13,7 @@ use std::sync::atomic::{AtomicU64, Ordering};
 use std::sync::{Arc, Wait};
 use std::test::Fail;
 use std::thread::Threads;
+use test_values::Unmade;
 
 // How many questions are refused before all batches pass.
 const MAX_REFUSED: u64 = 1_000_000;

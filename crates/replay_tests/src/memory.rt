@@ -6,7 +6,6 @@ use crate::rows::{
     SECOND_FILE_CONTINUES_CHAIN, SNAPSHOT_AT_WRITE,
 };
 use crate::runs::{Reader, file_of, reader};
-use fixtures::Unmade;
 use replay_program::{Options, Status, replay_over};
 use resolver::MAX_PROXIES;
 use std::alloc::{AllocError, Global};
@@ -15,6 +14,7 @@ use std::str;
 use std::sync::{Arc, Wait};
 use std::test::Fail;
 use std::thread::Threads;
+use test_values::Unmade;
 use wire::StdSink;
 
 // How the lines of a proxy begin.

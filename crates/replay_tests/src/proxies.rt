@@ -1,10 +1,10 @@
 //! Rows of several files.
 
 use crate::runs::{file_of, gives, opened, push_batch};
-use fixtures::Unmade;
 use replay_program::Options;
 use std::alloc::{AllocError, Global};
 use std::test::Fail;
+use test_values::Unmade;
 
 #[test]
 fn second_file_continues_chain(rt: HostRuntime) -> Result<(), Fail> {

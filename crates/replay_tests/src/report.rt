@@ -4,12 +4,12 @@ use crate::answers::{line_of, lines_of, received_of};
 use crate::failing::Failing;
 use crate::failures::{CLEAN, LOST, SHORT};
 use crate::runs::ended;
-use fixtures::Unmade;
 use replay_program::{Ending, Form, Line, ProxyFailure, Report, Status, print_report};
 use resolver::Stop;
 use std::alloc::{AllocError, Global};
 use std::io::{BufWriter, Write};
 use std::test::Fail;
+use test_values::Unmade;
 use wire::{Sink, StdSink};
 
 const LINES: &str = "0 7 held\n1 3 never\n1 5 held\n";

@@ -1,6 +1,5 @@
 //! A run over files in memory, and what it gives.
 
-use fixtures::{Unmade, batch};
 use flow::WaitingRoom;
 use replay_program::{Gatekeeper, Options, Status, replay_over};
 use resolver::MAX_PROXIES;
@@ -10,6 +9,7 @@ use std::process::Abort;
 use std::sync::{Arc, Wait};
 use std::test::Fail;
 use std::thread::Threads;
+use test_values::{Unmade, batch};
 use wire::{Source, StdSink, StdSource, WireError, encode_batch_1};
 
 /// A reader of a file in memory.

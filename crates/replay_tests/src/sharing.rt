@@ -4,7 +4,6 @@
 //! its version, which is one more than its previous version.
 
 use crate::runs::{gives, push_batch};
-use fixtures::Unmade;
 use replay_program::Options;
 use resolver::MAX_PROXIES;
 use std::alloc::{AllocError, Global};
@@ -12,6 +11,7 @@ use std::process::Abort;
 use std::sync::Wait;
 use std::test::Fail;
 use std::thread::Threads;
+use test_values::Unmade;
 
 // Batches of the chain, from this one on and up to this one, which isn't among them.
 type Batches = (u32, u32);

@@ -6,7 +6,6 @@ use crate::answers::replies_of;
 use crate::files::first_run;
 use crate::runs::{ended, file_of, opened};
 use crate::sharing;
-use fixtures::Unmade;
 use replay_program::{FileError, Files, Status, run_in};
 use std::alloc::{AllocError, Global};
 use std::env::FillError;
@@ -15,6 +14,7 @@ use std::io::{AsBytes, Cursor, Read};
 use std::rt::Env;
 use std::sync::Wait;
 use std::thread::Threads;
+use test_values::Unmade;
 use wire::{Sink, StdSink, StdSource};
 
 /// A reader that tells a contract no bytes.

@@ -3,11 +3,11 @@
 use crate::failing::Failing;
 use crate::runs::ended;
 use crate::shelf::shell_into;
-use fixtures::Unmade;
 use std::alloc::Global;
 use std::sync::Wait;
 use std::test::Fail;
 use std::thread::Threads;
+use test_values::Unmade;
 use wire::StdSink;
 
 // How the program ends on these words, and what it writes to standard error, where standard output is this.

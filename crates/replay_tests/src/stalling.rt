@@ -1,7 +1,6 @@
 //! A file that stalls while another goes on.
 
 use crate::runs::{push_batch, replayed_from};
-use fixtures::Unmade;
 use flow::{Stand, Told, WaitingRoom};
 use replay_program::{Gatekeeper, Options};
 use std::alloc::{AllocError, Global};
@@ -12,6 +11,7 @@ use std::sync::{Arc, Wait};
 use std::test::Fail;
 use std::thread::Threads;
 use std::{io, thread};
+use test_values::Unmade;
 use wire::StdSource;
 
 // How often a reader looks whether it may go on, before it goes on all the same.

@@ -2,7 +2,6 @@
 //! through.
 
 use crate::runs::{file_of, reader, replayed_from};
-use fixtures::Unmade;
 use flow::{Stand, Told};
 use replay_program::{Gatekeeper, Options};
 use std::alloc::{AllocError, Global};
@@ -12,6 +11,7 @@ use std::sync::{Arc, Wait};
 use std::test::Fail;
 use std::thread;
 use std::thread::Threads;
+use test_values::Unmade;
 
 // How often the first look yields at most until the first batch is sent.
 const MAX_YIELDS: u64 = 10_000_000;

@@ -2,11 +2,11 @@
 
 use crate::failing::Failing;
 use crate::runs::ended;
-use fixtures::Unmade;
 use replay_program::{CommandLine, Form, Options, Refusal, Status, read_words};
 use std::alloc::{AllocError, Global};
 use std::process::Abort;
 use std::test::Fail;
+use test_values::Unmade;
 use wire::StdSink;
 
 // The words of a command line, with the program's name before them.

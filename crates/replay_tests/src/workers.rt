@@ -1,7 +1,6 @@
 //! A worker alone, over lanes whose other ends are held here.
 
 use crate::runs::{file_of, push_batch, reader};
-use fixtures::Unmade;
 use keyspace::{Answer, Batch};
 use lane::{Intake, Port, Taken, lane};
 use replay_program::{AlwaysOpen, Assignment, Finished, Form, work};
@@ -11,6 +10,7 @@ use std::process::Abort;
 use std::sync::Wait;
 use std::test::Fail;
 use std::thread;
+use test_values::Unmade;
 use wire::StdSink;
 
 // What the worker of proxy 0 is assigned.

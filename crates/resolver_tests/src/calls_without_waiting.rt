@@ -1,12 +1,12 @@
 //! No call over lanes waits for another thread: functions that are given nothing to wait with make each of them.
 
 use crate::service::Service;
-use fixtures::Unmade;
 use lane::{Taken, agree, lane};
 use resolver::{Account, Turn};
 use std::alloc::Global;
 use std::process::Abort;
 use std::test::Fail;
+use test_values::Unmade;
 
 // Makes each call of a lane of one.
 fn over_a_lane(alloc: Global) -> Result<bool, Unmade> {

@@ -2,10 +2,10 @@
 ghost use Rattle.std.specs.Prelude.{◌≡◌};
 
 use conflict::{ConflictSet, MAX_WINDOW, SetStop};
-use fixtures::Unmade;
 use keyspace::{Batch, Reply};
 use std::alloc::Global;
 use stepmap::MAX_LIMIT;
+use test_values::Unmade;
 
 /// A conflict set, with the greatest version that it has resolved.
 #[derive(Drop)]

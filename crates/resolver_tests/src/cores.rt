@@ -6,11 +6,11 @@ use crate::rows::{
     HELD_OVERTAKEN, HELD_REPEAT_ANSWERED_TWICE, LEAST_PREVIOUS_LEAVES_FIRST,
     REPEAT_BY_ANOTHER_PROXY, ROWS, Row, count_of, numbered, parts,
 };
-use fixtures::Unmade;
 use resolver::{Core, Stop};
 use std::alloc::Global;
 use std::process::Abort;
 use std::test::Fail;
+use test_values::Unmade;
 
 // A core that is given the steps of a row.
 #[derive(Drop)]

@@ -1,12 +1,12 @@
 //! A core whose gate is full.
 
 use conflict::MAX_WINDOW;
-use fixtures::{Unmade, batch_of, show_answer};
 use keyspace::{Answer, WINDOW};
 use resolver::{Core, MAX_PROXIES, OpenError, Stop};
 use std::alloc::Global;
 use std::test::Fail;
 use stepmap::MAX_LIMIT;
+use test_values::{Unmade, batch_of, show_answer};
 
 /// Opens a core of the default window.
 pub fn open(alloc: Global, proxies: usize) -> Result<Result<Core, OpenError>, Unmade> {

@@ -5,12 +5,12 @@
 
 use crate::made::{batch_at_last, text_at_last};
 use crate::service::Service;
-use fixtures::Unmade;
 use lane::Taken;
 use resolver::{Account, Stop, Turn};
 use std::alloc::Global;
 use std::process::Abort;
 use std::test::Fail;
+use test_values::Unmade;
 
 // A service that is given the steps of a row.
 #[derive(Drop)]

@@ -6,10 +6,14 @@
 //! lanes alone; `serving` has those of two proxies served in one thread. `shares` has two proxies send up to their share and beyond it.
 //! `calls_without_waiting` makes each call over lanes where nothing can wait. `refusals` prints each stop and each refusal.
 //!
+//! `batches_alike` has two tests whose allocations `.ci/refused-memory` counts.
+//!
 //! The tests named for it, as `core_stops_at_one_growth_refused`, pass whichever one growth is refused; `.ci/refused-memory` refuses
 //! each in turn.
 #![tactic(auto)]
 
+#[cfg(test)]
+mod batches_alike;
 #[cfg(test)]
 mod calls_without_waiting;
 #[cfg(test)]

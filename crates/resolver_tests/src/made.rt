@@ -1,8 +1,8 @@
 //! Batches and texts, made by a second try where the first is refused memory.
 
-use fixtures::{Unmade, batch, show_answer, show_reply};
 use keyspace::{Answer, Batch, Reply};
 use std::alloc::Global;
+use test_values::{Unmade, batch, show_answer, show_reply};
 
 /// Reads a batch from its text.
 pub fn batch_at_last(alloc: Global, text: &str) -> Result<Batch, Unmade> {

@@ -1,9 +1,9 @@
 //! The text of each refusal: its number and its name.
 
 use conflict::SetStop;
-use fixtures::prints;
 use resolver::{OpenError, Stop};
 use std::test::Fail;
+use test_values::prints;
 
 #[test]
 fn stops_of_a_set_print_their_numbers(rt: HostRuntime) -> Result<(), Fail> {

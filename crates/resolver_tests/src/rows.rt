@@ -3,7 +3,7 @@
 //! A step of a row is a proxy and its batch, or `finish`, and behind an arrow the answers that the step makes, each with the
 //! proxy that is given it: `0 0>100 -> 0 100 empty; 1 55 never`.
 
-use fixtures::Unmade;
+use test_values::Unmade;
 
 /// The steps of a row.
 pub type Row<'a> = &'a [&'a str];

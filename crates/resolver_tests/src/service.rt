@@ -2,12 +2,12 @@
 ghost use Rattle.resolver.specs.Resolver.{AreClients};
 
 use conflict::MAX_WINDOW;
-use fixtures::Unmade;
 use keyspace::{Answer, Batch, WINDOW};
 use lane::{MAX_CAPACITY, Taken};
 use resolver::{Account, Client, MAX_PROXIES, OpenError, Resolver, Stop, Turn, open};
 use std::alloc::Global;
 use stepmap::MAX_LIMIT;
+use test_values::Unmade;
 
 /// A resolver and all of its clients, each at its number.
 #[derive(Drop)]

@@ -1,12 +1,12 @@
 //! Two proxies served in one thread.
 
-use fixtures::{Unmade, batch, show_answer};
 use keyspace::Answer;
+use proved_callers::serve_two;
 use resolver::OpenError;
 use std::alloc::Global;
 use std::process::Abort;
 use std::test::Fail;
-use uses::serve_two;
+use test_values::{Unmade, batch, show_answer};
 
 fn push_answers(alloc: Global, text: &mut String, answers: &[Answer]) -> Result<(), Unmade> {
     for answer in answers {

@@ -1,11 +1,11 @@
 //! Batches by hand, resolved by a conflict set.
 
 use crate::chained::Chained;
-use fixtures::{Unmade, batch, batch_of, show_reply, single_key, txn};
 use keyspace::{Batch, Txn, WINDOW};
 use std::alloc::{AllocError, Global};
 use std::process::Abort;
 use std::test::Fail;
+use test_values::{Unmade, batch, batch_of, show_reply, single_key, txn};
 
 /// More boundaries than any of these sets keeps.
 pub const LIMIT: usize = 1_000_000;
@@ -119,7 +119,7 @@ fn seventy_keys(alloc: Global) -> Result<Batch, Unmade> {
         txns.push(of_one_key(alloc, byte)?)
             .map_err(AllocError::from)?;
     }
-    let reads = fixtures::ranges(alloc, &[(&[63], &[65])])?;
+    let reads = test_values::ranges(alloc, &[(&[63], &[65])])?;
     txns.push(txn(0, true, reads, Vec::new(alloc))?)
         .map_err(AllocError::from)?;
     batch_of(alloc, -1, 100, -1, txns)

@@ -4,10 +4,10 @@ use crate::chained::Chained;
 use crate::made::{batch_at_last, reply_at_last};
 use crate::set::LIMIT;
 use conflict::SetStop;
-use fixtures::Unmade;
 use keyspace::WINDOW;
 use std::alloc::Global;
 use std::test::Fail;
+use test_values::Unmade;
 
 // Batches, each with the reply to it.
 type Replied<'a> = &'a [(&'a str, &'a str)];

@@ -1,11 +1,11 @@
 //! Two proxies that keep their share, or don't.
 
 use crate::service::Service;
-use fixtures::{Unmade, batch_of};
 use resolver::{Stop, share};
 use std::alloc::Global;
 use std::process::Abort;
 use std::test::Fail;
+use test_values::{Unmade, batch_of};
 
 // Sends so many batches of the proxy that have to be held, with a turn after each. Returns the stop that came, if any.
 fn send_held(

@@ -1,11 +1,11 @@
 //! The worked rows of the arena, and random calls beside a map.
 
 use arena::{Arena, ArenaError, MAX_LENGTH, Slot};
-use fixtures::prints;
 use std::alloc::{AllocError, Allocator, Global};
 use std::collections::BTreeMap;
 use std::process::Abort;
 use std::test::Fail;
+use test_values::prints;
 
 /// Makes a key of so many bytes, which tells it from others of its length.
 pub fn bytes_of(alloc: Global, number: u32, length: usize) -> Result<Vec<u8>, AllocError> {

@@ -1,12 +1,12 @@
 //! The worked rows of the gate and of the replies, and a growth of each that is refused.
 
 use chain::{ChainError, Gate, Replies};
-use fixtures::{Unmade, batch, batch_of, prints, reply};
 use keyspace::Batch;
 use std::alloc::Global;
 use std::fmt::Write;
 use std::process::Abort;
 use std::test::Fail;
+use test_values::{Unmade, batch, batch_of, prints, reply};
 
 // The proxy and the version of a batch that left, or -1.
 fn left(leaving: Option<(usize, Batch)>) -> (usize, i64) {

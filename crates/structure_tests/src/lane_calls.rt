@@ -2,10 +2,10 @@
 ghost use Rattle.std.specs.Prelude.{◌<◌, ◌≤◌};
 ghost use Rattle.lane.specs.Lane.{SameLane};
 
-use fixtures::prints;
 use lane::{Intake, LaneError, MAX_CAPACITY, Port, Refused, Taken, agree, lane};
 use std::alloc::Global;
 use std::test::Fail;
+use test_values::prints;
 
 // The two ends of a lane.
 #[derive(Drop)]

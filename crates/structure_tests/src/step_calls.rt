@@ -1,11 +1,11 @@
 //! The worked rows of the step map, and a growth that is refused.
 
 use crate::written::{Written, shows};
-use fixtures::{prints, range};
 use std::alloc::Global;
 use std::process::Abort;
 use std::test::Fail;
 use stepmap::{MAX_LIMIT, StepError, StepMap, SweepEnd};
+use test_values::{prints, range};
 
 // Writes the version between two keys.
 fn put(

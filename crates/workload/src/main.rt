@@ -1,12 +1,12 @@
 //! The program `workload` writes a file of batch frames to measure `replay` with: `workload SHAPE BATCHES TRANSACTIONS`.
 //!
-//! The library `generator` does all of it, over any words and streams. Here it is given those of the process.
+//! The library `workload_program` does all of it, over any words and streams. Here it is given those of the process.
 #![tactic(auto)]
 
-use generator::{Fault, fail, run_in};
 use std::io::BufWriter;
 use std::process::ExitCode;
 use wire::StdSink;
+use workload_program::{Fault, fail, run_in};
 
 fn main(rt: HostRuntime) -> ExitCode {
     let mut error = StdSink::new(rt.stderr());

@@ -1,0 +1,120 @@
+//! What goes wrong, and how it is told.
+
+ghost use Rattle.std.specs.Prelude.{◌≡◌, ◌≢◌};
+ghost use Rattle.batches_program.specs.declared.failure.Failure.TheVariants.{Memory, Write};
+
+use crate::status::Status;
+use json_lines::{Cause, Refusal};
+use std::alloc::{AllocError, AllocFailed, Global};
+use std::io;
+use thiserror::Error;
+use wire::{Failed, Sink, WireError, write_all};
+
+/// What goes wrong. Lines and frames are counted from 1, blank lines too.
+#[derive(Debug, Drop, Error)]
+pub enum Failure {
+    /// A line is refused.
+    #[error("line {0}: {1}")]
+    Line(u64, Refusal),
+    /// What a line says is too long for a frame.
+    #[error("line {0}: longer as a frame than 4,194,304 bytes")]
+    Long(u64),
+    /// A frame is refused.
+    #[error("frame {0}: {1}")]
+    Frame(u64, WireError),
+    /// The file can't be opened.
+    #[error("the file can't be opened")]
+    Open,
+    /// A word of the command line isn't text.
+    #[error("a word of the command line isn't UTF-8")]
+    NotText,
+    #[error("memory was refused")]
+    Memory,
+    #[error("the input can't be read")]
+    Read,
+    #[error("the output can't be written")]
+    Write,
+}
+
+impl Failure {
+    /// Creates the failure of a refused line.
+    pub fn of_line(number: u64, refusal: Refusal) -> Self
+        ensures never_write { result ≢ Failure.Write }
+    {
+        match refusal.cause {
+            Cause::Memory => Failure::Memory,
+            cause => Failure::Line(number, Refusal::new(refusal.place, cause)),
+        }
+    }
+
+    /// Creates the failure of a refused frame.
+    pub fn of_frame(number: u64, refusal: WireError) -> Self
+        ensures never_write { result ≢ Failure.Write }
+    {
+        match refusal {
+            WireError::Memory => Failure::Memory,
+            WireError::Read => Failure::Read,
+            refusal => Failure::Frame(number, refusal),
+        }
+    }
+
+    /// Creates the failure of what a line says, where it has no frame.
+    pub fn of_long(number: u64, refusal: WireError) -> Self
+        ensures never_write { result ≢ Failure.Write }
+    {
+        match refusal {
+            WireError::Long => Failure::Long(number),
+            _ => Failure::Memory,
+        }
+    }
+}
+
+impl From<AllocError> for Failure {
+    ghost from_gives = { λ _ failure. failure ≡ Memory };
+
+    fn from(_refused: AllocError) -> Failure {
+        Failure::Memory
+    }
+}
+
+impl<T: Drop> From<AllocFailed<T>> for Failure {
+    ghost from_gives = { λ _ failure. failure ≡ Memory };
+
+    fn from(_refused: AllocFailed<T>) -> Failure {
+        Failure::Memory
+    }
+}
+
+impl From<Failed> for Failure {
+    ghost from_gives = { λ _ failure. failure ≡ Write };
+
+    fn from(_failed: Failed) -> Failure {
+        Failure::Write
+    }
+}
+
+impl From<io::Error> for Failure {
+    ghost from_gives = { λ _ failure. failure ≢ Write };
+
+    fn from(error: io::Error) -> Failure {
+        match error.kind() {
+            io::ErrorKind::OutOfMemory => Failure::Memory,
+            _ => Failure::Read,
+        }
+    }
+}
+
+/// Tells the failure in a line, and returns how the program ends. Where the line can't be written, nothing is told.
+pub fn fail<E: Sink>(error: &mut E, alloc: Global, failure: &Failure) -> Status
+    ensures failed { result ≡ Status.Failed }
+{
+    match format!(in alloc; "{failure}\n") {
+        Ok(line) => {
+            let _ = write_all(error, line.as_bytes());
+        }
+        Err(_) => {
+            let _ = write_all(error, b"memory was refused\n");
+        }
+    }
+    Status::Failed
+}

@@ -1,0 +1,51 @@
+-- What two proxies received that each sent one batch, beside the reference resolver. This project's own.
+use Rattle.std.specs.Prelude.{◌≡◌, ℕ, ℤ, Bool, true, List, [], ◌∷◌, length, None, Some, slice_get}
+use Rattle.keyspace.specs.declared.answer.Answer.{Answer}
+use Rattle.keyspace.specs.declared.batch.Batch.{Batch}
+use Rattle.keyspace.specs.Chain.{IsChain}
+use Rattle.keyspace.specs.Run.{Step, run, answers, part}
+use Rattle.resolver.specs.declared.client.Client.{Client}
+use Rattle.proved_callers.specs.declared.serving.Served.{Served}
+use Rattle.resolver.specs.Core.{IsBeginning}
+use Rattle.resolver.specs.Resolver.{ResolverState, IsResolving, AreClients, TakesOnlyFrom, FinishesLast}
+
+-- a client that has sent these batches and taken these answers
+pub record HasDone (batches : List Batch) (answers : List Answer) (c : Client) : Type 0 where
+  pub sent : c.requests.sent ≡ batches
+  pub taken : c.replies.taken ≡ answers
+
+-- The resolver stands for some log, and the clients are those of its lanes. Each has sent and taken what stands at its number.
+pub record AreServing (window : ℤ) (r : ResolverState) (clients : List Client) (sent : List (List Batch))
+    (taken : List (List Answer)) : Type 0 where
+  pub resolving : IsResolving r
+  pub window_is : r.core.set.window ≡ window
+  pub same_lanes : AreClients r.lanes clients
+  pub sent_count : length sent ≡ length clients
+  pub taken_count : length taken ≡ length clients
+  pub each : (proxy : ℕ) (c : Client) (batches : List Batch) (answers : List Answer) → slice_get clients proxy ≡ Some c
+      → slice_get sent proxy ≡ Some batches → slice_get taken proxy ≡ Some answers → HasDone batches answers c
+
+-- Of one proxy that sent these batches and received these answers, by whether all is complete.
+pub record ServedFor (window : ℤ) (log : List Step) (complete : Bool) (proxy : ℕ) (sent : List Batch)
+    (received : List Answer) : Type 0 where
+  -- the log holds its batches once, as sent; all of them where all is complete
+  pub batches : IsBeginning (part log proxy) sent
+  pub all_batches : complete ≡ true → part log proxy ≡ sent
+  -- it has received, in order and once, the answers of the reference resolver; all of them where all is complete
+  pub in_order : IsBeginning received (answers window log proxy)
+  pub all_received : complete ≡ true → received ≡ answers window log proxy
+  -- where all is complete, it has received one answer a batch
+  pub each_answered : complete ≡ true → length received ≡ length sent
+
+-- Of both, for one log. Proxy 0 sent the first batch, proxy 1 the second.
+pub record AreServed (window : ℤ) (log : List Step) (first second : Batch) (served : Served) : Type 0 where
+  pub proxy_0 : ServedFor window log served.account.complete 0 (first ∷ []) served.first.items
+  pub proxy_1 : ServedFor window log served.account.complete 1 (second ∷ []) served.second.items
+  -- the log takes batches of these two alone
+  pub proxies : TakesOnlyFrom 2 log
+  -- what was processed follows the chain of versions, and each reply is that of a scan of all writes committed earlier
+  pub chain : IsChain window (run window log).processed
+  -- where all is complete, the log finishes, no batch is left held, and no stop was met
+  pub finish : served.account.complete ≡ true → FinishesLast log
+  pub none_held : served.account.complete ≡ true → (run window log).held ≡ []
+  pub no_stop : served.account.complete ≡ true → served.account.stop ≡ None

@@ -1,0 +1,79 @@
+//! Batches like those before, resolved by a conflict set. They take memory for their replies alone: the script compares how many
+//! allocations the two tests take, of which one resolves twenty batches more.
+ghost use Rattle.std.specs.Prelude.{◌≡◌};
+
+use conflict::ConflictSet;
+use keyspace::{Batch, WINDOW};
+use std::alloc::{AllocError, Global};
+use std::test::Fail;
+use test_values::{Unmade, batch};
+
+// A conflict set, with the greatest version that it has resolved.
+#[derive(Drop)]
+struct Chained {
+    set: ConflictSet,
+    resolved: i64,
+    ghost same: { set.resolved ≡ resolved },
+}
+
+impl Chained {
+    fn new(alloc: Global) -> Result<Self, Unmade> {
+        match ConflictSet::new(alloc, WINDOW, 1_000) {
+            Ok(set) => Ok(Chained { set, resolved: -1 }),
+            Err(_refused) => Err(Unmade::Memory),
+        }
+    }
+
+    // Resolves a batch, and returns how many transactions it has.
+    fn resolve(&mut self, batch: &Batch) -> Result<usize, Unmade> {
+        if batch.version <= self.resolved {
+            return Err(Unmade::Beyond("version"));
+        }
+        match self.set.resolve(batch) {
+            Ok(reply) => {
+                self.resolved = batch.version;
+                Ok(reply.entries.len())
+            }
+            Err(_stop) => Err(Unmade::Memory),
+        }
+    }
+}
+
+// Makes forty batches of one chain, all alike: the first transaction commits a range that the second reads, and the third asks for
+// its report.
+fn forty(alloc: Global) -> Result<Vec<Batch>, Unmade> {
+    let mut batches = Vec::new(alloc);
+    for version in 0..40_i64 {
+        let previous = version.saturating_sub(1);
+        let text = format!(in alloc;
+            "{previous}>{version}: R[b,c) R[m,p) W[b,d) @{version}; R[b,c) W[x,y) @{version}; m R[q,r) W[c,e) W[h,k) @{version}"
+        )?;
+        batches
+            .push(batch(alloc, text.as_str())?)
+            .map_err(AllocError::from)?;
+    }
+    Ok(batches)
+}
+
+// Resolves the first of forty batches, so many, and returns how many transactions they have.
+fn resolve(alloc: Global, count: usize) -> Result<usize, Unmade> {
+    let batches = forty(alloc)?;
+    let mut set = Chained::new(alloc)?;
+    let mut txns = 0_usize;
+    for batch in batches.iter().take(count) {
+        txns = txns.saturating_add(set.resolve(batch)?);
+    }
+    Ok(txns)
+}
+
+#[test]
+fn twenty_batches_alike(rt: HostRuntime) -> Result<(), Fail> {
+    assert_eq!(rt; resolve(rt.alloc(), 20)?, 60);
+    Ok(())
+}
+
+#[test]
+fn forty_batches_alike(rt: HostRuntime) -> Result<(), Fail> {
+    assert_eq!(rt; resolve(rt.alloc(), 40)?, 120);
+    Ok(())
+}

@@ -1,0 +1,50 @@
+//! The words of the program's environment.
+
+ghost use Rattle.std.specs.Prelude.{◌≡◌, ◌<◌, ◌⊎◌, ℕ, List, IfErr};
+ghost use Rattle.std.specs.Io.KnownBytes.{Appends};
+ghost use Rattle.workload_program.specs.Fault.{IsTold, expected_line, line_of};
+ghost use Rattle.workload_program.specs.declared.fault.Fault.{Fault as FaultValue};
+
+use crate::fault::{Fault, fail};
+use crate::program::run;
+use crate::words::refuse;
+use std::rt::Env;
+use std::{env, io};
+use wire::Sink;
+
+/// Runs the program on the words of its environment, as [`run`] does, and returns the exit code. Words that aren't text are refused, as
+/// others that aren't expected are.
+pub fn run_in<R: Env + AllocGlobal, O: Sink, E: Sink>(rt: &R, out: &mut O, error: &mut E) -> u8
+    ensures code { (result ≡ 0) ⊎ ((result ≡ 1) ⊎ (result ≡ 2)) }
+    ensures text { result ≡ 0 → (text : List ℕ) × Appends (O.given out.old) (O.given out.new) text }
+    ensures quiet { result ≡ 0 → E.given error.new ≡ E.given error.old }
+    ensures nothing { result ≡ 2 → O.given out.new ≡ O.given out.old }
+    ensures expected { result ≡ 2
+        → IsTold expected_line (E.given error.old) (E.given error.new) (E.failures error.old) (E.failures error.new) }
+    ensures failed { O.failures out.old < O.failures out.new → (result ≡ 1)
+        × IsTold (line_of Fault.Write) (E.given error.old) (E.given error.new) (E.failures error.old) (E.failures error.new) }
+    ensures memory { result ≡ 1 → (O.failures out.old < O.failures out.new)
+        ⊎ IsTold (line_of Fault.Memory) (E.given error.old) (E.given error.new) (E.failures error.old) (E.failures error.new) }
+    ensures told { result ≡ 1 → (fault : FaultValue)
+        × IsTold (line_of fault) (E.given error.old) (E.given error.new) (E.failures error.old) (E.failures error.new) }
+{
+    match command_line(rt) {
+        Ok(Some(words)) => run(rt.alloc(), &words, out, error),
+        Ok(None) => refuse(error),
+        Err(fault) => fail(error, fault),
+    }
+}
+
+// Returns the words of the command line, or none where one of them isn't text.
+fn command_line(rt: &(impl Env + AllocGlobal)) -> Result<Option<Vec<String>>, Fault>
+    ensures memory { IfErr result (λ fault. fault ≡ Fault.Memory) }
+{
+    let words = env::args(rt).and_then(|words| Ok(words.collect(rt.alloc())?));
+    match words {
+        Ok(words) => Ok(Some(words)),
+        Err(cause) => match cause.kind() {
+            io::ErrorKind::OutOfMemory => Err(Fault::Memory),
+            _ => Ok(None),
+        },
+    }
+}
