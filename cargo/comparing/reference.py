@@ -1,4 +1,4 @@
-"""What the rules of docs/RULES.md say of a log of batches, by plain lists, and the lines that docs/REPLAY.md makes of it.
+"""What the rules of docs/FOUNDATIONDB.md say of a log of batches, by plain lists, and the lines that docs/REPLAY.md makes of it.
 
 It keeps all writes, and has no limit on boundaries. Of a gate that fills it says nothing.
 """

@@ -72,7 +72,7 @@ struct Judged {
     writes: Vec<Keys>,
 }
 
-/// All writes, in order, as `docs/RULES.md` judges by them.
+/// All writes, in order, as `docs/FOUNDATIONDB.md` judges by them.
 struct Scan {
     window: i64,
     writes: Vec<(Keys, i64)>,

@@ -1,4 +1,4 @@
-//! The chain rules of `docs/RULES.md`, over a scan.
+//! The chain rules of `docs/FOUNDATIONDB.md`, over a scan.
 
 use crate::plain::{PlainAnswer, PlainBatch, PlainReply};
 use crate::scan::Scan;

@@ -1,4 +1,4 @@
-//! The step function of `docs/RULES.md` over a `BTreeMap`.
+//! The step function of `docs/FOUNDATIONDB.md` over a `BTreeMap`.
 
 use crate::plain::PlainRange;
 use std::collections::BTreeMap;
