@@ -1,6 +1,7 @@
 .PHONY: quick demo rust rust-packages rust-crate-test rust-doc rust-package library-unproved quick-test rust-test \
 	rust-test-long replay batches check test more-edits \
-	refused-memory json-examples stalled-pipes readme-runs manual-page library install library-test plant bench profile
+	refused-memory json-examples stalled-pipes readme-runs manual-page library install uninstall library-test \
+	languages-test plant bench profile
 
 # The Cargo edition: the same sources, clauses erased, built by rustc. It needs Rust 1.85, cc, make and python3, and no network.
 
@@ -37,7 +38,8 @@ rust-doc: rust
 rust-package: rust
 	cargo/package
 
-# Builds the library for C by cargo: out/quick/libarchcaraway.a and out/quick/libarchcaraway.so. Not proved.
+# Builds the library for C by cargo: out/quick/libarchcaraway.a and out/quick/libarchcaraway.so. Not proved. PROCESSOR=x86-64 builds for
+# every x86-64 processor, into out/quick/x86-64.
 library-unproved:
 	cargo/library
 
@@ -64,26 +66,26 @@ replay:
 	cd crates/replay && rt run -- ../../examples/first_run
 	@echo 'The proved program: crates/replay/out/replay'
 
-PREFIX ?= /usr/local
-# Where the libraries for C lie that are installed: out, or out/quick for those of the Cargo edition.
-BUILT ?= out
-
 # Proves and builds the library for C: out/libarchcaraway.a, out/libarchcaraway.so, out/archcaraway.pc.
 library:
 	.ci/library
 
-# Installs the library for C and its headers, as `make library` has built it, below PREFIX.
+# Installs the library for C that is in BUILT (out, or out/quick for that of the Cargo edition), its headers, and its packages for
+# pkg-config and CMake. DESTDIR, PREFIX (/usr/local), LIBDIR (PREFIX/lib) and INCLUDEDIR (PREFIX/include) say where.
 install:
-	install -d '$(PREFIX)/include' '$(PREFIX)/lib/pkgconfig'
-	install -m 644 include/archcaraway.h include/archcaraway_frames.h include/archcaraway.hpp '$(PREFIX)/include'
-	install -m 644 $(BUILT)/libarchcaraway.a '$(PREFIX)/lib'
-	install -m 755 $(BUILT)/libarchcaraway.so '$(PREFIX)/lib/libarchcaraway.so.1'
-	ln -sf libarchcaraway.so.1 '$(PREFIX)/lib/libarchcaraway.so'
-	sed 's|^prefix=.*|prefix=$(abspath $(PREFIX))|' $(BUILT)/archcaraway.pc > '$(PREFIX)/lib/pkgconfig/archcaraway.pc'
+	library/install
 
-# Behind `make test`, tests the library for C: examples, chains beside the program, sanitizers, valgrind, refused memory.
+# Removes what `make install` with the same variables has installed.
+uninstall:
+	library/install --remove
+
+# After `make test`, tests the library for C: examples, chains beside the program, sanitizers, valgrind, refused memory, languages.
 library-test: library
 	.ci/library-test
+
+# Tests the library of BUILT in each language: C, C++, Python, Go, Rust; their examples, and the snippets of docs/EMBEDDING.md.
+languages-test:
+	.ci/languages-test
 
 # Proves and builds the program that turns lines of JSON into batches, and shows that the examples and their JSON are the other.
 batches:

@@ -9,7 +9,6 @@ import csv
 import dataclasses
 import io
 import os
-import re
 from typing import Iterable, Mapping, Sequence
 
 KINDS = ("proof", "tests", "edits")
@@ -125,11 +124,6 @@ def format_rows(rows: Iterable[Row], with_header: bool) -> str:
 def landed(rows: Iterable[Row]) -> dict[str, Cost]:
     """Returns the cost of each crate by its last row."""
     return {r.crate: Cost(r.proof_seconds, r.tests_seconds, r.edits_seconds) for r in rows}
-
-
-def crate_names(text: str) -> set[str]:
-    """Returns the names of the crates that crates.txt lists."""
-    return set(re.findall(r"^(\w+)[^:#\n]*:", text, re.M))
 
 
 # The comparison and the report.

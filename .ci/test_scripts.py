@@ -8,7 +8,9 @@ import sys
 import types
 import unittest
 
+import crate_list
 import gate_costs
+from crate_list import Crate
 from gate_costs import Change, Cost, Job, Row
 
 HERE = pathlib.Path(__file__).resolve().parent
@@ -25,8 +27,44 @@ def load(name: str) -> types.ModuleType:
     return module
 
 
+contract_lines = load("contract-lines")
 gate_times = load("gate-times")
+item_times = load("item-times")
 more_edits = load("more-edits")
+
+
+class ContractLines(unittest.TestCase):
+    """Which lines of a source are contract, and which are body."""
+
+    SOURCE = """\
+impl Ring {
+    /// Returns the item.
+    pub fn take(&mut self, at: usize) -> Option<u8>
+        requires inside { at < self.old.len }
+        ensures taken { IfSome result
+            (λ item. item ≡ self.old.first) }
+    {
+        // Why.
+        let item = self.items[at];
+
+        Some(item)
+    }
+
+    fn len(&self) -> usize {
+        self.items.len()
+    }
+
+    fn law()
+        ensures law { Law }
+    {}
+}
+""".splitlines()
+
+    def test_clauses(self) -> None:
+        self.assertEqual(len(list(contract_lines.clauses(self.SOURCE))), 4)
+
+    def test_bodies(self) -> None:
+        self.assertEqual(contract_lines.body_lines(self.SOURCE), 3)
 
 
 class Classify(unittest.TestCase):
@@ -122,10 +160,6 @@ class Table(unittest.TestCase):
     def test_last_row_of_crate_counts(self) -> None:
         rows = [row("tree", 9), row("lane", 5, 1), row("tree", 3, 2, 1, "2026-02-01")]
         self.assertEqual(gate_costs.landed(rows), {"tree": Cost(3, 2, 1), "lane": Cost(5, 1, 0)})
-
-    def test_crate_names(self) -> None:
-        text = "# Crates: all\nflow:\nreplay may_wait=2: player # not: this\n\nc staticlib: flow\n"
-        self.assertEqual(gate_costs.crate_names(text), {"flow", "replay", "c"})
 
 
 class Comparison(unittest.TestCase):
@@ -238,13 +272,59 @@ class MoreEdits(unittest.TestCase):
         self.assertEqual([result.edit for result in found], edits)
         self.assertEqual([result.verdict for result in found], ["NOT TRIED", "refused"])
 
+
+class CrateList(unittest.TestCase):
+    """What is read of crates.txt."""
+
+    text = "# all: these\nkeys: thiserror\nflow:\nwire: keys hex\nreplay may=1: wire # x: y\n"
+
+    def test_crates(self) -> None:
+        listed = crate_list.parse_crates(self.text + "c_library staticlib: flow\n")
+        self.assertEqual(list(listed), ["keys", "flow", "wire", "replay", "c_library"])
+        self.assertEqual(listed["replay"], Crate("replay", False, ("wire",)))
+        self.assertEqual(listed["flow"].uses, ())
+        self.assertTrue(listed["c_library"].is_static)
+
     def test_crates_below(self) -> None:
-        text = "# all: these\nkeys: thiserror\nflow:\nwire: keys hex\nplayer may=1: wire # x\n"
-        uses = more_edits.parse_crates(text)
-        self.assertEqual(uses["player"], ["wire"])
-        self.assertEqual(uses["flow"], [])
-        found = more_edits.with_those_below(["player"], uses)
-        self.assertEqual(found, {"player", "wire", "keys"})
+        listed = crate_list.parse_crates(self.text)
+        found = crate_list.with_those_below(["replay"], listed)
+        self.assertEqual(found, {"replay", "wire", "keys"})
+
+
+class ItemTimes(unittest.TestCase):
+    """How the prover is called for one crate, and what its times come to."""
+
+    listed = crate_list.parse_crates("low: hex\nhigh: low hex\nc_library staticlib: low\n")
+
+    def words(self, crate: str, tests: bool = False) -> str:
+        kit = pathlib.Path("kit")
+        found = item_times.arguments(self.listed[crate], self.listed, kit, "src/lib.rt", tests)
+        return " ".join(found)
+
+    def test_arguments(self) -> None:
+        self.assertEqual(
+            self.words("high"),
+            "check --progress --crate-name high src/lib.rt --extern std=kit/rlibs/std.rlib"
+            " --extern low=../low/out/rlib/low.rlib --extern hex=kit/rlibs/hex.rlib"
+            " -L dependency=kit/rlibs -L dependency=../low/out/rlib"
+            " --antt-project kit/rattle/logic/antt-project.json --logic-built kit/logic_built",
+        )
+        self.assertTrue(self.words("high", tests=True).endswith(" --test"))
+        self.assertTrue(self.words("c_library").endswith(" --crate-type staticlib"))
+
+    def test_times_are_differences(self) -> None:
+        found = list(item_times.items_of([("a::first", 9.0), ("a::b", 9.5), ("a::c", 12.5)]))
+        self.assertEqual([item.seconds for item in found], [9.0, 0.5, 3.0])
+        self.assertEqual(
+            item_times.report(found, 2),
+            ["    9.0 a::first (first)", "    3.0 a::c", "   12.5 processor seconds for 3 functions"],
+        )
+        self.assertEqual(item_times.report([], 2), ["    0.0 processor seconds for 0 functions"])
+
+    def test_line_of_a_function(self) -> None:
+        match = item_times.CHECKED.fullmatch("checked tree::walk::change_leaf, 7 of 80")
+        self.assertEqual(match[1] if match else None, "tree::walk::change_leaf")
+        self.assertIsNone(item_times.CHECKED.fullmatch("fn tree::walk::change_leaf: proved"))
 
 
 if __name__ == "__main__":

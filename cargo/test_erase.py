@@ -5,8 +5,7 @@ import unittest
 from pathlib import Path
 
 import erase
-from eraser import rules
-from eraser.check import check
+from eraser.check import SHAPES, check
 from eraser.source import Source
 from eraser.tokens import Refused, tokens_of
 
@@ -114,7 +113,54 @@ pub struct Held<T: Send> {
         self.assertEqual(erased("fn main(rt: HostRuntime) -> u8 {\n    0\n}\n"), "fn main() -> u8 {\n    let rt = HostRuntime::new();\n    0\n}\n")
 
     def test_tests_of_the_gate_are_left_out(self) -> None:
-        self.assertEqual(erased("fn f() {}\n\n#[cfg(test)]\nmod tests {\n    use super::*;\n}\n"), "fn f() {}\n")
+        module = "#[cfg(test)]\nmod tests {\n    use super::*;\n\n    fn g() {}\n}\n"
+        self.assertEqual(erased(f"fn f() {{}}\n\n{module}"), "fn f() {}\n")
+        self.assertEqual(erased(f"{module}\nfn f() {{}}\n"), "fn f() {}\n")
+
+    def test_file_is_opened_without_the_handle(self) -> None:
+        text = "fn f() {\n    File::open(rt, name);\n    File::open(self.rt, name);\n}\n"
+        expected = "fn f() {\n    File::open(name);\n    File::open(name);\n}\n"
+        self.assertEqual(erased(text), expected)
+
+    def test_unsafe_call_is_the_callers(self) -> None:
+        text = "fn f() {\n    unsafe { Box::from_raw(alloc, at) }\n}\n"
+        expected = "fn f() {\n    unsafe { rattle_std::boxed::from_raw!(alloc, at) }\n}\n"
+        self.assertEqual(erased(text), expected)
+
+    def test_signatures_are_those_of_rust(self) -> None:
+        text = """impl fmt::Display for A {
+    fn fmt<W: fmt::Write>(&self, f: &mut fmt::Formatter<W>) -> fmt::Result {
+        Ok(())
+    }
+}
+
+impl Termination for A {
+    fn report<R: Eprint>(self, _rt: &R) -> ExitCode {
+        self.code()
+    }
+}
+"""
+        expected = text.replace("<W: fmt::Write>", "").replace("<W>", "<'_>")
+        expected = expected.replace("<R: Eprint>(self, _rt: &R)", "(self)")
+        self.assertEqual(erased(text), expected)
+
+    def test_bounds_and_derives_of_drop_in_each_place(self) -> None:
+        for given, expected in [
+            ("T: Drop", "T"),
+            ("T: Drop + Copy", "T: Copy"),
+            ("T: Copy + Drop", "T: Copy"),
+            ("T: Copy + Drop + Send", "T: Copy + Send"),
+            ("T: Drop, U: Drop", "T, U"),
+        ]:
+            self.assertEqual(erased(f"fn f<{given}>() {{}}\n"), f"fn f<{expected}>() {{}}\n")
+        for given, expected in [
+            ("Drop, Debug", "Debug"),
+            ("Debug, Drop", "Debug"),
+            ("Clone, Drop, Debug", "Clone, Debug"),
+        ]:
+            item = "\nstruct A;\n"
+            self.assertEqual(erased(f"#[derive({given})]{item}"), f"#[derive({expected})]{item}")
+        self.assertEqual(erased("#[derive(Drop)]\nstruct A;\n"), "struct A;\n")
 
 
 class Refusals(unittest.TestCase):
@@ -135,7 +181,10 @@ class Refusals(unittest.TestCase):
             ("macro_rules! m {\n    () => {};\n}\n", 1, "macro_rules"),
             ("#[cfg(unix)]\nfn f() {}\n", 1, "cfg"),
             ("fn f() { 'ß }\n", 1, "no token"),
-            ("fn f() {}\n/* block */\n", 2, "block comment"),
+            ("fn f() {}\n/* block */\n", 2, "no token"),
+            ("#[cfg(test)]\nmod tests;\n", 1, "cfg"),
+            ("impl Model for A {\n    fn f() {}\n}\n", 1, "Model"),
+            ("#[derive(Error, Debug)]\npub enum F {}\n", 1, "Error"),
             ("use thiserror::Error;\n#[derive(Debug, Error)]\npub enum F {\n    A,\n}\n", 4, "without an error"),
         ]
         for text, line, reason in cases:
@@ -162,12 +211,13 @@ class Checks(unittest.TestCase):
     def source(self, text: str) -> Source:
         self.file = Path(self.enterContext(tempfile.TemporaryDirectory())) / "given.rt"
         self.file.write_text(text)
-        return Source.read(self.file, frozenset())
+        return Source.read(self.file)
 
     def test_code_that_a_rule_would_drop_is_missed(self) -> None:
-        for reason in ("clause", "ghost", "tactic", "derive", "model", "bound", "test", "signature", "error"):
+        for reason in SHAPES:
             source = self.source("fn f() { g(1); }\n")
-            source.remove(source.tokens.index(next(token for token in source.tokens if token.text == "g")), 8, reason)
+            first = [token.text for token in source.tokens].index("g")
+            source.remove(first, first + 1, reason)
             with self.subTest(reason=reason), self.assertRaisesRegex(Refused, "code was removed"):
                 check(source, source.result())
 
@@ -178,10 +228,10 @@ class Checks(unittest.TestCase):
             check(source, source.result())
 
     def test_lines_that_the_layout_would_drop_are_missed(self) -> None:
-        source = self.source("fn f() {}\nfn g() {}\n")
-        rules.remove_ghosts(source)
-        with self.assertRaisesRegex(Refused, "not what was kept"):
-            check(source, "fn f() {}\n")
+        source = self.source('fn f() {}\nfn g() { "a  b" }\n')
+        for output in ("fn f() {}\n", 'fn f() {}\nfn g() { "a b" }\n'):
+            with self.assertRaisesRegex(Refused, "not what was kept"):
+                check(source, output)
 
 
 if __name__ == "__main__":

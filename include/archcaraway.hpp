@@ -1,25 +1,45 @@
-// archcaraway.hpp: the library for C++17 and later. Header only, over archcaraway.h and archcaraway_frames.h.
+// SPDX-License-Identifier: Apache-2.0. Copyright 2026 Archcaraway maintainers.
 //
-// Set and Core own a handle each and free it; they can be moved and not copied. Refusals that are the caller's fault, or a stop, are
-// thrown as archcaraway::Error. What the headers below ask of the caller, also of threads, holds here too.
+// archcaraway.hpp: the library for C++17 and later. Header only, over archcaraway.h and
+// archcaraway_frames.h.
 //
-// ConflictSet and ConflictBatch have the shape of those of FoundationDB 7.1's ConflictSet.h, and are own code. What differs:
-//  - The window and the edge go by versions: a batch is judged at `now`, and what was written at `now - window` or before is
-//    forgotten. The argument `newOldestVersion` of detectConflicts isn't there: the window is that of the set.
-//    Clearing a set isn't there either: make a new one.
-//  - `now` is above that of every batch before. A transaction with reads whose snapshot is below `now - window` is too old.
-//  - There is one report for a transaction that asks for it, the indices of its read ranges in conflict: all that meet the history, or else the
-//    first that meets a transaction before it in the batch.
-//  - A batch has at most 4,096 transactions, a transaction at most 1,024 read ranges and 1,024 write ranges, and a key at most
-//    10,000 bytes, or 10,001 where it ends a range. The frame of a batch has at most 4 MiB.
-//  - Write ranges that meet or touch are kept as one. Empty ranges meet nothing.
+// Set and Core each own a handle and free it. They can be moved and not copied. A moved-from object
+// has no handle: calls on it are refused as ARCHCARAWAY_ARGUMENT. A call that is refused, and a
+// stop, throw archcaraway::Error. Without exceptions (-fno-exceptions) such a call prints the text
+// of its status and aborts; a program that expects refusals calls the C functions on `handle()`.
+// What archcaraway.h asks of the caller, also of threads, holds here too.
+//
+// Bytes are given as a View: a std::string, a std::string_view, a std::vector<std::uint8_t> or a
+// literal. A literal has all of its bytes, zeros too: "k\0" has two. A `const char*` and a `char[]`
+// that isn't const are C strings and end before the first zero.
+//
+// ConflictSet and ConflictBatch have the shape of those of FoundationDB 7.1's ConflictSet.h. Their
+// code is our own. What differs:
+//  - The window and the edge go by versions: a batch is judged at `now`, and what was written at
+//    `now - window` or before is forgotten. detectConflicts has no argument `newOldestVersion`: the
+//    window is that of the set. No call clears a set: make a new one.
+//  - `now` is above that of every batch before. A transaction with reads whose snapshot is below
+//    `now - window` is too old.
+//  - A transaction that asks for a report gets one: the indices of its conflicting read ranges.
+//    They are all that conflict with earlier batches, or else the first that conflicts with an
+//    earlier transaction of its batch.
+//  - A batch has at most 4,096 transactions, a transaction at most 1,024 read ranges and 1,024
+//    write ranges, and a key at most 10,000 bytes, or 10,001 if it ends a range. The frame of a
+//    batch has at most 4 MiB.
+//  - Write ranges that overlap or touch are kept as one. Empty ranges never conflict.
 #ifndef ARCHCARAWAY_HPP
 #define ARCHCARAWAY_HPP
 
+#include <cstddef>
 #include <cstdint>
-#include <map>
+#include <cstdio>
+#include <cstdlib>
 #include <exception>
+#include <iterator>
+#include <map>
+#include <string>
 #include <string_view>
+#include <type_traits>
 #include <utility>
 #include <vector>
 
@@ -34,15 +54,26 @@ public:
     explicit Error(int status) noexcept : status_(status) {}
     int status() const noexcept { return status_; }
     // Whether the object has stopped for good.
-    bool isStop() const noexcept { return status_ >= ARCHCARAWAY_MEMORY && status_ <= ARCHCARAWAY_ARENA_FULL; }
-    const char* what() const noexcept override { return archcaraway_text(status_); }
+    bool isStop() const noexcept {
+        return status_ >= ARCHCARAWAY_MEMORY && status_ <= ARCHCARAWAY_ARENA_FULL;
+    }
+    const char* what() const noexcept override { return archcaraway_status_text(status_); }
 
 private:
     int status_;
 };
 
+[[noreturn]] inline void fail(int status) {
+#if defined(__cpp_exceptions)
+    throw Error(status);
+#else
+    std::fprintf(stderr, "archcaraway: %s\n", archcaraway_status_text(status));
+    std::abort();
+#endif
+}
+
 inline void check(int status) {
-    if (status != ARCHCARAWAY_OK) throw Error(status);
+    if (status != ARCHCARAWAY_OK) fail(status);
 }
 
 // Bytes that someone else keeps.
@@ -51,49 +82,89 @@ struct View {
     std::size_t size = 0;
 
     View() = default;
-    View(const std::uint8_t* data, std::size_t size) : data(data), size(size) {}
-    View(std::string_view text) : data(reinterpret_cast<const std::uint8_t*>(text.data())), size(text.size()) {}
-    View(const char* text) : View(std::string_view(text)) {}
+    View(const std::uint8_t* bytes, std::size_t length) : data(bytes), size(length) {}
+    View(std::string_view bytes)
+      : data(reinterpret_cast<const std::uint8_t*>(bytes.data())), size(bytes.size()) {}
+    View(const std::string& bytes) : View(std::string_view(bytes)) {}
     View(const std::vector<std::uint8_t>& bytes) : data(bytes.data()), size(bytes.size()) {}
+    // A literal: its bytes without the last zero.
+    template <std::size_t length>
+    View(const char (&literal)[length]) : View(std::string_view(literal, length - 1)) {}
+    // C strings: the bytes before the first zero.
+    template <std::size_t length>
+    View(char (&string)[length]) : View(static_cast<const char*>(string)) {}
+    template <typename Pointer,
+              typename = std::enable_if_t<std::is_same_v<Pointer, const char*> ||
+                                          std::is_same_v<Pointer, char*>>>
+    View(Pointer string) : View(std::string_view(string)) {}
+
+    std::string_view text() const {
+        return std::string_view(reinterpret_cast<const char*>(data), size);
+    }
 };
 
-enum class Verdict { conflict = ARCHCARAWAY_CONFLICT, tooOld = ARCHCARAWAY_TOO_OLD, committed = ARCHCARAWAY_COMMITTED };
+enum class Verdict {
+    conflict = ARCHCARAWAY_CONFLICT,
+    tooOld = ARCHCARAWAY_TOO_OLD,
+    committed = ARCHCARAWAY_COMMITTED
+};
 
-// The verdict on a transaction, and the places of its report. It looks into the bytes of its reply.
+// The verdict on a transaction, and the indices of its report. It looks into the bytes of its
+// reply.
 class Entry {
 public:
     explicit Entry(const archcaraway_entry& entry) : entry_(entry) {}
     Verdict verdict() const { return static_cast<Verdict>(entry_.verdict); }
     std::size_t places() const { return entry_.count; }
-    unsigned place(std::size_t index) const { return archcaraway_entry_place(&entry_, static_cast<unsigned>(index)); }
+    // The index of a conflicting read range in its transaction; `index` is below `places()`.
+    unsigned place(std::size_t index) const {
+        return archcaraway_entry_place(&entry_, static_cast<unsigned>(index));
+    }
 
 private:
     archcaraway_entry entry_;
 };
 
-// Looks at a reply, without copying it: `for (Entry entry : reply)`. Throws what archcaraway_reply_read refuses.
+// Looks at a reply, without copying it: `for (Entry entry : reply)`. Fails if
+// archcaraway_reply_read refuses the bytes.
 class Reply {
 public:
     explicit Reply(View bytes) { check(archcaraway_reply_read(&reply_, bytes.data, bytes.size)); }
     std::int64_t version() const { return reply_.version; }
     std::size_t size() const { return reply_.count; }
+    bool empty() const { return reply_.count == 0; }
 
     class Iterator {
     public:
-        explicit Iterator(const archcaraway_reply& reply) : reply_(reply) { ++*this; }
+        using iterator_category = std::input_iterator_tag;
+        using value_type = Entry;
+        using difference_type = std::ptrdiff_t;
+        using pointer = const Entry*;
+        using reference = Entry;
+
         Iterator() = default;
+        explicit Iterator(const archcaraway_reply& reply) : reply_(reply) { ++*this; }
         Entry operator*() const { return Entry(entry_); }
         Iterator& operator++() {
-            more_ = archcaraway_reply_next(&reply_, &entry_);
+            left_ = archcaraway_reply_next(&reply_, &entry_) ? reply_.left + 1 : 0;
             return *this;
         }
-        bool operator!=(const Iterator& other) const { return more_ != other.more_; }
+        Iterator operator++(int) {
+            Iterator before = *this;
+            ++*this;
+            return before;
+        }
+        // Of iterators over one reply.
+        bool operator==(const Iterator& other) const { return left_ == other.left_; }
+        bool operator!=(const Iterator& other) const { return !(*this == other); }
 
     private:
         archcaraway_reply reply_{};
         archcaraway_entry entry_{};
-        bool more_ = false;
+        unsigned left_ = 0; // entries from this one on
     };
+    using iterator = Iterator;
+    using const_iterator = Iterator;
 
     Iterator begin() const { return Iterator(reply_); }
     Iterator end() const { return Iterator(); }
@@ -102,7 +173,15 @@ private:
     archcaraway_reply reply_{};
 };
 
-// Writes the frame of a batch. Throws where a call is refused; the next `begin` starts anew.
+// Divides a stream of frames: the length of the frame at its front. Fails if
+// archcaraway_frame_length refuses the bytes.
+inline std::size_t frameLength(View bytes) {
+    std::size_t length = 0;
+    check(archcaraway_frame_length(bytes.data, bytes.size, &length));
+    return length;
+}
+
+// Writes the frame of a batch. Fails if a call is refused; the next `begin` starts anew.
 class BatchWriter {
 public:
     BatchWriter() : writer_(archcaraway_writer_new(archcaraway_grow_malloc, nullptr)) {}
@@ -123,13 +202,17 @@ public:
     void transaction(std::int64_t snapshot, bool report = false) {
         check(archcaraway_batch_transaction(&writer_, snapshot, report));
     }
-    void read(View begin, View end) {
-        check(archcaraway_batch_read(&writer_, begin.data, begin.size, end.data, end.size));
+    // The range [first, last), which is empty if they are equal.
+    void read(View first, View last) {
+        check(archcaraway_batch_read(&writer_, first.data, first.size, last.data, last.size));
     }
-    void write(View begin, View end) {
-        check(archcaraway_batch_write(&writer_, begin.data, begin.size, end.data, end.size));
+    void write(View first, View last) {
+        check(archcaraway_batch_write(&writer_, first.data, first.size, last.data, last.size));
     }
-    // Gives the batch these versions, in place of those it was begun with.
+    // A single key.
+    void read(View key) { check(archcaraway_batch_read_key(&writer_, key.data, key.size)); }
+    void write(View key) { check(archcaraway_batch_write_key(&writer_, key.data, key.size)); }
+    // Gives the batch these versions instead of those it was begun with.
     void versions(std::int64_t previous, std::int64_t version, std::int64_t received) {
         check(archcaraway_batch_versions(&writer_, previous, version, received));
     }
@@ -146,7 +229,8 @@ private:
 // A conflict set over frames.
 class Set {
 public:
-    explicit Set(std::int64_t window = ARCHCARAWAY_WINDOW, std::uint64_t limit = ARCHCARAWAY_LIMIT) {
+    explicit Set(std::int64_t window = ARCHCARAWAY_WINDOW,
+                 std::uint64_t limit = ARCHCARAWAY_LIMIT) {
         check(archcaraway_set_new(window, limit, &set_));
     }
     ~Set() { archcaraway_set_free(&set_); }
@@ -158,18 +242,22 @@ public:
         return *this;
     }
 
-    // Resolves the batch of a frame. The reply is written to `reply`, which is made as long as it needs to be.
+    // Resolves the batch of a frame. Writes the reply to `reply`, which grows as needed.
     Reply resolve(View frame, std::vector<std::uint8_t>& reply) {
         std::size_t length = 0;
-        int status = archcaraway_set_resolve(&set_, frame.data, frame.size, reply.data(), reply.size(), &length);
+        int status = archcaraway_set_resolve(&set_, frame.data, frame.size, reply.data(),
+                                             reply.size(), &length);
         if (status == ARCHCARAWAY_BUFFER) {
             reply.resize(length);
-            status = archcaraway_set_resolve(&set_, frame.data, frame.size, reply.data(), reply.size(), &length);
+            status = archcaraway_set_resolve(&set_, frame.data, frame.size, reply.data(),
+                                             reply.size(), &length);
         }
         check(status);
         return Reply(View(reply.data(), length));
     }
     std::uint64_t boundaries() const { return archcaraway_set_boundaries(&set_); }
+    // The handle, for the C functions. It stays this object's.
+    archcaraway_set* handle() { return &set_; }
 
 private:
     archcaraway_set set_ = ARCHCARAWAY_NONE;
@@ -179,7 +267,7 @@ private:
 struct Answer {
     int kind = ARCHCARAWAY_NOTHING; // one of archcaraway_kind
     std::int64_t version = -1;
-    View reply; // the frame, where the kind is ARCHCARAWAY_REPLY
+    View reply; // the frame, if the kind is ARCHCARAWAY_REPLY
 };
 
 // A resolver over values.
@@ -202,16 +290,17 @@ public:
         check(archcaraway_core_admit(&core_, proxy, frame.data, frame.size));
     }
     void finish() { check(archcaraway_core_finish(&core_)); }
-    // The oldest answer owed to the proxy. The frame of a reply is written to `bytes`, which is made as long as it needs to be.
+    // The oldest answer owed to the proxy. Writes the frame of a reply to `bytes`, which grows as
+    // needed.
     Answer give(std::uint32_t proxy, std::vector<std::uint8_t>& bytes) {
         Answer answer;
         std::size_t length = 0;
-        int status = archcaraway_core_give(&core_, proxy, bytes.data(), bytes.size(), &length, &answer.kind,
-                                           &answer.version);
+        int status = archcaraway_core_give(&core_, proxy, bytes.data(), bytes.size(), &length,
+                                           &answer.kind, &answer.version);
         if (status == ARCHCARAWAY_BUFFER) {
             bytes.resize(length);
-            status = archcaraway_core_give(&core_, proxy, bytes.data(), bytes.size(), &length, &answer.kind,
-                                           &answer.version);
+            status = archcaraway_core_give(&core_, proxy, bytes.data(), bytes.size(), &length,
+                                           &answer.kind, &answer.version);
         }
         check(status);
         answer.reply = View(bytes.data(), length);
@@ -220,6 +309,8 @@ public:
     std::uint64_t owed() const { return archcaraway_core_owed(&core_); }
     // The stop that was met, 1 to 3, or 0.
     int stop() const { return archcaraway_core_stop(&core_); }
+    // The handle, for the C functions. It stays this object's.
+    archcaraway_core* handle() { return &core_; }
 
 private:
     archcaraway_core core_ = ARCHCARAWAY_NONE;
@@ -228,12 +319,21 @@ private:
 using Version = std::int64_t;
 using KeyRef = std::string_view;
 
+// The range [begin, end), or a single key. It looks at keys that the caller keeps.
 struct KeyRangeRef {
     KeyRef begin, end;
-    KeyRangeRef(KeyRef begin, KeyRef end) : begin(begin), end(end) {}
+    KeyRangeRef(View first, View last) : begin(first.text()), end(last.text()) {}
+    // The range that holds `key` and no other key. `end` is `key` too.
+    static KeyRangeRef single(View key) { return KeyRangeRef(key); }
+    bool isSingle() const { return single_; }
+
+private:
+    explicit KeyRangeRef(View key) : begin(key.text()), end(key.text()), single_(true) {}
+    bool single_ = false;
 };
 
-// A transaction to be judged. It looks at keys that the caller keeps until the transaction was added to a batch.
+// A transaction to be judged. It looks at keys that the caller keeps until the transaction was
+// added to a batch.
 struct CommitTransactionRef {
     std::vector<KeyRangeRef> read_conflict_ranges;
     std::vector<KeyRangeRef> write_conflict_ranges;
@@ -244,7 +344,8 @@ struct CommitTransactionRef {
 // The committed writes of the batches so far, as far back as the window.
 class ConflictSet {
 public:
-    explicit ConflictSet(Version window = ARCHCARAWAY_WINDOW, std::uint64_t limit = ARCHCARAWAY_LIMIT)
+    explicit ConflictSet(Version window = ARCHCARAWAY_WINDOW,
+                         std::uint64_t limit = ARCHCARAWAY_LIMIT)
       : set_(window, limit) {}
 
 private:
@@ -254,7 +355,7 @@ private:
     std::vector<std::uint8_t> reply_;
 };
 
-// A batch of transactions against a set. One batch of a set is written at a time.
+// A batch of transactions for a set. A set has one batch at a time.
 class ConflictBatch {
 public:
     enum TransactionCommitResult {
@@ -263,8 +364,10 @@ public:
         TransactionCommitted = ARCHCARAWAY_COMMITTED
     };
 
-    // `conflictingKeyRangeMap` is given the read ranges in conflict of each transaction that asks for them and has some, by its index.
-    explicit ConflictBatch(ConflictSet* set, std::map<int, std::vector<int>>* conflictingKeyRangeMap = nullptr)
+    // `conflictingKeyRangeMap` receives the indices of the conflicting read ranges, by the index of
+    // their transaction, of each transaction that asks for them and has some.
+    explicit ConflictBatch(ConflictSet* set,
+                           std::map<int, std::vector<int>>* conflictingKeyRangeMap = nullptr)
       : set_(*set), ranges_(conflictingKeyRangeMap) {
         set_.writer_.begin(-1, 0, -1);
     }
@@ -274,30 +377,50 @@ public:
     void addTransaction(const CommitTransactionRef& transaction) {
         BatchWriter& writer = set_.writer_;
         writer.transaction(transaction.read_snapshot, transaction.report_conflicting_keys);
-        for (const KeyRangeRef& range : transaction.read_conflict_ranges) writer.read(range.begin, range.end);
-        for (const KeyRangeRef& range : transaction.write_conflict_ranges) writer.write(range.begin, range.end);
-    }
-
-    // Judges the batch at the version `now`, once. Appends the indices of the transactions that are committed, and of those that are too
-    // old.
-    void detectConflicts(Version now, std::vector<int>& nonConflicting, std::vector<int>* tooOldTransactions = nullptr) {
-        set_.writer_.versions(-1, now, -1);
-        results_.clear();
-        for (Entry entry : set_.set_.resolve(set_.writer_.end(), set_.reply_)) {
-            int index = static_cast<int>(results_.size());
-            results_.push_back(static_cast<TransactionCommitResult>(entry.verdict()));
-            if (entry.verdict() == Verdict::committed) nonConflicting.push_back(index);
-            if (entry.verdict() == Verdict::tooOld && tooOldTransactions != nullptr) tooOldTransactions->push_back(index);
-            for (std::size_t i = 0; ranges_ != nullptr && i < entry.places(); i++) {
-                (*ranges_)[index].push_back(static_cast<int>(entry.place(i)));
+        for (const KeyRangeRef& range : transaction.read_conflict_ranges) {
+            if (range.isSingle()) {
+                writer.read(range.begin);
+            } else {
+                writer.read(range.begin, range.end);
+            }
+        }
+        for (const KeyRangeRef& range : transaction.write_conflict_ranges) {
+            if (range.isSingle()) {
+                writer.write(range.begin);
+            } else {
+                writer.write(range.begin, range.end);
             }
         }
     }
 
-    // What detectConflicts has said of each transaction.
+    // Judges the batch at the version `now`, once. Appends the indices of the transactions that are
+    // committed, and of those that are too old.
+    void detectConflicts(Version now, std::vector<int>& nonConflicting,
+                         std::vector<int>* tooOldTransactions = nullptr) {
+        set_.writer_.versions(-1, now, -1);
+        results_.clear();
+        for (Entry entry : set_.set_.resolve(set_.writer_.end(), set_.reply_)) {
+            add(entry, nonConflicting, tooOldTransactions);
+        }
+    }
+
+    // The results of detectConflicts, one per transaction.
     const std::vector<TransactionCommitResult>& results() const { return results_; }
 
 private:
+    void add(const Entry& entry, std::vector<int>& nonConflicting,
+             std::vector<int>* tooOldTransactions) {
+        const int index = static_cast<int>(results_.size());
+        results_.push_back(static_cast<TransactionCommitResult>(entry.verdict()));
+        if (entry.verdict() == Verdict::committed) nonConflicting.push_back(index);
+        if (entry.verdict() == Verdict::tooOld && tooOldTransactions != nullptr) {
+            tooOldTransactions->push_back(index);
+        }
+        for (std::size_t i = 0; ranges_ != nullptr && i < entry.places(); i++) {
+            (*ranges_)[index].push_back(static_cast<int>(entry.place(i)));
+        }
+    }
+
     ConflictSet& set_;
     std::map<int, std::vector<int>>* ranges_;
     std::vector<TransactionCommitResult> results_;

@@ -8,7 +8,16 @@ from .case import Case
 from .commands import draw_commands, draw_files, draw_workload
 from .frames_drawn import draw_decoded
 from .json_drawn import draw_encoded, draw_mistaken
-from .replays import draw_check, draw_fault, draw_full_gate, draw_history, draw_many, draw_one, draw_stop
+from .replays import (
+    draw_check,
+    draw_fault,
+    draw_full_gate,
+    draw_full_shares,
+    draw_history,
+    draw_many,
+    draw_one,
+    draw_stop,
+)
 
 Draw = Callable[[Random], Case]
 
@@ -19,6 +28,7 @@ FEATURES: tuple[tuple[Draw, int], ...] = (
     (draw_history, 8),
     (draw_stop, 8),
     (draw_full_gate, 1),
+    (draw_full_shares, 1),
     (draw_fault, 12),
     (draw_check, 12),
     (draw_files, 3),

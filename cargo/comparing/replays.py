@@ -23,10 +23,10 @@ from .batches import (
     draw_steps,
     shuffled_near,
 )
-from .case import Case, Run
+from .case import Case, Outcome, Run
 from .damage import cut, damaged_file
 from .expecting import most_boundaries, replay_outcome
-from .reference import WINDOW, resolve
+from .reference import MAX_HELD, WINDOW, resolve
 from .wire import Batch, Range, Reply, Txn, batch_frame, file_of, reply_frame, single
 
 FORMS = ("words", "words", "frames", "json")
@@ -175,6 +175,23 @@ def draw_full_gate(chance: Random) -> Case:
     freeing: list[Batch] = chance.choice([[], [Batch(0, 10)], [Batch(0, 9), Batch(-1, 0)]])
     files = [file_of([Batch(-1, 0), *shuffled_near(chance, held, chance.choice((0, 3, 2_000))), *freeing])]
     return Case("", "gate", names_of(files), (draw_run(chance, files, None),))
+
+
+def draw_full_shares(chance: Random) -> Case:
+    """Proxies whose early batches fill the gate, each its share. All wait for each other, and only
+    the batch that is due can go first."""
+    proxies = chance.choice((2, 4, 8, 16, 32, 64))
+    share = MAX_HELD // proxies
+    due, early = list(range(proxies)), list(range(proxies, proxies + MAX_HELD))
+    chance.shuffle(due)
+    chance.shuffle(early)
+    dealt_early = [early[proxy * share : (proxy + 1) * share] for proxy in range(proxies)]
+    versions = [[*some, last] for some, last in zip(dealt_early, due)]
+    files = [file_of(Batch(one - 1, one) for one in some) for some in versions]
+    lines = (f"{proxy} {one} empty\n" for proxy in range(proxies) for one in sorted(versions[proxy]))
+    expected = Outcome(0, "".join(lines).encode(), b"")
+    run = Run("replay", tuple(names_of(files)), expected=expected)
+    return Case("", "full shares", names_of(files), (run,))
 
 
 def draw_fault(chance: Random) -> Case:

@@ -1,8 +1,8 @@
-"""Splits Rattle source into tokens, each clause or ghost one token, so that nothing is lost between them."""
+"""Splits Rattle source into tokens, each clause or ghost one token, so that nothing is lost."""
 
 import re
+from collections.abc import Iterator
 from dataclasses import dataclass
-from enum import Enum, auto
 from pathlib import Path
 
 
@@ -13,23 +13,9 @@ class Refused(Exception):
         super().__init__(f"{file}:{line}: {reason}")
 
 
-class Kind(Enum):
-    SPACE = auto()
-    COMMENT = auto()
-    DOC = auto()
-    STRING = auto()
-    CHAR = auto()
-    LIFETIME = auto()
-    NUMBER = auto()
-    WORD = auto()
-    MARK = auto()
-    CLAUSE = auto()
-    GHOST = auto()
-
-
 @dataclass
 class Token:
-    kind: Kind
+    kind: str
     text: str
     line: int
     # What it is removed as, or None while it stays.
@@ -37,98 +23,67 @@ class Token:
 
     @property
     def is_code(self) -> bool:
-        """Returns whether the token is no space, no comment and no docs."""
-        return self.kind not in (Kind.SPACE, Kind.COMMENT, Kind.DOC)
+        return self.kind not in ("space", "doc", "comment")
 
 
-PATTERNS = (
-    (Kind.SPACE, re.compile(r"\s+")),
-    (Kind.DOC, re.compile(r"//[/!][^\n]*")),
-    (Kind.COMMENT, re.compile(r"//[^\n]*")),
-    (Kind.STRING, re.compile(r'b?r(#*)".*?"\1|[bc]?"(?:\\.|[^"\\])*"', re.DOTALL)),
-    (Kind.CHAR, re.compile(r"b?'(?:\\(?:x[0-9a-fA-F]{2}|u\{[0-9a-fA-F]+\}|.)|[^'\\])'")),
-    (Kind.LIFETIME, re.compile(r"'[A-Za-z_]\w*")),
-    (Kind.NUMBER, re.compile(r"\d\w*(?:\.\d\w*)?")),
-    (Kind.WORD, re.compile(r"[A-Za-z_]\w*")),
-    (Kind.MARK, re.compile(r"::|[{}()\[\]<>;:,.#!?&|+\-*/%^=@$~]")),
-)
+# The comment lines just above a clause or a ghost are part of it.
+ABOVE = r"(?:(?<=\n)[ \t]*//(?![/!])[^\n]*\n)*[ \t]*"
+PATTERNS = {
+    "clause": ABOVE + r"(?:requires|ensures|invariant|measure)\*?\s*(?:\w+\s*)?(?=\{)",
+    "use": ABOVE + r"ghost\s+use\s[^;]*;",
+    "ghost": ABOVE + r"(?:pub\s+)?ghost\s+\w+",
+    "space": r"\n|[^\S\n]+",
+    "doc": r"//[/!][^\n]*",
+    "comment": r"//[^\n]*",
+    "string": r'b?r(?P<marks>#*)".*?"(?P=marks)|[bc]?"(?:\\.|[^"\\])*"',
+    "char": r"b?'(?:\\(?:x[0-9a-fA-F]{2}|u\{[0-9a-fA-F]+\}|.)|[^'\\])'",
+    "lifetime": r"'[A-Za-z_]\w*",
+    "number": r"\d\w*(?:\.\d\w*)?",
+    "word": r"[A-Za-z_]\w*",
+    "mark": r"::|/(?!\*)|[{}()\[\]<>;:,.#!?&|+\-*%^=@$~]",
+}
+TOKEN = re.compile("|".join(f"(?P<{kind}>{text})" for kind, text in PATTERNS.items()), re.DOTALL)
 
-CLAUSE = re.compile(r"(?:requires|ensures|invariant|measure)\*?\s*(?:\w+\s*)?(?=\{)")
-GHOST_USE = re.compile(r"ghost\s+use\s[^;]*;")
-GHOST_MEMBER = re.compile(r"ghost\s+\w+\s*")
-MEMBER_PART = re.compile(r"\s*(?:[:=]|by)\s*(?=\{)")
-MEMBER_END = re.compile(r"\s*[,;]")
-
-
-def end_of_braces(text: str, start: int) -> int | None:
-    """Returns the index after the brace that closes the one at `start`, or None if none does. Strings are skipped."""
-    depth, index = 0, start
-    while index < len(text):
-        if text[index] == '"':
-            index = text.find('"', index + 1)
-            if index < 0:
-                return None
-        elif text[index] == "{":
-            depth += 1
-        elif text[index] == "}":
-            depth -= 1
-            if depth == 0:
-                return index + 1
-        index += 1
-    return None
+# A brace, or a text whose braces don't count.
+BRACE = re.compile(r'"[^"]*"|[{}]')
+# The type, the value or the proof of a ghost.
+PART = re.compile(r"\s*(?:[:=]|by)\s*(?=\{)")
+END = re.compile(r"\s*[,;]")
 
 
-def tokens_of(text: str, file: Path) -> list[Token]:
+def tokens_of(text: str, file: Path) -> Iterator[Token]:
     """Returns all tokens of a source. Joined again, their texts are the source."""
-    found: list[Token] = []
     index, line = 0, 1
-    while index < len(text):
-        token = ghost_at(text, index, line, file) or token_at(text, index, line, file)
-        found.append(token)
-        index += len(token.text)
-        line += token.text.count("\n")
-    return found
+    while match := TOKEN.match(text, index):
+        kind, end = match.lastgroup, match.end()
+        try:
+            if kind in ("clause", "ghost"):
+                end = after_braces(text, end) if kind == "clause" else after_member(text, end)
+        except ValueError as error:
+            raise Refused(file, line + match[0].count("\n"), str(error)) from None
+        token = Token("ghost" if kind == "use" else kind, text[index:end], line)
+        yield token
+        index, line = end, line + token.text.count("\n")
+    if index < len(text):
+        raise Refused(file, line, f"no token begins with {text[index]!r}")
 
 
-def token_at(text: str, index: int, line: int, file: Path) -> Token:
-    if text.startswith("/*", index):
-        raise Refused(file, line, "a block comment")
-    for kind, pattern in PATTERNS:
-        if match := pattern.match(text, index):
-            return Token(kind, match.group(), line)
-    raise Refused(file, line, f"a character that no token begins with: {text[index]!r}")
+def after_braces(text: str, start: int) -> int:
+    """Returns the index after the brace that closes the one at `start`."""
+    depth = 0
+    for match in BRACE.finditer(text, start):
+        depth += {"{": 1, "}": -1}.get(match[0], 0)
+        if depth == 0:
+            return match.end()
+    raise ValueError("a brace that is never closed")
 
 
-def ghost_at(text: str, index: int, line: int, file: Path) -> Token | None:
-    """Returns the clause or the ghost that begins at an index, if one does."""
-    if index > 0 and (text[index - 1].isalnum() or text[index - 1] == "_"):
-        return None
-    if match := CLAUSE.match(text, index):
-        return Token(Kind.CLAUSE, braces_after(text, index, match.end(), line, file), line)
-    if match := GHOST_USE.match(text, index):
-        return Token(Kind.GHOST, match.group(), line)
-    if match := GHOST_MEMBER.match(text, index):
-        return Token(Kind.GHOST, member_at(text, index, match.end(), line, file), line)
-    return None
-
-
-def braces_after(text: str, index: int, brace: int, line: int, file: Path) -> str:
-    end = end_of_braces(text, brace)
-    if end is None:
-        raise Refused(file, line, "a clause whose brace is never closed")
-    return text[index:end]
-
-
-def member_at(text: str, index: int, end: int, line: int, file: Path) -> str:
-    """Returns a ghost member: its name, its type or value or both, its proof, and the comma or semicolon after it."""
-    parts = 0
-    while match := MEMBER_PART.match(text, end):
-        closed = end_of_braces(text, match.end())
-        if closed is None:
-            raise Refused(file, line, "a ghost whose brace is never closed")
-        end, parts = closed, parts + 1
-    if parts == 0:
-        raise Refused(file, line, "a ghost that is neither a use nor a member")
-    if match := MEMBER_END.match(text, end):
-        end = match.end()
-    return text[index:end]
+def after_member(text: str, start: int) -> int:
+    """Returns the index after a ghost member, whose name ends at `start`."""
+    end = start
+    while match := PART.match(text, end):
+        end = after_braces(text, match.end())
+    if end == start:
+        raise ValueError("a ghost that is neither a use nor a member")
+    last = END.match(text, end)
+    return last.end() if last else end

@@ -1,4 +1,4 @@
-// The worked example of examples/conflicts over archcaraway::ConflictSet: a write, a read of what was overwritten since, a read of what the
+// archcaraway::ConflictSet: a write, a read that was overwritten since, a read of a key that the
 // same batch writes, and a snapshot that is too old.
 #include <cstdio>
 
@@ -9,7 +9,8 @@ using archcaraway::ConflictBatch;
 using archcaraway::ConflictSet;
 using archcaraway::KeyRangeRef;
 
-static CommitTransactionRef transaction(archcaraway::Version snapshot, std::vector<KeyRangeRef> reads,
+static CommitTransactionRef transaction(archcaraway::Version snapshot,
+                                        std::vector<KeyRangeRef> reads,
                                         std::vector<KeyRangeRef> writes, bool report = false) {
     CommitTransactionRef made;
     made.read_snapshot = snapshot;
@@ -19,7 +20,8 @@ static CommitTransactionRef transaction(archcaraway::Version snapshot, std::vect
     return made;
 }
 
-static void judge(ConflictSet& set, archcaraway::Version now, const std::vector<CommitTransactionRef>& transactions) {
+static void judge(ConflictSet& set, archcaraway::Version now,
+                  const std::vector<CommitTransactionRef>& transactions) {
     std::map<int, std::vector<int>> ranges;
     ConflictBatch batch(&set, &ranges);
     for (const CommitTransactionRef& t : transactions) batch.addTransaction(t);
@@ -39,10 +41,13 @@ int main() {
     try {
         ConflictSet set;
         judge(set, 100, {transaction(0, {}, {{"a", "c"}})});
+        const KeyRangeRef key = KeyRangeRef::single("k");
         judge(set, 200,
-              {transaction(50, {{"a", "b"}, {"x", "y"}, {"b", "d"}}, {}, true), transaction(150, {}, {{"k", "l"}}),
-               transaction(150, {{"k", "l"}}, {{"m", "n"}}), transaction(150, {{"m", "n"}}, {})});
-        judge(set, 5000300, {transaction(299, {{"q", "r"}}, {}), transaction(300, {{"q", "r"}}, {{"q", "r"}})});
+              {transaction(50, {{"a", "b"}, {"x", "y"}, {"b", "d"}}, {}, true),
+               transaction(150, {}, {key}), transaction(150, {key}, {{"m", "n"}}),
+               transaction(150, {{"m", "n"}}, {})});
+        judge(set, 5000300,
+              {transaction(299, {{"q", "r"}}, {}), transaction(300, {{"q", "r"}}, {{"q", "r"}})});
     } catch (const std::exception& error) {
         std::fprintf(stderr, "conflicts: %s\n", error.what());
         return 1;

@@ -3,8 +3,16 @@
 
 #include "chains.h"
 
-static const uint8_t EMPTY_BATCH[31] = {0, 0, 0, 27, 1, 255, 255, 255, 255, 255, 255, 255, 255, 0, 0, 0,
-                                        0, 0, 0, 0,  0, 255, 255, 255, 255, 255, 255, 255, 255, 0, 0};
+static uint8_t EMPTY_BATCH[31];
+
+// The batch -1>0 without transactions.
+static void make_empty_batch(void) {
+    archcaraway_writer writer = archcaraway_writer_new(archcaraway_grow_malloc, NULL);
+    archcaraway_batch_begin(&writer, -1, 0, -1);
+    DEMAND(archcaraway_batch_end(&writer) == ARCHCARAWAY_OK && writer.length == sizeof EMPTY_BATCH);
+    memcpy(EMPTY_BATCH, writer.bytes, writer.length);
+    archcaraway_writer_free(&writer);
+}
 
 static void numbers(void) {
     static const struct {
@@ -28,11 +36,14 @@ static void numbers(void) {
         {1, 1, UINT64_MAX, ARCHCARAWAY_ARGUMENT},
     };
     for (size_t i = 0; i < sizeof rows / sizeof rows[0]; i++) {
-        archcaraway_core core = ARCHCARAWAY_NONE;
+        // A call that fails leaves handles of zeros, whatever they were.
+        int other;
+        archcaraway_core core = {&other};
         archcaraway_set set = ARCHCARAWAY_NONE;
         DEMAND(archcaraway_core_new(rows[i].proxies, rows[i].window, rows[i].limit, &core) == rows[i].status);
         DEMAND((core.at != NULL) == (rows[i].status == ARCHCARAWAY_OK));
         if (rows[i].proxies == 1) {
+            set.at = &other;
             DEMAND(archcaraway_set_new(rows[i].window, rows[i].limit, &set) == rows[i].status);
             DEMAND((set.at != NULL) == (rows[i].status == ARCHCARAWAY_OK));
         }
@@ -105,11 +116,23 @@ static void cores(void) {
     archcaraway_core_free(&core);
 }
 
+static void texts(void) {
+    size_t known = 0;
+    for (int status = -10; status < 300; status++) {
+        const char *text = archcaraway_status_text(status);
+        DEMAND(text != NULL && text == archcaraway_text(status));
+        known += strcmp(text, "unknown status") != 0;
+    }
+    DEMAND(known == 22);
+    DEMAND(archcaraway_version() == ARCHCARAWAY_VERSION);
+}
+
 int main(void) {
+    make_empty_batch();
     numbers();
     sets();
     cores();
-    for (int status = -10; status < 300; status++) DEMAND(archcaraway_text(status) != NULL);
+    texts();
     printf("arguments: refused as the header says\n");
     return 0;
 }

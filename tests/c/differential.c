@@ -91,7 +91,7 @@ static size_t run_set(Random *random, const Chain *chain, const Answers *answers
         const Batch *batch = &chain->chain[i];
         const Answer *answer = answer_at(answers, batch->version);
         if (answer == NULL) break;
-        Bytes frame = one_in(random, 2) ? frame_1(batch) : frame_2(batch);
+        Bytes frame = any_frame(random, batch);
         size_t longest = longest_reply(batch), length = 99;
         uint64_t boundaries = archcaraway_set_boundaries(&set);
         uint8_t *reply = (uint8_t *)demand_memory(longest);

@@ -2,8 +2,8 @@
 //
 //     frames BATCHES SEED
 //
-// Writes random batches, and reads random replies, whole, cut and with bytes changed. The codec reads each batch in version 2, as
-// chains.h spells it, and writes it in version 1.
+// Writes random batches, and reads random replies, complete, cut and with bytes changed. The codec reads each batch as the header writes
+// it, and writes it in version 1. chains.h spells both versions by the tables of docs/WIRE.md, and one batch has one spelling in each.
 #include <stdlib.h>
 
 #include "chains.h"
@@ -28,11 +28,15 @@ static uint8_t *grow_by_copy(void *context, uint8_t *bytes, size_t length, size_
 
 static void compare_batch(const Batch *batch, archcaraway_writer *writer) {
     DEMAND(write_batch(writer, batch) == ARCHCARAWAY_OK);
-    Bytes spelled = frame_2(batch);
+    Bytes second = spelled_frame(batch, 2), first = spelled_frame(batch, 1);
     size_t length = 0;
-    DEMAND(codec_encode_batch_1(spelled.bytes, spelled.length, out, sizeof out, &length) == 0);
-    DEMAND(length == writer->length && memcmp(out, writer->bytes, length) == 0);
-    free(spelled.bytes);
+    DEMAND(writer->length == second.length && memcmp(writer->bytes, second.bytes, second.length) == 0);
+    DEMAND(archcaraway_frame_length(writer->bytes, writer->length, &length) == ARCHCARAWAY_OK && length == writer->length);
+    DEMAND(archcaraway_frame_length(writer->bytes, writer->length - 1, &length) == ARCHCARAWAY_FRAME_SHORT && length == 0);
+    DEMAND(codec_encode_batch_1(writer->bytes, writer->length, out, sizeof out, &length) == 0);
+    DEMAND(length == first.length && memcmp(out, first.bytes, length) == 0);
+    free(first.bytes);
+    free(second.bytes);
 }
 
 // A batch that is long enough for the limits now and then.
@@ -164,6 +168,25 @@ static void refusals(void) {
         if (i == ARCHCARAWAY_MAX_RANGES - 2) break;
     }
     DEMAND(archcaraway_batch_read(&writer, NULL, 0, NULL, 0) == ARCHCARAWAY_FRAME_COUNT);
+    // Single keys: the longest, a longer one, too many, and a read after a write.
+    archcaraway_batch_begin(&writer, -1, 0, -1);
+    archcaraway_batch_transaction(&writer, 0, false);
+    DEMAND(archcaraway_batch_read_key(&writer, long_key, ARCHCARAWAY_MAX_KEY - 1) == ARCHCARAWAY_OK);
+    DEMAND(archcaraway_batch_write_key(&writer, NULL, 0) == ARCHCARAWAY_OK);
+    DEMAND(archcaraway_batch_end(&writer) == ARCHCARAWAY_OK && writer.length == 31 + 13 + 3 + 10000 + 3);
+    DEMAND(archcaraway_batch_read_key(&writer, a, 1) == ARCHCARAWAY_ARGUMENT);
+    archcaraway_batch_begin(&writer, -1, 0, -1);
+    archcaraway_batch_transaction(&writer, 0, false);
+    DEMAND(archcaraway_batch_write_key(&writer, long_key, ARCHCARAWAY_MAX_KEY) == ARCHCARAWAY_FRAME_KEY_LENGTH);
+    archcaraway_batch_begin(&writer, -1, 0, -1);
+    DEMAND(archcaraway_batch_write_key(&writer, a, 1) == ARCHCARAWAY_ARGUMENT);
+    archcaraway_batch_begin(&writer, -1, 0, -1);
+    archcaraway_batch_transaction(&writer, 0, false);
+    DEMAND(archcaraway_batch_write_key(&writer, NULL, 1) == ARCHCARAWAY_ARGUMENT);
+    archcaraway_batch_begin(&writer, -1, 0, -1);
+    archcaraway_batch_transaction(&writer, 0, false);
+    for (int i = 0; i < ARCHCARAWAY_MAX_RANGES; i++) DEMAND(archcaraway_batch_write_key(&writer, a, 1) == ARCHCARAWAY_OK);
+    DEMAND(archcaraway_batch_write_key(&writer, a, 1) == ARCHCARAWAY_FRAME_COUNT);
     // 4,194,304 bytes of body and no more.
     archcaraway_batch_begin(&writer, -1, 0, -1);
     int status = ARCHCARAWAY_OK;
@@ -184,6 +207,30 @@ static void refusals(void) {
     DEMAND(archcaraway_batch_versions(&writer, 3, 3, -1) == ARCHCARAWAY_FRAME_VERSION);
     DEMAND(archcaraway_batch_versions(&writer, 3, 9, 4) == ARCHCARAWAY_FRAME_VERSION);
     archcaraway_writer_free(&writer);
+    // Null.
+    archcaraway_writer_free(NULL);
+    DEMAND(archcaraway_batch_begin(NULL, -1, 0, -1) == ARCHCARAWAY_ARGUMENT);
+    DEMAND(archcaraway_batch_versions(NULL, -1, 0, -1) == ARCHCARAWAY_ARGUMENT);
+    DEMAND(archcaraway_batch_transaction(NULL, 0, false) == ARCHCARAWAY_ARGUMENT);
+    DEMAND(archcaraway_batch_read(NULL, a, 1, b, 1) == ARCHCARAWAY_ARGUMENT);
+    DEMAND(archcaraway_batch_write(NULL, a, 1, b, 1) == ARCHCARAWAY_ARGUMENT);
+    DEMAND(archcaraway_batch_read_key(NULL, a, 1) == ARCHCARAWAY_ARGUMENT);
+    DEMAND(archcaraway_batch_write_key(NULL, a, 1) == ARCHCARAWAY_ARGUMENT);
+    DEMAND(archcaraway_batch_end(NULL) == ARCHCARAWAY_ARGUMENT);
+    archcaraway_reply reply;
+    archcaraway_entry entry = {ARCHCARAWAY_CONFLICT, 0, NULL};
+    size_t length = 9;
+    DEMAND(archcaraway_reply_read(NULL, a, 1) == ARCHCARAWAY_ARGUMENT);
+    DEMAND(archcaraway_reply_read(&reply, NULL, 1) == ARCHCARAWAY_ARGUMENT && reply.count == 0);
+    DEMAND(!archcaraway_reply_next(&reply, &entry) && !archcaraway_reply_next(NULL, &entry));
+    DEMAND(!archcaraway_reply_next(&reply, NULL) && archcaraway_entry_place(NULL, 0) == UINT_MAX);
+    DEMAND(archcaraway_entry_place(&entry, 0) == UINT_MAX);
+    DEMAND(archcaraway_frame_length(NULL, 1, &length) == ARCHCARAWAY_ARGUMENT && length == 0);
+    DEMAND(archcaraway_frame_length(a, 1, NULL) == ARCHCARAWAY_ARGUMENT);
+    // No function to grow by: that of the C library.
+    writer = archcaraway_writer_new(NULL, NULL);
+    DEMAND(archcaraway_batch_begin(&writer, -1, 0, -1) == ARCHCARAWAY_OK && writer.grow == archcaraway_grow_malloc);
+    archcaraway_writer_free(&writer);
 }
 
 int main(int count, char **words) {
@@ -193,7 +240,7 @@ int main(int count, char **words) {
     refusals();
     compare_batches(batches, &random);
     compare_replies(batches, &random, faults);
-    printf("frames: %zu batches as encode_batch_1 writes them; %zu replies as decode_reply reads them, and refused alike:", batches,
+    printf("frames: %zu batches as the tables spell them and decode_batch reads them; %zu replies as decode_reply reads them, and refused alike:", batches,
            faults[0]);
     for (size_t i = 1; i < 300; i++) {
         if (faults[i] != 0) printf(" wire %zu %zu times;", i - 100, faults[i]);

@@ -153,7 +153,7 @@ static int run_set(const Chain *chain, Text *replies) {
     status = LIBRARY(archcaraway_set_new(chain->window, chain->limit, &set));
     if (status != ARCHCARAWAY_OK) DEMAND(status == ARCHCARAWAY_MEMORY && set.at == NULL);
     for (size_t i = 0; i < chain->length && status == ARCHCARAWAY_OK; i++) {
-        Bytes frame = frame_1(&chain->chain[i]);
+        Bytes frame = written_frame(&chain->chain[i]);
         size_t length;
         while (is_again(status = LIBRARY(archcaraway_set_resolve(&set, frame.bytes, frame.length, reply, sizeof reply,
                                                                  &length)))) {

@@ -343,3 +343,30 @@ impl fmt::Display for BuildError {
 }
 
 impl Error for BuildError {}
+
+#[cfg(test)]
+mod tests {
+    use super::*;
+
+    // Memory that is zero from the start takes no room until it is written.
+    fn builder_with_keys_of(length: usize) -> BatchBuilder {
+        let mut builder = BatchBuilder::new(-1, 0);
+        builder.tables.buffer = vec![0; length + 2];
+        builder.tables.buffer.truncate(length);
+        builder
+    }
+
+    #[test]
+    fn keys_begin_below_4_gib() {
+        let last = usize::try_from(u32::MAX).expect("addresses have 64 bits");
+        let txn = || Txn::at(0).write_key("k");
+        let built = builder_with_keys_of(last).txn(txn());
+        assert_eq!((built.error, built.tables.spans.len()), (None, 1));
+        let built = builder_with_keys_of(last + 1).txn(txn());
+        assert_eq!((built.error, built.tables.rows.len()), (Some(BuildError::KeyBytes), 0));
+        // The first error is the one that is reported.
+        let error = built.txn(Txn::at(-1)).build().expect_err("keys are too many");
+        assert_eq!(error, BuildError::KeyBytes);
+        assert_eq!(error.to_string(), "keys have more than 4 GiB together");
+    }
+}

@@ -62,12 +62,7 @@ impl Client {
         if self.link.stopped.load(Ordering::Acquire) {
             return Err(TrySendError::Disconnected(batch));
         }
-        match ends.requests.send(batch.into_inner()) {
-            Ok(()) => Ok(()),
-            Err(Refused::Full(batch)) => Err(TrySendError::Full(Batch::over(batch))),
-            Err(Refused::Closed(batch)) => Err(TrySendError::Closed(Batch::over(batch))),
-            Err(Refused::Worn(batch)) => Err(TrySendError::Worn(Batch::over(batch))),
-        }
+        ends.requests.send(batch.into_inner()).map_err(unsent)
     }
 
     /// Sends a batch, and waits while the lane is full.
@@ -245,6 +240,14 @@ impl fmt::Display for TrySendError {
 
 impl Error for TrySendError {}
 
+fn unsent(refused: Refused<keyspace::Batch>) -> TrySendError {
+    match refused {
+        Refused::Full(batch) => TrySendError::Full(Batch::over(batch)),
+        Refused::Closed(batch) => TrySendError::Closed(Batch::over(batch)),
+        Refused::Worn(batch) => TrySendError::Worn(Batch::over(batch)),
+    }
+}
+
 /// Why no answer was received.
 #[derive(Clone, Copy, Debug, PartialEq, Eq, Hash)]
 pub enum TryReceiveError {
@@ -267,3 +270,33 @@ impl fmt::Display for TryReceiveError {
 }
 
 impl Error for TryReceiveError {}
+
+#[cfg(test)]
+mod tests {
+    use super::*;
+    use crate::BatchBuilder;
+
+    // No test can send 2^62 batches, so the lane's refusals are made by hand.
+    #[test]
+    fn a_refusal_of_the_lane_keeps_its_reason_and_its_batch() {
+        let batch = BatchBuilder::new(-1, 7).build().expect("it is within the limits");
+        let inner = || batch.clone().into_inner();
+        for (refused, expected, text) in [
+            (Refused::Full(inner()), TrySendError::Full(batch.clone()), "lane is full"),
+            (
+                Refused::Closed(inner()),
+                TrySendError::Closed(batch.clone()),
+                "requests are closed",
+            ),
+            (
+                Refused::Worn(inner()),
+                TrySendError::Worn(batch.clone()),
+                "client has sent 2^62 batches",
+            ),
+        ] {
+            let error = unsent(refused);
+            assert_eq!((&error, error.to_string().as_str()), (&expected, text));
+            assert_eq!(error.into_batch(), batch);
+        }
+    }
+}

@@ -333,5 +333,6 @@ fn a_batch_is_that_of_the_proved_constructors() {
 
     let frame = wire::encode_batch(Global, &proved.expect("it is within the limits"));
     let built = built.build().expect("it is within the limits");
-    assert_eq!(built.encode().as_deref(), Ok(&*frame.expect("it is short")));
+    let frame = frame.expect("it is short");
+    assert_eq!(built.encode().as_deref(), Ok(frame.as_slice()));
 }

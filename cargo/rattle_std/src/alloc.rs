@@ -1,5 +1,6 @@
 //! The allocator, and its refusals.
 
+use std::collections::TryReserveError;
 use std::io;
 
 /// Memory was refused.
@@ -10,6 +11,12 @@ pub struct AllocError;
 #[derive(Clone, Copy, Debug, PartialEq, Eq, Hash)]
 pub struct AllocFailed<T> {
     pub value: T,
+}
+
+impl From<TryReserveError> for AllocError {
+    fn from(_refused: TryReserveError) -> Self {
+        AllocError
+    }
 }
 
 impl<T> From<AllocFailed<T>> for AllocError {

@@ -4,7 +4,8 @@ use std::ops::{Deref, DerefMut};
 
 #[derive(Clone, Copy, Debug)]
 pub struct ArrayVec<T, const N: usize> {
-    // None until the first item comes, of which all places are then made. So no place is ever without a value.
+    // None until the first item comes, of which all places are then made. So no place is ever
+    // without a value.
     items: Option<[T; N]>,
     len: usize,
 }
@@ -13,7 +14,7 @@ pub struct ArrayVec<T, const N: usize> {
 #[derive(Clone, Copy, Debug, PartialEq, Eq)]
 pub struct CapacityError;
 
-impl<T, const N: usize> ArrayVec<T, N> {
+impl<T: Copy, const N: usize> ArrayVec<T, N> {
     pub fn new() -> Self {
         ArrayVec { items: None, len: 0 }
     }
@@ -28,16 +29,9 @@ impl<T, const N: usize> ArrayVec<T, N> {
 
     #[inline]
     pub fn as_slice(&self) -> &[T] {
-        self.items.as_ref().map_or(&[], |items| &items[..self.len])
+        self
     }
 
-    #[inline]
-    pub fn as_mut_slice(&mut self) -> &mut [T] {
-        self.items.as_mut().map_or(&mut [], |items| &mut items[..self.len])
-    }
-}
-
-impl<T: Copy, const N: usize> ArrayVec<T, N> {
     /// Appends an item for which there is room.
     #[inline]
     pub fn push(&mut self, item: T) {
@@ -47,20 +41,11 @@ impl<T: Copy, const N: usize> ArrayVec<T, N> {
 
     /// Appends the items, or none of them if there isn't room for all.
     pub fn try_extend_from_slice(&mut self, more: &[T]) -> Result<(), CapacityError> {
-        let Some(first) = more.first() else {
-            return Ok(());
-        };
-        let end = self.len + more.len();
-        let room = self.items.get_or_insert([*first; N]).get_mut(self.len..end).ok_or(CapacityError)?;
-        room.copy_from_slice(more);
-        self.len = end;
+        if more.len() > N - self.len {
+            return Err(CapacityError);
+        }
+        more.iter().for_each(|item| self.push(*item));
         Ok(())
-    }
-}
-
-impl<T, const N: usize> Default for ArrayVec<T, N> {
-    fn default() -> Self {
-        ArrayVec::new()
     }
 }
 
@@ -69,13 +54,13 @@ impl<T, const N: usize> Deref for ArrayVec<T, N> {
 
     #[inline]
     fn deref(&self) -> &[T] {
-        self.as_slice()
+        self.items.as_ref().map_or(&[], |items| &items[..self.len])
     }
 }
 
 impl<T, const N: usize> DerefMut for ArrayVec<T, N> {
     #[inline]
     fn deref_mut(&mut self) -> &mut [T] {
-        self.as_mut_slice()
+        self.items.as_mut().map_or(&mut [], |items| &mut items[..self.len])
     }
 }

@@ -1,13 +1,13 @@
 //! Words and slots that the seats of a table share.
 //!
-//! In the proved toolchain a seat knows what its thread may do, and a rule over words and slots says when a slot is a seat's. The crate
-//! `lane` proves that each of its calls keeps that rule. Here a seat knows nothing, so the calls are as safe as that proof: nobody
-//! but `lane` may use this module.
-#![allow(unsafe_code)]
+//! In the proved toolchain a seat knows what its thread may do, and a rule over words and slots
+//! says when a slot is a seat's. `lane` proves that it keeps that rule. Here a seat knows nothing,
+//! and each slot is a lock as well: a call that finds it locked would panic.
 
 use crate::alloc::{AllocError, Global};
-use std::cell::UnsafeCell;
 use std::marker::PhantomData;
+use std::mem;
+use std::sync::Mutex;
 use std::sync::atomic::{AtomicU64, Ordering};
 
 /// What holds of words, slots and seats between any two steps. It is a ghost.
@@ -29,35 +29,36 @@ pub struct Table<S, V, K, R, A = Global> {
 
 /// The words and the slots.
 pub struct Shared<S, V> {
-    words: Box<[AtomicU64]>,
-    slots: Box<[UnsafeCell<S>]>,
+    words: Vec<AtomicU64>,
+    slots: Vec<Mutex<S>>,
     ghosts: PhantomData<fn() -> V>,
 }
-
-// SAFETY: a slot is used by `exchange` alone, which one thread at a time calls on it, as is said there. So a slot's value moves between
-// threads, and is never shared by them.
-unsafe impl<S: Send, V> Sync for Shared<S, V> {}
 
 /// A thread's part in a table.
 pub struct Seat<S, V>(PhantomData<fn() -> (S, V)>);
 
 impl<S: Default, V, K, R, A> Table<S, V, K, R, A> {
-    /// Makes a table of these words and of so many vacant slots, and its first seat.
-    pub fn vacant(_alloc: A, words: &[u64], slots: usize, _key: &K) -> Result<(Self, Seat<S, V>), AllocError> {
+    /// Makes a table of these words and `slots` vacant slots, and its first seat.
+    pub fn vacant(
+        _alloc: A,
+        words: &[u64],
+        slots: usize,
+        _key: &K,
+    ) -> Result<(Self, Seat<S, V>), AllocError> {
         let shared = Shared {
-            words: boxed(words.iter().map(|word| AtomicU64::new(*word)), words.len())?,
-            slots: boxed((0..slots).map(|_| UnsafeCell::default()), slots)?,
+            words: collected(words.iter().map(|word| AtomicU64::new(*word)))?,
+            slots: collected((0..slots).map(|_| Mutex::default()))?,
             ghosts: PhantomData,
         };
         Ok((Table { shared, ghosts: PhantomData }, Seat(PhantomData)))
     }
 }
 
-fn boxed<T>(items: impl Iterator<Item = T>, count: usize) -> Result<Box<[T]>, AllocError> {
+fn collected<T>(items: impl ExactSizeIterator<Item = T>) -> Result<Vec<T>, AllocError> {
     let mut kept = Vec::new();
-    kept.try_reserve_exact(count).map_err(|_| AllocError)?;
+    kept.try_reserve_exact(items.len())?;
     kept.extend(items);
-    Ok(kept.into_boxed_slice())
+    Ok(kept)
 }
 
 impl<S, V> Shared<S, V> {
@@ -71,11 +72,8 @@ impl<S, V> Shared<S, V> {
 
     /// Puts an item into a slot, and returns the one that was there.
     pub fn exchange(&self, _seat: &mut Seat<S, V>, slot: usize, item: S) -> S {
-        // SAFETY: the slot is this seat's. `lane` proves that as the condition of the proved `exchange`: a port has the slot of item k from
-        // its look that found item k - capacity taken up to its store of k + 1 sent, and an intake from its look that found item k sent
-        // up to its store of k + 1 taken. These words are loaded and stored in one total order, so neither is in the slot while the
-        // other is, and what one has written there the other sees.
-        unsafe { std::mem::replace(&mut *self.slots[slot].get(), item) }
+        let mut slot = self.slots[slot].try_lock().expect("no other thread is in the slot");
+        mem::replace(&mut *slot, item)
     }
 
     pub fn split_seat<P>(&self, _seat: &mut Seat<S, V>) -> Seat<S, V> {

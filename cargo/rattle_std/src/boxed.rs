@@ -1,16 +1,15 @@
-//! A box whose memory may be refused, for the handles of C.
-#![allow(unsafe_code)]
+//! A box whose memory may be refused.
 
 use crate::alloc::{AllocFailed, Global};
 use std::boxed;
 use std::marker::PhantomData;
-use std::ops::{Deref, DerefMut};
 
-pub struct Box<T, A = Global> {
-    // One item behind a slice, since only a vector's memory may be refused.
-    item: boxed::Box<[T]>,
-    alloc: PhantomData<A>,
-}
+pub use crate::box_from_raw as from_raw;
+
+/// A slice of one item, since only a vector's memory may be refused.
+pub struct Box<T, A = Global>(boxed::Box<[T]>, PhantomData<A>);
+
+derefs!(Box<T, A> as T, self.0[0]);
 
 impl<T, A> Box<T, A> {
     pub fn new(_alloc: A, item: T) -> Result<Self, AllocFailed<T>> {
@@ -19,33 +18,26 @@ impl<T, A> Box<T, A> {
             return Err(AllocFailed { value: item });
         }
         items.push(item);
-        Ok(Box { item: items.into_boxed_slice(), alloc: PhantomData })
+        Ok(items.into_boxed_slice().into())
     }
 
     pub fn into_raw(boxed: Self) -> *mut T {
-        boxed::Box::into_raw(boxed.item).cast()
-    }
-
-    /// # Safety
-    ///
-    /// The pointer is what [`Box::into_raw`] returned, and was not made a box again since.
-    pub unsafe fn from_raw(_alloc: A, pointer: *mut T) -> Self {
-        // SAFETY: the pointer is that of a boxed slice of one item, which nobody else owns, by this function's own condition.
-        let item = unsafe { boxed::Box::from_raw(std::ptr::slice_from_raw_parts_mut(pointer, 1)) };
-        Box { item, alloc: PhantomData }
+        boxed::Box::into_raw(boxed.0).cast()
     }
 }
 
-impl<T, A> Deref for Box<T, A> {
-    type Target = T;
-
-    fn deref(&self) -> &T {
-        &self.item[0]
+impl<T, A> From<boxed::Box<[T]>> for Box<T, A> {
+    fn from(item: boxed::Box<[T]>) -> Self {
+        Box(item, PhantomData)
     }
 }
 
-impl<T, A> DerefMut for Box<T, A> {
-    fn deref_mut(&mut self) -> &mut T {
-        &mut self.item[0]
-    }
+/// Makes a pointer of [`Box::into_raw`] a box again. The caller answers for the unsafe call, as for
+/// that of Rust's own `Box::from_raw`.
+#[macro_export]
+macro_rules! box_from_raw {
+    ($alloc:expr, $pointer:expr) => {{
+        let item = ::std::ptr::slice_from_raw_parts_mut($pointer, 1);
+        $crate::boxed::Box::from(::std::boxed::Box::from_raw(item))
+    }};
 }

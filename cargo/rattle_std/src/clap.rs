@@ -1,4 +1,5 @@
-//! Command lines: the part of `clap` that the programs use, over `clap` itself or with a shorter help and refusals of one line.
+//! Command lines: the part of `clap` that the programs use, over `clap` itself or with a shorter
+//! help and refusals of one line.
 
 #[cfg(not(feature = "clap"))]
 mod parse;
@@ -7,6 +8,8 @@ mod real;
 
 use crate::alloc::{AllocError, Global};
 use crate::string::String;
+use std::marker::PhantomData;
+use std::ops::RangeInclusive;
 
 pub mod builder {
     pub use super::ValueParser;
@@ -42,7 +45,7 @@ impl Error {
         self.kind
     }
 
-    /// Returns whether the text is for standard error: it is but for help and the version that were asked for.
+    /// Returns whether the text is for standard error, which help and version aren't.
     pub fn use_stderr(&self) -> bool {
         !matches!(self.kind, ErrorKind::DisplayHelp | ErrorKind::DisplayVersion)
     }
@@ -54,73 +57,62 @@ impl Error {
 
 // Methods that set a field and return the rest as it was.
 macro_rules! setters {
-    ($($name:ident: $kind:ty),*) => {
-        $(pub fn $name(self, $name: $kind) -> Self {
-            Self { $name, ..self }
-        })*
-    };
+    ($($name:ident: $kind:ty),*) => {$(
+        pub fn $name(self, $name: $kind) -> Self {
+            Self { $name: $name.into(), ..self }
+        }
+    )*};
 }
 
-macro_rules! optional_setters {
-    ($($name:ident $field:ident: $kind:ty),*) => {
-        $(pub fn $name(self, value: $kind) -> Self {
-            Self { $field: Some(value), ..self }
-        })*
-    };
-}
-
-#[derive(Clone, Copy, Debug, PartialEq, Eq)]
+#[derive(Clone, Copy, Debug, Default, PartialEq, Eq)]
 pub enum ArgAction {
+    #[default]
     Set,
     Append,
     SetTrue,
 }
 
-/// The whole numbers that an option takes.
-#[derive(Clone, Copy, Debug)]
-pub struct ValueParser<'a> {
-    least: i128,
-    most: i128,
-    lifetime: std::marker::PhantomData<&'a str>,
-}
+/// The integers that an option takes.
+#[derive(Clone, Debug)]
+pub struct ValueParser<'a>(RangeInclusive<i128>, PhantomData<&'a str>);
 
 impl ValueParser<'_> {
     pub fn unsigned(least: u64, most: u64) -> Self {
-        ValueParser { least: least.into(), most: most.into(), lifetime: std::marker::PhantomData }
+        ValueParser(least.into()..=most.into(), PhantomData)
     }
 
     pub fn signed(least: i64, most: i64) -> Self {
-        ValueParser { least: least.into(), most: most.into(), lifetime: std::marker::PhantomData }
+        ValueParser(least.into()..=most.into(), PhantomData)
     }
 
     fn takes(&self, text: &str) -> bool {
-        text.parse::<i128>().is_ok_and(|number| (self.least..=self.most).contains(&number))
+        text.parse().is_ok_and(|number| self.0.contains(&number))
     }
 }
 
 /// An option, or a positional argument if it has no long name.
-#[derive(Debug)]
+#[derive(Debug, Default)]
 pub struct Arg<'a> {
     id: &'a str,
     long: Option<&'a str>,
     value_name: &'a str,
     help: &'a str,
-    default: Option<&'a str>,
-    parser: Option<ValueParser<'a>>,
+    default_value: Option<&'a str>,
+    value_parser: Option<ValueParser<'a>>,
     action: ArgAction,
     required: bool,
 }
 
 impl<'a> Arg<'a> {
-    pub fn new(_alloc: Global, id: &'a str) -> Self {
-        Arg { id, long: None, value_name: id, help: "", default: None, parser: None, action: ArgAction::Set, required: false }
-    }
+    setters!(action: ArgAction, default_value: &'a str, help: &'a str, long: &'a str);
+    setters!(required: bool, value_name: &'a str, value_parser: ValueParser<'a>);
 
-    setters!(action: ArgAction, help: &'a str, required: bool, value_name: &'a str);
-    optional_setters!(default_value default: &'a str, long long: &'a str, value_parser parser: ValueParser<'a>);
+    pub fn new(_alloc: Global, id: &'a str) -> Self {
+        Arg { id, value_name: id, ..Arg::default() }
+    }
 }
 
-#[derive(Debug)]
+#[derive(Debug, Default)]
 pub struct Command<'a> {
     name: &'a str,
     version: &'a str,
@@ -133,20 +125,12 @@ pub struct Command<'a> {
 }
 
 impl<'a> Command<'a> {
-    pub fn new(_alloc: Global, name: &'a str) -> Self {
-        Command {
-            name,
-            version: "",
-            about: "",
-            after_long_help: "",
-            arguments: Vec::new(),
-            subcommands: Vec::new(),
-            subcommand_required: false,
-            arg_required_else_help: false,
-        }
-    }
+    setters!(about: &'a str, after_long_help: &'a str, version: &'a str);
+    setters!(arg_required_else_help: bool, subcommand_required: bool);
 
-    setters!(about: &'a str, after_long_help: &'a str, arg_required_else_help: bool, subcommand_required: bool, version: &'a str);
+    pub fn new(_alloc: Global, name: &'a str) -> Self {
+        Command { name, ..Command::default() }
+    }
 
     pub fn arg(mut self, arg: Arg<'a>) -> Result<Self, AllocError> {
         self.arguments.push(arg);
@@ -171,23 +155,6 @@ pub struct ArgMatches<'a> {
     subcommand: Option<(&'a str, Box<ArgMatches<'a>>)>,
 }
 
-/// What a value is read as.
-pub trait Value: Sized {
-    fn read(text: &str) -> Option<Self>;
-}
-
-macro_rules! values {
-    ($($kind:ty),*) => {
-        $(impl Value for $kind {
-            fn read(text: &str) -> Option<Self> {
-                text.parse().ok()
-            }
-        })*
-    };
-}
-
-values!(bool, u64, i64, usize);
-
 impl<'a> ArgMatches<'a> {
     pub fn get_strs(&self, id: &str) -> Option<&[&'a str]> {
         self.values.iter().find(|(name, _)| *name == id).map(|(_, values)| values.as_slice())
@@ -197,12 +164,12 @@ impl<'a> ArgMatches<'a> {
         self.get_strs(id)?.first().copied()
     }
 
-    pub fn get_one<T: Value>(&self, id: &str) -> Option<T> {
-        T::read(self.get_str(id)?)
+    pub fn get_one<T: std::str::FromStr>(&self, id: &str) -> Option<T> {
+        self.get_str(id)?.parse().ok()
     }
 
     pub fn get_flag(&self, id: &str) -> bool {
-        self.get_one(id) == Some(true)
+        self.get_str(id) == Some("true")
     }
 
     pub fn subcommand(&self) -> Option<(&'a str, &ArgMatches<'a>)> {

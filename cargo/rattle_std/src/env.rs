@@ -8,11 +8,10 @@ use std::{env, io};
 /// The words, all of which are text.
 pub struct Args(std::vec::Vec<String>);
 
-/// Returns the words of the command line, or an error of the kind `InvalidData` if one of them isn't UTF-8.
+/// Returns the words of the command line, or `InvalidData` if one of them isn't UTF-8.
 pub fn args<R>(_rt: &R) -> io::Result<Args> {
-    let text = |word: std::ffi::OsString| word.into_string().map(String::from);
-    let words: Result<std::vec::Vec<_>, _> = env::args_os().map(text).collect();
-    words.map(Args).map_err(|_| io::ErrorKind::InvalidData.into())
+    let words: Result<_, _> = env::args_os().map(|word| Ok(word.into_string()?.into())).collect();
+    words.map(Args).map_err(|_: std::ffi::OsString| io::ErrorKind::InvalidData.into())
 }
 
 impl Args {

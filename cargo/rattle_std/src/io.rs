@@ -1,4 +1,4 @@
-//! Readers and writers with a buffer, whose memory is asked for where they are made.
+//! Readers and writers with a buffer.
 
 use crate::vec::Vec;
 use std::io;
@@ -7,29 +7,25 @@ pub use std::io::{Error, ErrorKind, IsTerminal, Read, Result, Write};
 
 /// A reader of lines.
 pub trait BufRead: Read {
-    /// Appends what comes up to a byte, with it, or up to the end of the input. Returns how many bytes these are.
+    /// Appends what comes up to a byte, with it, or up to the end of the input. Returns how many
+    /// bytes these are.
     fn read_until(&mut self, byte: u8, out: &mut Vec<u8>) -> Result<usize>;
 }
 
 impl<R: io::BufRead> BufRead for R {
     fn read_until(&mut self, byte: u8, out: &mut Vec<u8>) -> Result<usize> {
-        let mut count = 0;
+        let before = out.len();
         loop {
-            let (taken, found) = match self.fill_buf() {
-                Ok([]) => return Ok(count),
-                Ok(held) => {
-                    let place = held.iter().position(|other| *other == byte);
-                    let taken = place.map_or(held.len(), |place| place + 1);
-                    out.extend_from_slice(&held[..taken])?;
-                    (taken, place.is_some())
-                }
+            let held = match self.fill_buf() {
                 Err(error) if error.kind() == ErrorKind::Interrupted => continue,
-                Err(error) => return Err(error),
+                held => held?,
             };
+            let found = held.iter().position(|other| *other == byte);
+            let taken = found.map_or(held.len(), |index| index + 1);
+            out.extend_from_slice(&held[..taken])?;
             self.consume(taken);
-            count += taken;
-            if found {
-                return Ok(count);
+            if found.is_some() || taken == 0 {
+                return Ok(out.len() - before);
             }
         }
     }

@@ -1,49 +1,22 @@
 //! Numbers in decimal, without an allocation.
 
+use std::fmt::Display;
+use std::io::Write;
+
 /// Room for the longest number of 64 bits with its sign.
-#[derive(Clone, Copy, Debug)]
+#[derive(Clone, Copy, Debug, Default)]
 pub struct Buffer([u8; 20]);
 
-/// A whole number of at most 64 bits.
-pub trait Integer: Copy {
-    fn sign_and_magnitude(self) -> (bool, u64);
-}
-
-macro_rules! integers {
-    ($($number:ident: $value:ident => $parts:expr),*) => {
-        $(impl Integer for $number {
-            fn sign_and_magnitude(self) -> (bool, u64) {
-                let $value = self;
-                $parts
-            }
-        })*
-    };
-}
-
-integers!(u64: n => (false, n), usize: n => (false, n as u64), i64: n => (n < 0, n.unsigned_abs()));
-
 impl Buffer {
-    #[allow(clippy::new_without_default)]
     pub fn new() -> Self {
-        Buffer([0; 20])
+        Buffer::default()
     }
 
-    /// Returns the digits of a number, after a sign if it is below 0.
-    pub fn format<I: Integer>(&mut self, number: I) -> &str {
-        let (negative, mut rest) = number.sign_and_magnitude();
-        let mut at = self.0.len();
-        loop {
-            at -= 1;
-            self.0[at] = b'0' + (rest % 10) as u8;
-            rest /= 10;
-            if rest == 0 {
-                break;
-            }
-        }
-        if negative {
-            at -= 1;
-            self.0[at] = b'-';
-        }
-        std::str::from_utf8(&self.0[at..]).expect("digits are text")
+    /// Returns the digits of an integer, after a sign if it is below 0.
+    pub fn format(&mut self, number: impl Display) -> &str {
+        let mut room = &mut self.0[..];
+        write!(room, "{number}").expect("the number has at most 64 bits");
+        let digits = 20 - room.len();
+        std::str::from_utf8(&self.0[..digits]).expect("digits are text")
     }
 }

@@ -5,7 +5,7 @@ mod writer;
 
 use crate::alloc::{AllocError, Global};
 use crate::vec::Vec;
-use strings::Strings;
+use strings::Room;
 
 pub use strings::Scratch;
 pub use writer::Writer;
@@ -22,13 +22,8 @@ pub enum Error {
     DuplicateKey,
 }
 
-impl From<AllocError> for Error {
-    fn from(_refused: AllocError) -> Self {
-        Error::OutOfMemory
-    }
-}
-
-/// A JSON value. A number stays text, and an object keeps its members in order, also those that come twice.
+/// A JSON value. A number stays text, and an object keeps its members in order, also those that
+/// come twice.
 #[derive(Debug)]
 pub enum Value<'a> {
     Null,
@@ -40,10 +35,16 @@ pub enum Value<'a> {
 }
 
 impl<'a> Value<'a> {
-    /// Reads the value that all of the bytes are. Its strings without escapes are borrowed from them, the others from the scratch.
-    pub fn from_slice(alloc: Global, bytes: &'a [u8], scratch: &'a mut Scratch) -> Result<Self, Error> {
-        let text = std::str::from_utf8(bytes).map_err(|_| Error::Invalid)?;
-        let mut parser = Parser { alloc, rest: text, strings: Strings::of(text, scratch)? };
+    /// Reads the value that all of the bytes are. Its strings without escapes are borrowed from
+    /// them, the others from the scratch.
+    pub fn from_slice(
+        alloc: Global,
+        bytes: &'a [u8],
+        scratch: &'a mut Scratch,
+    ) -> Result<Self, Error> {
+        let rest = std::str::from_utf8(bytes).map_err(|_| Error::Invalid)?;
+        let room = scratch.room(rest.len()).map_err(|_| Error::OutOfMemory)?;
+        let mut parser = Parser { alloc, rest, room };
         let value = parser.value(MAX_DEPTH)?;
         parser.skip_space();
         if parser.rest.is_empty() { Ok(value) } else { Err(Error::Invalid) }
@@ -68,9 +69,7 @@ impl<'a> Value<'a> {
 
     /// Returns the last member of that name, if this is an object.
     pub fn get(&self, name: &str) -> Option<&Value<'a>> {
-        let Value::Object(members) = self else {
-            return None;
-        };
+        let Value::Object(members) = self else { return None };
         members.iter().rev().find(|member| member.0 == name).map(|member| &member.1)
     }
 }
@@ -78,7 +77,7 @@ impl<'a> Value<'a> {
 struct Parser<'a> {
     alloc: Global,
     rest: &'a str,
-    strings: Strings<'a>,
+    room: Room<'a>,
 }
 
 impl<'a> Parser<'a> {
@@ -86,101 +85,86 @@ impl<'a> Parser<'a> {
         self.rest = self.rest.trim_start_matches([' ', '\t', '\n', '\r']);
     }
 
-    // Takes a character, and the space before it, if it comes next.
-    fn takes(&mut self, character: char) -> bool {
+    // Takes a text, and the space before it, if it comes next.
+    fn takes(&mut self, text: &str) -> bool {
         self.skip_space();
-        let after = self.rest.strip_prefix(character);
+        let after = self.rest.strip_prefix(text);
         self.rest = after.unwrap_or(self.rest);
         after.is_some()
     }
 
-    fn expect(&mut self, character: char) -> Result<(), Error> {
-        if self.takes(character) { Ok(()) } else { Err(Error::Invalid) }
+    fn expect(&mut self, text: &str) -> Result<(), Error> {
+        if self.takes(text) { Ok(()) } else { Err(Error::Invalid) }
     }
 
     fn value(&mut self, depth: usize) -> Result<Value<'a>, Error> {
-        self.skip_space();
-        match self.rest.as_bytes().first() {
-            Some(b'"') => Ok(Value::String(self.string()?)),
-            Some(b'-' | b'0'..=b'9') => self.number(),
-            Some(b'[') if depth > 0 => self.array(depth - 1),
-            Some(b'{') if depth > 0 => self.object(depth - 1),
-            _ => self.word(),
+        if self.takes("\"") {
+            Ok(Value::String(self.string()?))
+        } else if depth > 0 && self.takes("[") {
+            Ok(Value::Array(self.items("]", |parser| parser.value(depth - 1))?))
+        } else if depth > 0 && self.takes("{") {
+            Ok(Value::Object(self.items("}", |parser| parser.member(depth - 1))?))
+        } else if self.takes("null") {
+            Ok(Value::Null)
+        } else if self.takes("true") {
+            Ok(Value::Bool(true))
+        } else if self.takes("false") {
+            Ok(Value::Bool(false))
+        } else {
+            self.number()
         }
     }
 
-    fn word(&mut self) -> Result<Value<'a>, Error> {
-        for (word, value) in [("null", Value::Null), ("true", Value::Bool(true)), ("false", Value::Bool(false))] {
-            if let Some(rest) = self.rest.strip_prefix(word) {
-                self.rest = rest;
-                return Ok(value);
+    // Reads the items up to a bracket, with commas between them.
+    fn items<T>(
+        &mut self,
+        close: &str,
+        mut item: impl FnMut(&mut Self) -> Result<T, Error>,
+    ) -> Result<Vec<T>, Error> {
+        let mut items = Vec::new(self.alloc);
+        if self.takes(close) {
+            return Ok(items);
+        }
+        loop {
+            items.push(item(self)?).map_err(|_| Error::OutOfMemory)?;
+            if self.takes(close) {
+                return Ok(items);
             }
+            self.expect(",")?;
         }
-        Err(Error::Invalid)
     }
 
+    fn member(&mut self, depth: usize) -> Result<(&'a str, Value<'a>), Error> {
+        self.expect("\"")?;
+        let name = self.string()?;
+        self.expect(":")?;
+        Ok((name, self.value(depth)?))
+    }
+
+    // Reads a string after its first quote.
     fn string(&mut self) -> Result<&'a str, Error> {
-        let (string, rest) = self.strings.next(self.rest).ok_or(Error::Invalid)?;
+        let (string, rest) = self.room.string(self.rest).ok_or(Error::Invalid)?;
         self.rest = rest;
         Ok(string)
     }
 
-    fn array(&mut self, depth: usize) -> Result<Value<'a>, Error> {
-        let mut items = Vec::new(self.alloc);
-        self.expect('[')?;
-        if self.takes(']') {
-            return Ok(Value::Array(items));
-        }
-        loop {
-            items.push(self.value(depth)?).map_err(AllocError::from)?;
-            if self.takes(']') {
-                return Ok(Value::Array(items));
-            }
-            self.expect(',')?;
-        }
-    }
-
-    fn object(&mut self, depth: usize) -> Result<Value<'a>, Error> {
-        let mut members = Vec::new(self.alloc);
-        self.expect('{')?;
-        if self.takes('}') {
-            return Ok(Value::Object(members));
-        }
-        loop {
-            self.skip_space();
-            let name = self.string()?;
-            self.expect(':')?;
-            members.push((name, self.value(depth)?)).map_err(AllocError::from)?;
-            if self.takes('}') {
-                return Ok(Value::Object(members));
-            }
-            self.expect(',')?;
-        }
-    }
-
     fn number(&mut self) -> Result<Value<'a>, Error> {
-        let text = self.rest;
-        self.rest = self.rest.strip_prefix('-').unwrap_or(self.rest);
-        let leads = self.rest.starts_with('0');
-        if self.digits()? > 1 && leads {
-            return Err(Error::Invalid);
-        }
-        if let Some(rest) = self.rest.strip_prefix('.') {
-            self.rest = rest;
-            self.digits()?;
-        }
-        if let Some(rest) = self.rest.strip_prefix(['e', 'E']) {
-            self.rest = rest.strip_prefix(['+', '-']).unwrap_or(rest);
-            self.digits()?;
-        }
-        Ok(Value::Number(&text[..text.len() - self.rest.len()]))
-    }
-
-    // Takes digits, at least one, and returns how many.
-    fn digits(&mut self) -> Result<usize, Error> {
-        let rest = self.rest.trim_start_matches(|character: char| character.is_ascii_digit());
-        let count = self.rest.len() - rest.len();
+        let is_part =
+            |character: char| matches!(character, '0'..='9' | '+' | '-' | '.' | 'e' | 'E');
+        let rest = self.rest.trim_start_matches(is_part);
+        let text = &self.rest[..self.rest.len() - rest.len()];
         self.rest = rest;
-        if count > 0 { Ok(count) } else { Err(Error::Invalid) }
+        if is_number(text) { Ok(Value::Number(text)) } else { Err(Error::Invalid) }
     }
+}
+
+fn is_number(text: &str) -> bool {
+    let text = text.strip_prefix('-').unwrap_or(text);
+    let (text, exponent) = text.split_once(['e', 'E']).unwrap_or((text, "0"));
+    let (integer, fraction) = text.split_once('.').unwrap_or((text, "0"));
+    let exponent = exponent.strip_prefix(['+', '-']).unwrap_or(exponent);
+    let are_digits =
+        |part: &str| !part.is_empty() && part.bytes().all(|byte| byte.is_ascii_digit());
+    [integer, fraction, exponent].into_iter().all(are_digits)
+        && (integer == "0" || !integer.starts_with('0'))
 }

@@ -1,8 +1,11 @@
 //! What the erased crates use of the proved toolchain's `std` and crates, over Rust's own.
 //!
-//! Each module has the name and the calls of the one that it replaces. Nothing here is proved: `docs` says where each is tested.
-//! Only [`atomic_table`] and [`boxed`] have unsafe code, with its argument beside it.
-#![deny(unsafe_code)]
+//! Each module has the name and the calls of the one that it replaces. Nothing here is proved: the
+//! crate's own tests and the comparison of both editions test it.
+#![forbid(unsafe_code)]
+
+#[macro_use]
+mod macros;
 
 pub mod alloc;
 pub mod arrayvec;
@@ -19,7 +22,6 @@ pub mod hex;
 pub mod io;
 pub mod itoa;
 pub mod json;
-mod macros;
 pub mod rt;
 pub mod snapshot;
 pub mod string;
@@ -27,7 +29,9 @@ pub mod sync;
 pub mod thread;
 pub mod vec;
 
-pub use std::{array, cmp, convert, error, fmt, hash, iter, marker, mem, num, ops, process, slice, str, time};
+pub use std::{
+    array, cmp, convert, error, fmt, hash, iter, marker, mem, num, ops, process, slice, str, time,
+};
 
 /// The names that each erased file has in scope.
 pub mod prelude {

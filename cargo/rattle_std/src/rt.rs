@@ -2,7 +2,6 @@
 
 use crate::alloc::Global;
 use crate::fs::{File, Files};
-use std::fs;
 use std::io::{self, IsTerminal, Write};
 use std::os::fd::AsFd;
 
@@ -20,31 +19,27 @@ pub trait Input {
     }
 }
 
+/// What has a standard error, for the report of `main`.
 pub trait Eprint {}
 
-/// What has words of a command line.
+/// What has the words of a command line.
 pub trait Env {}
 
 /// The handle of the process's runtime, that `main` of a proved program is given.
-#[derive(Clone, Copy, Debug)]
-pub struct HostRuntime(());
+#[derive(Clone, Copy, Debug, Default)]
+pub struct HostRuntime;
 
 impl HostRuntime {
-    #[allow(clippy::new_without_default)]
     pub fn new() -> Self {
-        HostRuntime(())
-    }
-
-    pub fn alloc(&self) -> Global {
-        Global
+        HostRuntime
     }
 
     pub fn stdout(&self) -> Output {
-        Output::over(&io::stdout())
+        Output::over(io::stdout())
     }
 
     pub fn stderr(&self) -> Output {
-        Output::over(&io::stderr())
+        Output::over(io::stderr())
     }
 }
 
@@ -57,30 +52,26 @@ impl Files for HostRuntime {
     type File = File;
 }
 
-/// A stream of the process without a buffer. Each failed write is told.
+/// A stream of the process without a buffer. Each failed write is reported.
 #[derive(Debug)]
-pub struct Output(Option<fs::File>);
+pub struct Output(Option<File>);
 
 impl Output {
-    fn over(stream: &impl AsFd) -> Self {
-        Output(stream.as_fd().try_clone_to_owned().map(fs::File::from).ok())
+    fn over(stream: impl AsFd) -> Self {
+        Output(stream.as_fd().try_clone_to_owned().map(File::from).ok())
     }
 
     pub fn is_terminal(&self) -> bool {
         self.0.as_ref().is_some_and(IsTerminal::is_terminal)
     }
-
-    fn stream(&mut self) -> io::Result<&mut fs::File> {
-        self.0.as_mut().ok_or_else(|| io::ErrorKind::NotConnected.into())
-    }
 }
 
 impl Write for Output {
     fn write(&mut self, bytes: &[u8]) -> io::Result<usize> {
-        self.stream()?.write(bytes)
+        self.0.as_mut().ok_or(io::ErrorKind::NotConnected)?.write(bytes)
     }
 
     fn flush(&mut self) -> io::Result<()> {
-        self.stream()?.flush()
+        Ok(())
     }
 }

@@ -2,10 +2,9 @@
 
 use crate::alloc::{AllocError, AllocFailed, Global};
 use crate::rt::HostRuntime;
-use std::iter;
 use std::marker::PhantomData;
 use std::ops::Deref;
-use std::sync;
+use std::{iter, sync};
 
 pub use std::sync::atomic;
 

@@ -1,10 +1,9 @@
 //! Threads.
 
 use crate::rt::HostRuntime;
-use std::io;
 use std::marker::PhantomData;
-use std::thread;
 use std::time::Duration;
+use std::{io, thread};
 
 pub use std::thread::yield_now;
 
@@ -24,8 +23,7 @@ pub fn spawn_with<R: Threads, T: Send + 'static, P: Promise<T>>(
     _promise: P,
     run: impl FnOnce() -> T + Send + 'static,
 ) -> io::Result<PromisedHandle<T, P>> {
-    let handle = thread::Builder::new().spawn(run)?;
-    Ok(PromisedHandle(handle, PhantomData))
+    Ok(PromisedHandle(thread::Builder::new().spawn(run)?, PhantomData))
 }
 
 impl<T, P> PromisedHandle<T, P> {
@@ -34,13 +32,13 @@ impl<T, P> PromisedHandle<T, P> {
     }
 }
 
-/// Parks its thread. Nobody has its other end, so it rests for as long as it is told.
+/// Parks its thread. Nobody has its other end, so it always rests for the full duration.
 #[derive(Debug, Default)]
-pub struct Parker(());
+pub struct Parker;
 
 impl Parker {
     pub fn new() -> Self {
-        Parker(())
+        Parker
     }
 
     pub fn park_timeout<R>(&self, _rt: &R, duration: Duration) {

@@ -2,14 +2,13 @@
 
 use crate::alloc::{AllocError, AllocFailed, Global};
 use std::marker::PhantomData;
-use std::ops::{Deref, DerefMut};
 use std::{io, slice, vec};
 
+/// Rust's own vector, whose methods that grow it return an error if memory is refused.
 #[derive(Debug, PartialEq, Eq, Hash)]
-pub struct Vec<T, A = Global> {
-    items: vec::Vec<T>,
-    alloc: PhantomData<A>,
-}
+pub struct Vec<T, A = Global>(vec::Vec<T>, PhantomData<A>);
+
+derefs!(Vec<T, A> as vec::Vec<T>, self.0);
 
 impl<T, A> Vec<T, A> {
     pub fn new(_alloc: A) -> Self {
@@ -22,143 +21,82 @@ impl<T, A> Vec<T, A> {
         Ok(items)
     }
 
-    pub fn from_elem(alloc: A, item: T, count: usize) -> Result<Self, AllocError>
-    where
-        T: Clone,
-    {
-        let mut items = Vec::with_capacity(alloc, count)?;
-        items.items.resize(count, item);
-        Ok(items)
-    }
-
-    pub fn from_slice(alloc: A, from: &[T]) -> Result<Self, AllocError>
-    where
-        T: Clone,
-    {
-        let mut items = Vec::with_capacity(alloc, from.len())?;
-        items.items.extend_from_slice(from);
-        Ok(items)
-    }
-
     pub fn reserve(&mut self, more: usize) -> Result<(), AllocError> {
-        self.items.try_reserve(more).map_err(|_| AllocError)
+        Ok(self.0.try_reserve(more)?)
     }
 
     pub fn reserve_exact(&mut self, more: usize) -> Result<(), AllocError> {
-        self.items.try_reserve_exact(more).map_err(|_| AllocError)
+        Ok(self.0.try_reserve_exact(more)?)
     }
 
     #[inline]
     pub fn push(&mut self, item: T) -> Result<(), AllocFailed<T>> {
-        if self.items.len() == self.items.capacity() && self.items.try_reserve(1).is_err() {
+        if self.0.len() == self.0.capacity() && self.0.try_reserve(1).is_err() {
             return Err(AllocFailed { value: item });
         }
-        self.items.push(item);
+        self.0.push(item);
         Ok(())
     }
 
     /// Appends an item for which there is room.
     #[inline]
     pub fn push_reserved(&mut self, item: T) {
-        self.items.push(item);
-    }
-
-    pub fn insert(&mut self, index: usize, item: T) -> Result<(), AllocFailed<T>> {
-        if self.items.try_reserve(1).is_err() {
-            return Err(AllocFailed { value: item });
-        }
-        self.items.insert(index, item);
-        Ok(())
-    }
-
-    pub fn extend_from_slice(&mut self, more: &[T]) -> Result<(), AllocError>
-    where
-        T: Clone,
-    {
-        self.reserve(more.len())?;
-        self.items.extend_from_slice(more);
-        Ok(())
+        debug_assert!(self.0.len() < self.0.capacity());
+        self.0.push(item);
     }
 
     pub fn append(&mut self, other: &mut Self) -> Result<(), AllocError> {
         self.reserve(other.len())?;
-        self.items.append(&mut other.items);
-        Ok(())
-    }
-
-    pub fn resize(&mut self, len: usize, item: T) -> Result<(), AllocError>
-    where
-        T: Clone,
-    {
-        self.reserve(len.saturating_sub(self.items.len()))?;
-        self.items.resize(len, item);
+        self.0.append(other);
         Ok(())
     }
 
     /// Takes the last item of a vector that isn't empty.
     pub fn take_last(&mut self) -> T {
-        self.items.pop().expect("the vector isn't empty")
-    }
-
-    pub fn pop(&mut self) -> Option<T> {
-        self.items.pop()
-    }
-
-    pub fn remove(&mut self, index: usize) -> T {
-        self.items.remove(index)
-    }
-
-    pub fn clear(&mut self) {
-        self.items.clear();
-    }
-
-    pub fn truncate(&mut self, len: usize) {
-        self.items.truncate(len);
-    }
-
-    pub fn capacity(&self) -> usize {
-        self.items.capacity()
-    }
-
-    pub fn as_slice(&self) -> &[T] {
-        &self.items
-    }
-
-    pub fn as_mut_slice(&mut self) -> &mut [T] {
-        &mut self.items
+        self.0.pop().expect("the vector isn't empty")
     }
 
     /// Returns Rust's own vector of the same items. Nothing is copied.
     pub fn into_std(self) -> vec::Vec<T> {
-        self.items
+        self.0
+    }
+}
+
+impl<T: Clone, A> Vec<T, A> {
+    pub fn from_elem(alloc: A, item: T, count: usize) -> Result<Self, AllocError> {
+        let mut items = Vec::with_capacity(alloc, count)?;
+        items.0.resize(count, item);
+        Ok(items)
+    }
+
+    pub fn from_slice(alloc: A, from: &[T]) -> Result<Self, AllocError> {
+        let mut items = Vec::with_capacity(alloc, from.len())?;
+        items.0.extend_from_slice(from);
+        Ok(items)
+    }
+
+    pub fn extend_from_slice(&mut self, more: &[T]) -> Result<(), AllocError> {
+        self.reserve(more.len())?;
+        self.0.extend_from_slice(more);
+        Ok(())
+    }
+
+    pub fn resize(&mut self, len: usize, item: T) -> Result<(), AllocError> {
+        self.reserve(len.saturating_sub(self.len()))?;
+        self.0.resize(len, item);
+        Ok(())
     }
 }
 
 impl<T, A> From<vec::Vec<T>> for Vec<T, A> {
     fn from(items: vec::Vec<T>) -> Self {
-        Vec { items, alloc: PhantomData }
-    }
-}
-
-impl<T, A> Deref for Vec<T, A> {
-    type Target = [T];
-
-    #[inline]
-    fn deref(&self) -> &[T] {
-        &self.items
+        Vec(items, PhantomData)
     }
 }
 
 impl<T, A> AsRef<[T]> for Vec<T, A> {
     fn as_ref(&self) -> &[T] {
-        &self.items
-    }
-}
-
-impl<T, A> DerefMut for Vec<T, A> {
-    #[inline]
-    fn deref_mut(&mut self) -> &mut [T] {
-        &mut self.items
+        &self.0
     }
 }
 
@@ -167,7 +105,7 @@ impl<T, A> IntoIterator for Vec<T, A> {
     type IntoIter = vec::IntoIter<T>;
 
     fn into_iter(self) -> vec::IntoIter<T> {
-        self.items.into_iter()
+        self.0.into_iter()
     }
 }
 
@@ -176,16 +114,7 @@ impl<'a, T, A> IntoIterator for &'a Vec<T, A> {
     type IntoIter = slice::Iter<'a, T>;
 
     fn into_iter(self) -> slice::Iter<'a, T> {
-        self.items.iter()
-    }
-}
-
-impl<'a, T, A> IntoIterator for &'a mut Vec<T, A> {
-    type Item = &'a mut T;
-    type IntoIter = slice::IterMut<'a, T>;
-
-    fn into_iter(self) -> slice::IterMut<'a, T> {
-        self.items.iter_mut()
+        self.0.iter()
     }
 }
 
@@ -201,25 +130,24 @@ impl<A> io::Write for Vec<u8, A> {
 }
 
 /// The methods of a slice that take an allocator.
-pub trait SliceWith<T> {
-    fn to_vec_with(&self, alloc: Global) -> Result<Vec<T>, AllocError>
-    where
-        T: Clone;
-
-    /// Sorts the items by their keys. Items of one key stay in order. Rust's own sort ends the process if memory is refused.
-    fn sort_by_key_with<K: Ord>(&mut self, alloc: Global, key: impl FnMut(&T) -> K) -> Result<(), AllocError>;
-}
-
-impl<T> SliceWith<T> for [T] {
+pub trait SliceWith<T>: AsRef<[T]> + AsMut<[T]> {
     fn to_vec_with(&self, alloc: Global) -> Result<Vec<T>, AllocError>
     where
         T: Clone,
     {
-        Vec::from_slice(alloc, self)
+        Vec::from_slice(alloc, self.as_ref())
     }
 
-    fn sort_by_key_with<K: Ord>(&mut self, _alloc: Global, key: impl FnMut(&T) -> K) -> Result<(), AllocError> {
-        self.sort_by_key(key);
+    /// Sorts the items by their keys. Items of one key stay in order. Rust's own sort ends the
+    /// process if memory is refused.
+    fn sort_by_key_with<K: Ord>(
+        &mut self,
+        _alloc: Global,
+        key: impl FnMut(&T) -> K,
+    ) -> Result<(), AllocError> {
+        self.as_mut().sort_by_key(key);
         Ok(())
     }
 }
+
+impl<T> SliceWith<T> for [T] {}

@@ -2,7 +2,7 @@
 
 use rattle_std::alloc::{AllocError, AllocFailed, Global};
 use rattle_std::arrayvec::{ArrayVec, CapacityError};
-use rattle_std::boxed::Box;
+use rattle_std::boxed::{self, Box};
 use rattle_std::collections::{BTreeMap, VecDeque};
 use rattle_std::string::String;
 use rattle_std::sync::Arc;
@@ -29,11 +29,6 @@ fn change(ours: &mut Vec<u32>, theirs: &mut std::vec::Vec<u32>, random: &mut Ran
         0 | 1 => {
             assert!(ours.push(item).is_ok());
             theirs.push(item);
-        }
-        2 => {
-            let place = random.below(len + 1);
-            assert!(ours.insert(place, item).is_ok());
-            theirs.insert(place, item);
         }
         3 if len > 0 => {
             let place = random.below(len);
@@ -86,7 +81,7 @@ fn vector_is_rusts_own() {
         }
         assert!(ours.iter().eq(&theirs) && (&ours).into_iter().eq(&theirs));
         ours.as_mut_slice().iter_mut().for_each(|item| *item += 1);
-        (&mut ours).into_iter().for_each(|item| *item -= 1);
+        ours.iter_mut().for_each(|item| *item -= 1);
         assert_eq!(ours.to_vec_with(Global).unwrap(), ours);
         assert_eq!(ours.into_iter().collect::<std::vec::Vec<_>>(), theirs);
     }
@@ -173,11 +168,11 @@ fn boxes_go_to_raw_and_back() {
     let pointer = Box::into_raw(boxed);
     assert_eq!(Rc::strong_count(&counted), 2);
     // SAFETY: the pointer is what `into_raw` returned.
-    drop(unsafe { Box::from_raw(Global, pointer) });
+    drop(unsafe { boxed::from_raw!(Global, pointer) as Box<_> });
     assert_eq!(Rc::strong_count(&counted), 1);
     let empty = Box::new(Global, ()).ok().unwrap();
     // SAFETY: as above. A type without bytes takes no memory.
-    drop(unsafe { Box::from_raw(Global, Box::into_raw(empty)) });
+    drop(unsafe { boxed::from_raw!(Global, Box::into_raw(empty)) as Box<_> });
 }
 
 #[test]
@@ -250,7 +245,7 @@ fn map_in_order_is_rusts_own() {
 fn vector_in_place_is_a_vector_of_few() {
     let random = &mut Random(5);
     for _ in 0..300 {
-        let (mut ours, mut theirs) = (ArrayVec::<u32, 8>::default(), std::vec::Vec::new());
+        let (mut ours, mut theirs) = (ArrayVec::<u32, 8>::new(), std::vec::Vec::new());
         for item in 0..50 {
             let count = random.below(5);
             let more = &[item, item + 1, item + 2, item + 3][..count];
@@ -268,7 +263,7 @@ fn vector_in_place_is_a_vector_of_few() {
                     ours.clear();
                     theirs.clear();
                 }
-                _ => ours.as_mut_slice().iter_mut().zip(&mut theirs).for_each(|(one, other)| {
+                _ => ours.iter_mut().zip(&mut theirs).for_each(|(one, other)| {
                     *one += 1;
                     *other += 1;
                 }),

@@ -10,4 +10,5 @@ mod limits;
 mod lines;
 mod resolver;
 mod serving;
+mod shards;
 mod step_map;

@@ -152,7 +152,7 @@ fn turns_and_accounts_in_one_thread() {
         }
         service.settle();
         assert!(service.resolver.settle(&mut service.clients).complete);
-        for client in &mut service.clients {
+        for client in service.clients.iter_mut() {
             assert!(matches!(client.replies.take(), Taken::End));
         }
         calls

@@ -10,6 +10,8 @@ use Rattle.keys.specs.declared.ranks.sorting.Headed.{Headed}
 use Rattle.keys.specs.Sorting.{begin_at, AreInBeginOrder}
 use Rattle.keys.proofs.callers.KeyOrder.{at_most_before, at_most_trans}
 use Rattle.keys.proofs.Sorting.{no_headed}
+use Rattle.keys.specs.Numbering.{told_below, HeadsTell}
+use Rattle.keys.proofs.EndHeads.{told_same}
 use Rattle.keys.proofs.Reaching.{begins_rise, AreSplit}
 
 -- a range before one that begins below the end does so too
@@ -43,6 +45,17 @@ part_within : (headed : List Headed) (from count k : ℕ) → k < length (take c
     → from + k < length headed
 part_within headed from count k lt = omega (arith, length-take count (drop from headed), length-drop from headed)
 
+-- a part is in the order of the begins too
+pub part_sorted : (ranges : List Range) (headed : List Headed) (from count : ℕ) → AreInBeginOrder ranges headed
+    → AreInBeginOrder ranges (take count (drop from headed))
+part_sorted ranges headed from count sorted k d low lt =
+    let next : from + (k + 1) ≡ from + k + 1 = omega arith in
+    let before = λ (a b : Headed). is_before (begin_at ranges a.index) (begin_at ranges b.index) ≡ false in
+    subst (λ (h : Headed). before h (get_or (take count (drop from headed)) k d))
+    (sym (part_at headed from count (k + 1) d lt ∙ ap (λ n. get_or headed n d) next))
+    (subst (before (get_or headed (from + k + 1) d)) (sym (part_at headed from count k d (omega arith)))
+    (sorted (from + k) d (omega arith) (omega (arith, part_within headed from count (k + 1) lt))))
+
 -- in a part too no range that begins below the end comes after one that doesn't
 pub part_split : (ranges : List Range) (headed : List Headed) (end : List ℕ) (from count : ℕ)
     → AreInBeginOrder ranges headed
@@ -52,6 +65,32 @@ part_split ranges headed end from count sorted i j d le lt below =
     (below_before ranges headed end (from + i) (from + j) d sorted (omega arith)
     (part_within headed from count j lt)
     (subst (λ (h : Headed). IsBefore (begin_at ranges h.index) end) (part_at headed from count j d lt) below))
+
+-- where heads tell of all ranges, what is told of those in a part is so
+module _ (ranges : List Range) (headed : List Headed) (end : List ℕ) (head from count : ℕ)
+    (tell : All (HeadsTell ranges end head) headed) where
+  abbrev part : List Headed
+  part = take count (drop from headed)
+
+  told_at : (k : ℕ) (d : Headed) → k < length part
+      → told_below ranges end head (get_or part k d) ≡ is_before (begin_at ranges (get_or part k d).index) end
+  told_at k d lt =
+      told_same ranges end head (get_or part k d)
+      (subst (HeadsTell ranges end head) (sym (part_at headed from count k d lt))
+      (tell (from + k) d (part_within headed from count k lt)))
+
+  pub told_split : AreInBeginOrder ranges headed → IsPartitionedBy (told_below ranges end head) part
+  told_split sorted i j d le lt below =
+      told_at i d (omega arith) ∙ part_split ranges headed end from count sorted i j d le lt (sym (told_at j d lt) ∙ below)
+
+  pub told_point : (i : ℕ) → i ≤ length part
+      → IsPartitionPoint (λ h. told_below ranges end head h ≡ true) (λ h. told_below ranges end head h ≡ false) part i
+      → IsPartitionPoint (λ (h : Headed). is_before (begin_at ranges h.index) end ≡ true)
+      (λ h. is_before (begin_at ranges h.index) end ≡ false) part i
+  told_point i few point = (
+    λ j d low lt. sym (told_at j d (omega arith)) ∙ point.0 j d low lt,
+    λ j d low lt. sym (told_at j d lt) ∙ point.1 j d low lt,
+  )
 
 -- the place in the part is that in the whole
 pub whole_split : (ranges : List Range) (headed : List Headed) (end : List ℕ) (from last i : ℕ)
@@ -109,3 +148,17 @@ pub behind_split : (ranges : List Range) (headed : List Headed) (end : List ℕ)
 behind_split ranges headed end m split = λ k d lt.
     subst (λ (h : Headed). IsAtMost end (begin_at ranges h.index)) (sym (get_or-drop m headed k d))
     (split.behind (m + k) d (omega arith) (omega (arith, length-drop m headed)))
+
+-- no range begins below an end that the first doesn't begin below
+pub none_below : (ranges : List Range) (headed : List Headed) (end : List ℕ) → AreInBeginOrder ranges headed
+    → 0 < length headed → IsAtMost end (begin_at ranges (get_or headed 0 no_headed).index)
+    → All (λ h. IsAtMost end (begin_at ranges h.index)) (drop 0 headed)
+none_below ranges headed end sorted some behind = λ k d lt.
+    let first = get_or headed 0 no_headed in
+    subst (λ (h : Headed). IsAtMost end (begin_at ranges h.index)) (get_or_default headed k no_headed d lt)
+    (at_most_trans end (begin_at ranges first.index) (begin_at ranges (get_or headed k no_headed).index) behind
+    (begins_rise ranges headed 0 k no_headed sorted (omega arith) lt))
+
+pub none_listed : (ranges : List Range) (headed : List Headed) (end : List ℕ) → length headed ≡ 0
+    → All (λ h. IsAtMost end (begin_at ranges h.index)) (drop 0 headed)
+none_listed ranges headed end none = λ k d lt. absurd (omega (arith, none, length-drop 0 headed))

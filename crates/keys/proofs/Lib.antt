@@ -5,12 +5,16 @@ pub mod ShiftedHead
 pub mod Values
 pub mod Heads
 pub mod Sorting
+pub mod Tied
 pub mod Digits
 pub mod Counting
 pub mod Ranking
 pub mod Kept
 pub mod Numbering
+pub mod SingleKeys
 pub mod Reaching
+pub mod Hashed
+pub mod EndHeads
 pub mod Galloping
 pub mod Filled
 pub mod Chosen

@@ -1,27 +1,46 @@
 -- How far the runs of ranges reach, once the begins are numbered.
 use Rattle.std.proofs.Common.{◌≡◌, ℕ, ◌+◌, ◌-◌, ◌<◌, ◌≤◌, List, [], ◌∷◌, ◌++◌, length, get_or, set, take, drop, sym, ap, subst, ◌∙◌, inl, inr, arith, not, length-drop, get_or-drop}
-use Rattle.std.specs.Prelude.{All, Contains}
+use Rattle.std.specs.Prelude.{All, Contains, Some, slice_get}
 use Rattle.std.proofs.lemmas.Bool.{cases_eq, cases_lt}
 use Rattle.std.proofs.lemmas.Cmp.{nat_list_cmp_total}
 use Rattle.std.proofs.lemmas.List.{get_or_default, get_or-set_other, get_or-set_same, get_or-take, map_push, take_more, length-take-le}
-use Rattle.std.proofs.lemmas.List.Elements.{All-nil, All-push, Contains-get_or}
+use Rattle.std.proofs.lemmas.List.Elements.{All-contains, All-nil, All-push, Contains-get_or}
 use Rattle.std.proofs.lemmas.List.Sorted.{ranks_by, sorted_far}
 use Rattle.keys.specs.Key.{is_before, IsBefore, IsAtMost}
 use Rattle.keys.specs.declared.range.Range.{Range}
 use Rattle.keys.specs.declared.ranks.sorting.Headed.{Headed}
+use Rattle.keys.specs.Range.{IsSingle}
 use Rattle.keys.specs.Ranks.{rank}
-use Rattle.keys.specs.Sorting.{begin_at, indices_of, AreInBeginOrder}
-use Rattle.keys.specs.Numbering.{end_at, run_at, AreEachOnce, AreNumbered, HasRun, IsFilledAt, OthersStay}
+use Rattle.keys.specs.Sorting.{begin_at, begin_of, indices_of, AreInBeginOrder}
+use Rattle.keys.specs.Numbering.{end_at, end_of, run_at, AreEachOnce, AreNumbered, HasRun, IsFilledAt, IsNumbered, OthersStay}
 use Rattle.keys.proofs.callers.KeyOrder.{at_most_before, before_at_most, not_before_if}
 use Rattle.keys.proofs.Sorting.{no_headed}
 use Rattle.keys.proofs.Ranking.{rank_behind, rank_same}
-use Rattle.keys.proofs.Values.{value_of}
+use Rattle.keys.proofs.SingleKeys.{rank_behind_key}
+use Rattle.keys.proofs.Values.{begin_of_listed, contains_value, value_of}
+
+-- there is a range at the index, and it is a single key
+abbrev pub IsSingleAt : List Range → ℕ → Type 0
+IsSingleAt ranges index = (range : Range) × (slice_get ranges index ≡ Some range) × IsSingle range
 
 -- The runs at all of the indices begin with the numbers of their ranges' begins. Those at the indices that are done end
--- where their ranges end.
+-- where their ranges end, and so do those of single keys.
 pub record AreReached (ranges : List Range) (keys : List (List ℕ)) (all done : List ℕ) (runs : List (ℕ × ℕ)) : Type 0 where
   pub begins : All (λ i. (run_at runs i).0 ≡ rank keys (begin_at ranges i)) all
   pub ends : All (λ i. (run_at runs i).1 ≡ rank keys (end_at ranges i)) done
+  pub singles : (i : ℕ) → Contains all i → IsSingleAt ranges i → (run_at runs i).1 ≡ rank keys (end_at ranges i)
+
+-- a single key ends before the next other begin
+single_reached : (ranges : List Range) (headed : List Headed) (keys : List (List ℕ)) (begins : ℕ)
+    (runs : List (ℕ × ℕ)) → AreNumbered ranges headed keys begins runs → (i : ℕ) → Contains (indices_of headed) i
+    → IsSingleAt ranges i → (run_at runs i).1 ≡ rank keys (end_at ranges i)
+single_reached ranges headed keys begins runs are i listed (range, at, single) =
+    let key = begin_at ranges i in
+    let end : end_at ranges i ≡ key ++ 0 ∷ [] =
+    ap end_of at ∙ (single ∙ ap (λ (k : List ℕ). k ++ 0 ∷ []) (sym (ap begin_of at))) in
+    let has = (are.each_once.same key).0 (begin_of_listed ranges headed i listed) in
+    ap (λ (run : ℕ × ℕ). run.1) (All-contains (IsNumbered ranges keys runs) (indices_of headed) i are.numbers listed)
+    ∙ sym (ap (rank keys) end ∙ rank_behind_key keys key are.each_once.rising has)
 
 pub none_reached : (ranges : List Range) (headed : List Headed) (keys : List (List ℕ)) (begins : ℕ)
     (runs : List (ℕ × ℕ)) → AreNumbered ranges headed keys begins runs
@@ -29,6 +48,7 @@ pub none_reached : (ranges : List Range) (headed : List Headed) (keys : List (Li
 none_reached ranges headed keys begins runs are = record {
   begins = λ k d lt. ap (λ (run : ℕ × ℕ). run.0) (are.numbers k d lt);
   ends = All-nil (λ i. (run_at runs i).1 ≡ rank keys (end_at ranges i));
+  singles = single_reached ranges headed keys begins runs are;
 }
 
 -- both sides of a run that is reached
@@ -72,6 +92,7 @@ module _ (ranges : List Range) (keys : List (List ℕ)) (all done : List ℕ) (r
     begins = λ k d lt. begin_stays (get_or all k d) ∙ were.begins k d lt;
     ends = All-push (λ i. (run_at moved i).1 ≡ rank keys (end_at ranges i)) done index
         (λ k d lt. end_there (get_or done k d) (were.ends k d lt)) (ap (λ (run : ℕ × ℕ). run.1) here ∙ is);
+    singles = λ i has single. end_there i (were.singles i has single);
   }
 
 -- the next of the ranges is reached
@@ -90,6 +111,23 @@ reached_more ranges keys headed i reached runs below were within is =
     (sym (map_push (λ (h : Headed). h.index) (take i headed) d))
     (reached_next ranges keys (indices_of headed) (indices_of (take i headed)) runs d.index reached were within is))
 
+-- the next of the ranges is reached as it is, if it is a single key
+pub single_more : (ranges : List Range) (keys : List (List ℕ)) (headed : List Headed) (i : ℕ) (runs : List (ℕ × ℕ))
+    → i < length headed → AreReached ranges keys (indices_of headed) (indices_of (take i headed)) runs
+    → IsSingleAt ranges (get_or headed i no_headed).index
+    → AreReached ranges keys (indices_of headed) (indices_of (take (i + 1) headed)) runs
+single_more ranges keys headed i runs below were single =
+    let d = get_or headed i no_headed in
+    let listed = contains_value (λ (h : Headed). h.index) headed d (Contains-get_or headed i no_headed below) in
+    subst (λ hs. AreReached ranges keys (indices_of headed) (indices_of hs) runs) (sym (take_more headed i no_headed below))
+    (subst (λ is. AreReached ranges keys (indices_of headed) is runs)
+    (sym (map_push (λ (h : Headed). h.index) (take i headed) d)) (record {
+      begins = were.begins;
+      ends = All-push (λ i. (run_at runs i).1 ≡ rank keys (end_at ranges i)) (indices_of (take i headed)) d.index were.ends
+          (were.singles d.index listed single);
+      singles = were.singles;
+    }))
+
 -- a later range doesn't begin before an earlier one
 pub begins_rise : (ranges : List Range) (headed : List Headed) (i j : ℕ) (d : Headed) → AreInBeginOrder ranges headed
     → i ≤ j → j < length headed
@@ -100,7 +138,7 @@ begins_rise ranges headed i j d sorted le lt =
     (sorted_far (λ a b. is_before (begin a) (begin b)) (ranks_by nat_list_cmp_total begin) headed sorted i j d le lt)
 
 -- a range that isn't empty begins before its end
-begin_before_end : (ranges : List Range) (index : ℕ) → IsFilledAt ranges index
+pub begin_before_end : (ranges : List Range) (index : ℕ) → IsFilledAt ranges index
     → IsBefore (begin_at ranges index) (end_at ranges index)
 begin_before_end ranges index (range, at, filled) = rw at filled
 

@@ -1,5 +1,7 @@
 -- The runs of ranges while they are set: by the numbers of their begins first, and then by their ends. This project's own.
-use Rattle.std.specs.Prelude.{◌≡◌, ◌↔◌, ℕ, ◌+◌, true, List, [], length, Option, Some, None, slice_get, slice_index_or, All, Contains}
+use Rattle.std.specs.Prelude.{◌≡◌, ◌≢◌, ◌↔◌, ◌⊎◌, ℕ, ◌+◌, ◌-◌, ◌^◌, ◌<◌, ◌==◌, nat_lt, Bool, true, if◌then◌else◌, List, [], length, take, drop, Option, Some, None, slice_get, slice_index_or, All, Contains}
+use Rattle.keys.specs.Head.{head_of}
+use Rattle.keys.specs.Key.{is_before, IsBefore, IsAtMost}
 use Rattle.keys.specs.Range.{is_filled}
 use Rattle.keys.specs.Ranks.{rank, AreRising}
 use Rattle.keys.specs.Sorting.{begin_at, begins_of, indices_of}
@@ -49,3 +51,19 @@ HasRun ranges keys runs index =
 abbrev pub OthersStay : List Headed → List (ℕ × ℕ) → List (ℕ × ℕ) → Type 0
 OthersStay headed before after =
     (index : ℕ) → ¬ Contains (indices_of headed) index → run_at after index ≡ run_at before index
+
+-- the number is the head of the end behind the prefix, or the greatest one if the end doesn't begin with the prefix
+abbrev pub IsEndHead : List ℕ → List ℕ → ℕ → Type 0
+IsEndHead prefix end head =
+    ((take (length prefix) end ≡ prefix) × (head ≡ head_of (drop (length prefix) end)))
+    ⊎ ((take (length prefix) end ≢ prefix) × (head ≡ 2 ^ 64 - 1))
+
+-- the head of the range, if it isn't the number, tells whether the range begins below the end
+pub record HeadsTell (ranges : List Range) (end : List ℕ) (head : ℕ) (headed : Headed) : Type 0 where
+  pub less : headed.head < head → IsBefore (begin_at ranges headed.index) end
+  pub greater : head < headed.head → IsAtMost end (begin_at ranges headed.index)
+
+-- whether the range begins below the end: by its head, or by its begin if the head is the number
+abbrev pub told_below : List Range → List ℕ → ℕ → Headed → Bool
+told_below ranges end head headed =
+    if headed.head == head then is_before (begin_at ranges headed.index) end else nat_lt headed.head head

@@ -14,5 +14,6 @@ pub mod TablesRanges
 pub mod TablesTxns
 pub mod ReadHashes
 pub mod WriteMarks
+pub mod WriteOrder
 pub mod Putting
 pub mod TablesPut

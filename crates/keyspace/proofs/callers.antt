@@ -3,3 +3,4 @@ pub mod Judging
 pub mod Chains
 pub mod SameFields
 pub mod Rows
+pub mod Putting

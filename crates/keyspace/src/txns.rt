@@ -84,9 +84,9 @@ impl Txns {
         ensures fields { IfOk result (λ txns. map txn_fields txns ≡ txns_told buffer.items spans.items rows.items) }
     {
         let ranges = RangesRef::new(&buffer, &spans);
-        let (ranks, order) = Ranks::with_order(alloc, &ranges)?;
-        let write_order = list_writes(alloc, &order, &rows)?;
         let hashes = single_hashes(alloc, &ranges)?;
+        let (ranks, order) = Ranks::with_hashes(alloc, &ranges, &hashes)?;
+        let write_order = list_writes(alloc, order, &rows)?;
         Ok(Txns {
             buffer,
             spans,

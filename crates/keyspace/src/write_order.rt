@@ -9,20 +9,20 @@ use std::alloc::{AllocError, Global};
 
 /// Lists those of the indices that are of write ranges, in the order in which they are given, or returns an error if memory is
 /// refused. The indices are those of the ranges of the rows, one after the other.
-pub fn list_writes(alloc: Global, order: &[u32], rows: &[Row]) -> Result<Vec<u32>, AllocError>
+pub fn list_writes(alloc: Global, mut order: Vec<u32>, rows: &[Row]) -> Result<Vec<u32>, AllocError>
     requires rows { (count : ℕ) × AreRows 0 rows.now count }
-    requires within { All (λ index. index < length (marks_of_rows rows.now)) order.now }
-    ensures writes { IfOk result (λ writes. writes.items ≡ filter (is_write_of rows.now) order.now) }
+    requires within { All (λ index. index < length (marks_of_rows rows.now)) order.items }
+    ensures writes { IfOk result (λ writes. writes.items ≡ filter (is_write_of rows.now) order.items) }
 {
     let marks = mark_writes(alloc, rows)?;
-    let count = marks.iter().filter(|mark| **mark).count();
-    let mut writes = Vec::with_capacity(alloc, count)?;
-    for index in order {
-        if marks[*index as usize] {
-            writes.push(*index)?;
-        }
+    let mut len = 0;
+    for place in 0..order.len() {
+        // Each index is put down, and stays if it is a write range's: a branch on that would often be mispredicted.
+        let index = order[place];
+        order[len] = index;
+        len += usize::from(marks[index as usize]);
     }
-    Ok(writes)
+    Vec::from_slice(alloc, &order[..len])
 }
 
 // Returns for each range of the rows whether it is a write range.

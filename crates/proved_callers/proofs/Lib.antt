@@ -1,1 +1,2 @@
 pub mod TwoProxies
+pub mod Transferring

@@ -1,21 +1,24 @@
 -- Clients served in one thread: what each has sent and taken, beside a log for which the resolver stands.
-use Rattle.std.proofs.Common.{◌≡◌, ℕ, zero, suc, ◌<◌, Bool, true, List, [], ◌∷◌, length, map, Some, set, refl, sym, ap, ap₂, subst, ◌∙◌, inl, inr, arith}
-use Rattle.std.specs.Prelude.{ℤ, All, slice_get, slice_index_or}
+use Rattle.std.proofs.Common.{◌≡◌, ℕ, zero, suc, ◌<◌, Bool, List, [], ◌∷◌, length, map, Some, set, refl, sym, ap, ap₂, subst, ◌∙◌, inl, inr, arith}
+use Rattle.std.specs.Prelude.{ℤ, All, Option, None, IsSomeAnd, slice_get}
 use Rattle.std.proofs.lemmas.Bool.{cases_eq}
 use Rattle.std.proofs.lemmas.Option.{none-some, same_Some, slice_get_within, get_or_from_slice_get}
 use Rattle.std.proofs.lemmas.List.{length-set}
 use Rattle.std.proofs.lemmas.List.Elements.{All-get_or}
 use Rattle.keyspace.specs.declared.answer.Answer.{Answer}
 use Rattle.keyspace.specs.declared.batch.Batch.{Batch}
-use Rattle.keyspace.specs.Run.{Step, answers, part}
+use Rattle.keyspace.specs.Processed.{Processed}
+use Rattle.keyspace.specs.Run.{Step, run, answers, part}
+use Rattle.serial.specs.Replies.{IsSent, IsCommittedAt, ReportsCommitted}
 use Rattle.lane.specs.Lane.{PortGoesOn, IntakeGoesOn}
 use Rattle.resolver.specs.declared.client.Client.{Client}
 use Rattle.proved_callers.specs.declared.serving.Served.{Served}
 use Rattle.resolver.specs.Core.{GoesOn, IsBeginning}
-use Rattle.resolver.specs.Lanes.{Each, LanesGoOn}
+use Rattle.resolver.specs.declared.turn.Account.{Account}
+use Rattle.resolver.specs.Lanes.{Each, LanesGoOn, has_ended, sent_to}
 use Rattle.resolver.specs.Resolver.{ResolverState, IsResolving, TakesOnlyFrom, AreClients, IsNewClient}
 use Rattle.resolver.specs.Settled.{Settled, SettledFor}
-use Rattle.proved_callers.specs.Served.{ServedFor, AreServed, HasDone, AreServing}
+use Rattle.proved_callers.specs.Served.{ServedFor, IsOneOf, AreServed, HasDone, AreServing}
 use Rattle.resolver.proofs.callers.Lists.{slice_get-set_same, slice_get-set_other, slice_get_inside}
 use Rattle.resolver.proofs.callers.Later.{ClientGoesOn, port_same, intake_same, clients_same, clients_set, lanes_same, AreClients-later}
 
@@ -162,31 +165,59 @@ serving_opened window r clients capacity resolving window_is same count new = re
 }
 
 -- what was settled for a client, of its batches and answers
-served_for : (window : ℤ) (log : List Step) (ended complete : Bool) (proxy : ℕ) (c : Client) (batches : List Batch)
-    (told : List Answer) → SettledFor window log ended complete proxy c → HasDone batches told c
-    → ServedFor window log complete proxy batches told
-served_for window log ended complete proxy c batches told settled done = record {
+served_for : (window : ℤ) (log : List Step) (ended : Bool) (answers_sent : List Answer) (account : Account) (proxy : ℕ) (c : Client)
+    (batches : List Batch) (told : List Answer) → SettledFor window log ended answers_sent account proxy c
+    → ((version : ℤ) (j : ℕ) → ReportsCommitted c.replies.taken version j
+    → IsCommittedAt (run window log).processed proxy version j)
+    → HasDone batches told c → ServedFor window log account.complete proxy batches told
+served_for window log ended answers_sent account proxy c batches told settled reported done = record {
   batches = subst (IsBeginning (part log proxy)) done.sent settled.batches;
   all_batches = λ yes. settled.all_batches (settled.all_ended yes) ∙ done.sent;
-  in_order = subst (λ taken. IsBeginning taken (answers window log proxy)) done.taken settled.received;
-  all_received = λ yes. sym done.taken ∙ settled.all_received yes;
-  each_answered = λ yes. ap length (sym done.taken) ∙ settled.each_answered yes ∙ ap length done.sent;
+  in_order = subst (λ taken. IsBeginning taken (answers window log proxy)) done.taken settled.receives.received;
+  all_received = λ yes. sym done.taken ∙ settled.receives.all_received yes;
+  each_answered = λ yes. ap length (sym done.taken) ∙ settled.receives.each_answered yes ∙ ap length done.sent;
+  reported = λ version j reports.
+      reported version j (subst (λ taken. ReportsCommitted taken version j) (sym done.taken) reports);
+  all_reported = λ yes version j is.
+      subst (λ taken. ReportsCommitted taken version j) done.taken (settled.learns.all_reported yes version j is);
 }
+
+-- a list of one has no other element
+only_one : {A : Type 0} (x : A) (i : ℕ) (y : A) → slice_get (x ∷ []) i ≡ Some y → y ≡ x
+only_one x zero y at = sym (same_Some x y at)
+only_one x (suc i) y at = absurd (none-some y at)
+
+-- a batch that one of two proxies has sent, each of which has sent one
+one_of_both : (first second : Batch) (entry : Processed) (proxy : ℕ) (batches : List Batch) (n : ℕ) → entry.proxy ≡ proxy
+    → slice_get ((first ∷ []) ∷ (second ∷ []) ∷ []) proxy ≡ Some batches → slice_get batches n ≡ Some entry.batch
+    → IsOneOf first second entry
+one_of_both first second entry zero batches n own sent at =
+    inl (own, only_one first n entry.batch (ap (λ bs. slice_get bs n) (same_Some (first ∷ []) batches sent) ∙ at))
+one_of_both first second entry (suc zero) batches n own sent at =
+    inr (own, only_one second n entry.batch (ap (λ bs. slice_get bs n) (same_Some (second ∷ []) batches sent) ∙ at))
+one_of_both first second entry (suc (suc proxy)) batches n own sent at = absurd (none-some batches sent)
+
+-- what holds of the value that there is
+value_of : {X : Type 0} (P : X → Type 0) (o : Option X) → IsSomeAnd o P → (x : X) × (o ≡ Some x) × P x
+value_of P None h = elim h [ ]
+value_of P (Some x) h = (x, refl, h)
 
 -- so the account that settles the clients tells of both proxies
 pub serving_settled : (window : ℤ) (r : ResolverState) (clients : List Client) (first second : Batch) (served : Served)
     → (are : AreServing window r clients ((first ∷ []) ∷ (second ∷ []) ∷ []) (served.first.items ∷ served.second.items ∷ []))
-    → ((log : List Step) × Settled r.core.set.window log (map (λ l. l.ended) r.lanes) clients served.account)
+    → ((log : List Step) × Settled r.core.set.window log r.lanes clients served.account)
     → (log : List Step) × AreServed window log first second served
 serving_settled window r clients first second served are settled = (
   log,
   record {
-    proxy_0 = served_for window log (ended 0) complete 0 client_0.0 (first ∷ []) served.first.items
-        (all.each 0 client_0.0 client_0.1)
+    serializable = all.serializable;
+    proxy_0 = served_for window log (has_ended r.lanes 0) (sent_to r.lanes 0) served.account 0 client_0.0 (first ∷ [])
+        served.first.items (all.each 0 client_0.0 client_0.1) (all.reported 0 client_0.0 client_0.1)
         (are.each 0 client_0.0 (first ∷ []) served.first.items client_0.1 refl refl);
-    proxy_1 = served_for window log (ended 1) complete 1 client_1.0 (second ∷ []) served.second.items
-        (all.each 1 client_1.0 client_1.1)
+    proxy_1 = served_for window log (has_ended r.lanes 1) (sent_to r.lanes 1) served.account 1 client_1.0 (second ∷ [])
+        served.second.items (all.each 1 client_1.0 client_1.1) (all.reported 1 client_1.0 client_1.1)
         (are.each 1 client_1.0 (second ∷ []) served.second.items client_1.1 refl refl);
+    from_both = from_both;
     proxies = subst (λ many. TakesOnlyFrom many log) (sym are.sent_count) all.proxies;
     chain = all.chain;
     finish = all.finish;
@@ -198,17 +229,26 @@ serving_settled window r clients first second served are settled = (
     log : List Step
     log = settled.0
 
-    complete : Bool
-    complete = served.account.complete
-
-    ended : ℕ → Bool
-    ended proxy = slice_index_or (map (λ l. l.ended) r.lanes) proxy true
-
-    all : Settled window log (map (λ l. l.ended) r.lanes) clients served.account
-    all = subst (λ w. Settled w log (map (λ l. l.ended) r.lanes) clients served.account) are.window_is settled.1
+    all : Settled window log r.lanes clients served.account
+    all = subst (λ w. Settled w log r.lanes clients served.account) are.window_is settled.1
 
     client_0 : (c : Client) × (slice_get clients 0 ≡ Some c)
     client_0 = slice_get_inside clients 0 (let many = are.sent_count in omega (arith, many))
 
     client_1 : (c : Client) × (slice_get clients 1 ≡ Some c)
     client_1 = slice_get_inside clients 1 (let many = are.sent_count in omega (arith, many))
+
+    from_both : (index : ℕ) (entry : Processed) → slice_get (run window log).processed index ≡ Some entry
+        → IsOneOf first second entry
+    from_both index entry at =
+        let Sends : Client → Type 0 = λ c. IsSent window log c.requests.sent index entry in
+        let c = value_of Sends (slice_get clients entry.proxy) (all.from_clients index entry at) in
+        let inside = slice_get_within clients entry.proxy c.0 c.1 in
+        let sent_many = are.sent_count in
+        let taken_many = are.taken_count in
+        let sent = slice_get_inside ((first ∷ []) ∷ (second ∷ []) ∷ []) entry.proxy (omega (arith, inside, sent_many)) in
+        let taken = slice_get_inside (served.first.items ∷ served.second.items ∷ []) entry.proxy
+        (omega (arith, inside, taken_many)) in
+        let done = are.each entry.proxy c.0 sent.0 taken.0 c.1 sent.1 taken.1 in
+        one_of_both first second entry entry.proxy sent.0 (length (part c.2.before entry.proxy)) refl sent.1
+        (ap (λ bs. slice_get bs (length (part c.2.before entry.proxy))) (sym done.sent) ∙ c.2.next)

@@ -1,9 +1,12 @@
 -- What two proxies received that each sent one batch, beside the reference resolver. This project's own.
-use Rattle.std.specs.Prelude.{◌≡◌, ℕ, ℤ, Bool, true, List, [], ◌∷◌, length, None, Some, slice_get}
+use Rattle.std.specs.Prelude.{◌≡◌, ◌⊎◌, ℕ, ℤ, Bool, true, List, [], ◌∷◌, length, None, Some, slice_get}
 use Rattle.keyspace.specs.declared.answer.Answer.{Answer}
 use Rattle.keyspace.specs.declared.batch.Batch.{Batch}
+use Rattle.keyspace.specs.Processed.{Processed}
 use Rattle.keyspace.specs.Chain.{IsChain}
 use Rattle.keyspace.specs.Run.{Step, run, answers, part}
+use Rattle.serial.specs.Serial.{IsSerializable}
+use Rattle.serial.specs.Replies.{IsCommittedAt, ReportsCommitted}
 use Rattle.resolver.specs.declared.client.Client.{Client}
 use Rattle.proved_callers.specs.declared.serving.Served.{Served}
 use Rattle.resolver.specs.Core.{IsBeginning}
@@ -36,16 +39,35 @@ pub record ServedFor (window : ℤ) (log : List Step) (complete : Bool) (proxy :
   pub all_received : complete ≡ true → received ≡ answers window log proxy
   -- where all is complete, it has received one answer a batch
   pub each_answered : complete ≡ true → length received ≡ length sent
+  -- a transaction that was reported to it as committed is committed; if the account is complete, each of its committed ones was reported
+  pub reported :
+      (version : ℤ) (j : ℕ) → ReportsCommitted received version j
+      → IsCommittedAt (run window log).processed proxy version j
+  pub all_reported :
+      complete ≡ true → (version : ℤ) (j : ℕ) → IsCommittedAt (run window log).processed proxy version j
+      → ReportsCommitted received version j
+
+-- the batch of proxy 0 is the first, that of proxy 1 the second, and there is no third proxy
+abbrev pub IsOneOf : Batch → Batch → Processed → Type 0
+IsOneOf first second entry =
+    ((entry.proxy ≡ 0) × (entry.batch ≡ first)) ⊎ ((entry.proxy ≡ 1) × (entry.batch ≡ second))
 
 -- Of both, for one log. Proxy 0 sent the first batch, proxy 1 the second.
 pub record AreServed (window : ℤ) (log : List Step) (first second : Batch) (served : Served) : Type 0 where
+  -- The transactions that were reported to the proxies as committed can be run one at a time, in the order of commit, and each reads what
+  -- it has read.
+  pub serializable : IsSerializable (run window log).processed
   pub proxy_0 : ServedFor window log served.account.complete 0 (first ∷ []) served.first.items
   pub proxy_1 : ServedFor window log served.account.complete 1 (second ∷ []) served.second.items
+  -- each processed batch is the one that its proxy has sent
+  pub from_both :
+      (index : ℕ) (entry : Processed) → slice_get (run window log).processed index ≡ Some entry
+      → IsOneOf first second entry
   -- the log takes batches of these two alone
   pub proxies : TakesOnlyFrom 2 log
   -- what was processed follows the chain of versions, and each reply is that of a scan of all writes committed earlier
   pub chain : IsChain window (run window log).processed
-  -- where all is complete, the log finishes, no batch is left held, and no stop was met
+  -- if the account is complete, the log finishes, no batch is left held, and no stop was met
   pub finish : served.account.complete ≡ true → FinishesLast log
   pub none_held : served.account.complete ≡ true → (run window log).held ≡ []
   pub no_stop : served.account.complete ≡ true → served.account.stop ≡ None

@@ -15,5 +15,5 @@ mod wire_use;
 pub use arena_use::keep_two;
 pub use conflict_use::judge_two;
 pub use lane_use::through;
-pub use serving::{Served, serve_two};
+pub use serving::{Served, serve_two, transfer_two};
 pub use wire_use::there_and_back;

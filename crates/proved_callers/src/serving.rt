@@ -7,6 +7,7 @@ ghost use Rattle.lane.specs.Lane.{PortGoesOn, IntakeGoesOn};
 ghost use Rattle.resolver.specs.Resolver.{IsNewClient};
 ghost use Rattle.keyspace.specs.declared.batch.Batch.{Batch};
 ghost use Rattle.proved_callers.specs.Served.{AreServed, AreServing};
+ghost use Rattle.proved_callers.specs.Transfers.{SumStays};
 
 use keyspace::{Answer, Batch, WINDOW};
 use lane::Taken;
@@ -48,6 +49,20 @@ pub fn serve_two(
         second,
         account,
     })
+}
+
+/// Serves two proxies as [`serve_two`] does. If all transactions of both batches are transfers between the same two accounts, the sum of
+/// these is unchanged, whatever is committed and in whichever order.
+pub fn transfer_two(
+    alloc: Global,
+    first: Batch,
+    second: Batch,
+    turns: usize,
+) -> Result<Served, OpenError>
+    ensures sum { IfOk result (λ served. (log : List Step) × AreServed WINDOW log first second served
+        × SumStays WINDOW log first second) }
+{
+    serve_two(alloc, first, second, turns)
 }
 
 // Takes so many turns, and an answer of each of two proxies after each of them, if one has come. Returns those of each proxy.

@@ -1,3 +1,4 @@
+pub mod Reporting
 pub mod Replaying
 pub mod Programs
 pub mod ReadingReplies

@@ -1,11 +1,12 @@
 -- What was printed, from what was run and what was reported.
 use Rattle.std.specs.Prelude.{◌≡◌, ◌≢◌, ℕ, zero, suc, ◌+◌, ◌<◌, Bool, true, false, if◌then◌else◌, ◌⊎◌, List, [], ◌∷◌, length, map, Option, Some, None, MatchOption, Result, Ok, Err, OnOk, IfOk, IsOk, IsOkAnd, IsErr, slice_get}
 use Rattle.std.specs.List.{All, range_with_len}
-use Rattle.std.proofs.Common.{refl, sym, ap, subst, ◌∙◌, inl, inr, arith}
+use Rattle.std.proofs.Common.{refl, sym, ap, subst, ◌∙◌, inl, inr, append-nil, arith}
 use Rattle.std.proofs.lemmas.Bool.{false≢true}
 use Rattle.keyspace.specs.declared.answer.Answer.{Answer}
 use Rattle.keyspace.specs.declared.batch.Batch.{Batch}
-use Rattle.keyspace.specs.Run.{answers}
+use Rattle.keyspace.specs.Run.{answers, part}
+use Rattle.serial.specs.Replies.{AnswersTellVerdicts}
 use Rattle.resolver.specs.declared.stop.Stop.{Stop}
 use Rattle.replay_output.specs.declared.failures.Ending.{Ending}
 use Rattle.replay_output.specs.declared.failures.Ending.TheVariants.{Complete, Incomplete, Stopped}
@@ -20,6 +21,7 @@ use Rattle.replay_workers.specs.Run.{IsRun}
 use Rattle.replay_program.specs.Replayed.{IsReplayedBy, Written, HasFailed, Took, TookBeginning, ending_of, RanAndFailed}
 use Rattle.replay_workers.specs.Worker.{TakesFrames}
 use Rattle.replay_workers.proofs.callers.Lists.{all_at, found}
+use Rattle.replay_program.proofs.Reporting.{from_one, each_said, all_said}
 
 loss_is_no_clean : (proxy : ℕ) (failures : List ProxyFailure) → proxy < length failures
     → ¬ (All IsClean (with_loss proxy failures))
@@ -68,10 +70,11 @@ module _ (options : Options) (files : List (Option (List ℕ))) (received : List
       let failure = found received failures proxy of_proxy (run.failures_count ∙ sym run.received_count) at in
       (run.each proxy bytes.0 of_proxy failure.0 bytes.1 at failure.1).lines_told
 
-  pub is_replayed : (Printed : List (List Answer) → Type 0) → NothingFailed failures (ending_of complete stop)
+  pub is_replayed : (Printed : List (List Answer) → Type 0) → AnswersTellVerdicts → NothingFailed failures (ending_of complete stop)
       → Printed (map answers_of received) → IsReplayedBy Printed options files
-  is_replayed Printed nothing printed =
+  is_replayed Printed tell nothing printed =
       let whole = complete_from complete stop nothing.complete in
+      let proxies = length files in
       record {
         log = run.log;
         proxies = run.proxies;
@@ -87,6 +90,13 @@ module _ (options : Options) (files : List (Option (List ℕ))) (received : List
               at_end = all.1;
             };
         chain = run.chain;
+        serializable = run.serializable;
+        from_files = from_one options.window run.log proxies run.proxies tell options.form;
+        replies = λ proxy.
+            let own = part run.log proxy in
+            tell.replies options.window run.log proxy own [] (sym (append-nil own));
+        each_word = each_said options.window run.log proxies run.proxies tell options.form;
+        all_words = all_said options.window run.log proxies run.proxies tell options.form;
         finish = run.finish (run.no_stop whole);
         printed =
             subst Printed

@@ -1,14 +1,22 @@
 -- What the program prints, beside the bytes of its files. This project's own.
-use Rattle.std.specs.Prelude.{◌≡◌, ℕ, ◌<◌, ℤ, Bool, if◌then◌else◌, ◌⊎◌, List, length, map, take, Option, None, Some, IfSome, slice_get}
+use Rattle.std.specs.Prelude.{◌≡◌, ℕ, ◌<◌, ℤ, Bool, if◌then◌else◌, ◌⊎◌, List, length, map, take, codes, Option, None, Some, IfSome, IsSomeAnd, slice_get, Contains}
 use Rattle.std.specs.List.{range_with_len}
 use Rattle.std.specs.Io.KnownBytes.{IsAtEnd, Appends}
 use Rattle.keyspace.specs.declared.batch.Batch.{Batch}
 use Rattle.keyspace.specs.declared.answer.Answer.{Answer}
+use Rattle.keyspace.specs.declared.answer.Answer.TheVariants as answer
 use Rattle.keyspace.specs.declared.reply.Reply.{Reply}
+use Rattle.keyspace.specs.declared.reply.Entry.{Entry}
+use Rattle.keyspace.specs.declared.reply.Verdict.TheVariants.{Committed}
+use Rattle.keyspace.specs.Processed.{Processed}
 use Rattle.keyspace.specs.Chain.{IsChain}
 use Rattle.keyspace.specs.Run.{Step, run, answers, part}
+use Rattle.serial.specs.Serial.{IsSerializable}
+use Rattle.serial.specs.Replies.{IsSent, IsReplyTo, IsCommittedAt}
 use Rattle.resolver.specs.declared.stop.Stop.{Stop}
 use Rattle.resolver.specs.Resolver.{TakesOnlyFrom, FinishesLast}
+use Rattle.replay_output.specs.declared.options.form.Form.{Form}
+use Rattle.replay_output.specs.declared.options.form.Form.TheVariants.{Words, Frames, Json, Kept}
 use Rattle.replay_output.specs.declared.failures.Ending.{Ending}
 use Rattle.replay_output.specs.declared.failures.Ending.TheVariants.{Complete, Incomplete, Stopped}
 use Rattle.replay_output.specs.declared.failures.ProxyFailure.{ProxyFailure}
@@ -18,7 +26,7 @@ use Rattle.replay_output.specs.declared.start.StartError.{StartError}
 use Rattle.replay_program.specs.Checked.{check_lines, differences_of}
 use Rattle.replay_output.specs.Failures.{failure_lines, with_loss, NothingFailed}
 use Rattle.replay_output.specs.Line.{TakesToSort, answers_of}
-use Rattle.replay_output.specs.Lines.{lines}
+use Rattle.replay_output.specs.Lines.{lines, entry_word, entry_json}
 use Rattle.replay_workers.specs.Run.{IsRun}
 use Rattle.replay_output.specs.Start.{start_line}
 use Rattle.replay_workers.specs.Worker.{TakesFrames}
@@ -33,15 +41,48 @@ pub record IsFileOf (bytes : Option (List ℕ)) (batches : List Batch) : Type 0 
 abbrev pub answers_each : ℤ → List Step → ℕ → List (List Answer)
 answers_each window log proxies = map (answers window log) (range_with_len 0 proxies)
 
+-- How the line of a reply says that the transaction of this entry was committed: by its word; in a frame, and in a reply that is
+-- compared with a recorded one, by the verdict itself.
+abbrev pub SaysCommitted : Form → Entry → Type 0
+SaysCommitted Words entry = entry_word entry ≡ codes "committed"
+SaysCommitted Json entry = entry_json entry ≡ codes "\"committed\""
+SaysCommitted Frames entry = entry.verdict ≡ Committed
+SaysCommitted Kept entry = entry.verdict ≡ Committed
+
+-- Of these answers, one per line, one is to this proxy for its batch of this version, and says at this index that a transaction was
+-- committed.
+pub record LineSaysCommitted (form : Form) (answers : List (List Answer)) (proxy : ℕ) (version : ℤ) (index : ℕ) : Type 0 where
+  pub reply : Reply
+  pub of_proxy : IsSomeAnd (slice_get answers proxy) (λ own. Contains own (answer.Reply reply))
+  pub at_version : reply.version ≡ version
+  pub at_index : IsSomeAnd (slice_get reply.entries index) (SaysCommitted form)
+
 -- All was read and resolved, and what is to be printed of the answers was. There is one log of the reference resolver that
 -- holds the batches of each file once, in order, and no others. What was printed is of its answers, all of them.
 pub record IsReplayedBy (Printed : List (List Answer) → Type 0) (options : Options) (files : List (Option (List ℕ))) :
     Type 0 where
   pub log : List Step
+  -- The transactions whose lines say that they were committed can be run one at a time, in the order of commit, and each reads what it
+  -- has read. The lines say so of every committed transaction.
+  pub serializable : IsSerializable (run options.window log).processed
+  pub each_word :
+      (proxy : ℕ) (version : ℤ) (index : ℕ)
+      → LineSaysCommitted options.form (answers_each options.window log (length files)) proxy version index
+      → IsCommittedAt (run options.window log).processed proxy version index
+  pub all_words :
+      (proxy : ℕ) (version : ℤ) (index : ℕ) → IsCommittedAt (run options.window log).processed proxy version index
+      → LineSaysCommitted options.form (answers_each options.window log (length files)) proxy version index
   pub proxies : TakesOnlyFrom (length files) log
   pub each_file :
       (proxy : ℕ) (bytes : Option (List ℕ)) → slice_get files proxy ≡ Some bytes →
       IsFileOf bytes (part log proxy)
+  -- each processed batch is of its file, and each reply is that of one of them
+  pub from_files :
+      (index : ℕ) (entry : Processed) → slice_get (run options.window log).processed index ≡ Some entry
+      → (entry.proxy < length files) × IsSent options.window log (part log entry.proxy) index entry
+  pub replies :
+      (proxy : ℕ) (reply : Reply) → Contains (answers options.window log proxy) (answer.Reply reply)
+      → IsReplyTo options.window log proxy (part log proxy) reply
   -- what was processed follows the chain of versions
   pub chain : IsChain options.window (run options.window log).processed
   -- no batch is left unanswered

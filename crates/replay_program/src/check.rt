@@ -58,6 +58,7 @@ pub fn check_over<
         (written (E.given error.old) (E.given error.new) (E.failures error.old) (E.failures error.new)) }
     ensures ends { result ≢ Status.Usage }
 {
+    serial::laws::answers_tell_verdicts();
     let (outcome, account) = match run(rt, alloc, readers, options, gatekeeper) {
         Ok(ended) => ended,
         Err(cause) => return fail_to_start(error, cause),

@@ -35,7 +35,7 @@ pub fn replay_over<
     requires least_files { 1 ≤ vec_len readers }
     requires most_files { vec_len readers ≤ MAX_PROXIES }
     // There is one log of the reference resolver that holds the batches of each file once, in order, and nothing
-    // else; the text is the lines of its answers.
+    // else; the text is the lines of its answers. The transactions that it reports as committed are serializable.
     ensures done { result ≡ Status.Done
         → IsReplayed options (map S.remaining readers.items) (O.given out.old) (O.given out.new) }
     ensures quiet { result ≡ Status.Done → Keeps (E.given error.old) (E.given error.new) }
@@ -47,6 +47,7 @@ pub fn replay_over<
     ensures ends { result ≢ Status.Usage }
     ensures same { result ≢ Status.Differs }
 {
+    serial::laws::answers_tell_verdicts();
     let (outcome, account) = match run(rt, alloc, readers, options, gatekeeper) {
         Ok(ended) => ended,
         Err(cause) => return fail_to_start(error, cause),

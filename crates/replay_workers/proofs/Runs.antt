@@ -1,5 +1,5 @@
 -- A run, put together of what each worker has done and of what was settled.
-use Rattle.std.specs.Prelude.{◌≡◌, ℕ, Bool, true, false, ◌&&◌, List, length, map, Option, Some, None, IfSome, slice_get, slice_index_or, vec_items}
+use Rattle.std.specs.Prelude.{◌≡◌, ℕ, Bool, true, false, ◌&&◌, List, length, map, Option, Some, None, IfSome, slice_get, vec_items}
 use Rattle.std.specs.Option.{option_map}
 use Rattle.std.specs.List.{AllZip, All}
 use Rattle.std.proofs.Common.{sym, ap, subst, ◌∙◌, arith}
@@ -8,8 +8,9 @@ use Rattle.std.proofs.lemmas.Option.{same_Some, slice_get-map}
 use Rattle.keyspace.specs.Run.{Step}
 use Rattle.resolver.specs.declared.client.Client.{Client}
 use Rattle.resolver.specs.declared.turn.Account.{Account}
+use Rattle.resolver.specs.Lanes.{Lanes, has_ended, sent_to}
 use Rattle.resolver.specs.Resolver.{TakesOnlyFrom, IsNewClient}
-use Rattle.resolver.specs.Settled.{Settled, SettledFor}
+use Rattle.resolver.specs.Settled.{Settled}
 use Rattle.replay_output.specs.declared.failures.ProxyFailure.{ProxyFailure}
 use Rattle.replay_output.specs.declared.line.Line.{Line}
 use Rattle.replay_output.specs.declared.options.Options.{Options}
@@ -28,11 +29,11 @@ pub mapped_at : {X Y : Type 0} (f : X → Y) (xs : List X) (place : ℕ) (x : X)
 mapped_at f xs place x at = slice_get-map f xs place ∙ ap (option_map f) at
 
 module _ {S : Type 0} (remaining : S → Option (List ℕ)) (options : Options) (share : ℕ) (readers : List S) (clients : List Client)
-    (finished : List Finished) (outcome : Outcome) (log : List Step) (ended : List Bool) (account : Account)
+    (finished : List Finished) (outcome : Outcome) (log : List Step) (lanes : List Lanes) (account : Account)
     (same : length readers ≡ length clients) (new : All (IsNewClient options.capacity) clients)
     (worked : AllZip (HasWorkedOn remaining) (given_each options.form share 0 clients readers) finished)
     (of_finished : IsOutcomeOf finished outcome)
-    (settled : Settled options.window log ended (map (λ (f : Finished). f.client) finished) account)
+    (settled : Settled options.window log lanes (map (λ (f : Finished). f.client) finished) account)
     (whole : account.stop ≡ None → account.complete ≡ true)
     (met : IfSome account.stop (IsStopOf options.limit options.window log)) where
   count : length finished ≡ length (map remaining readers)
@@ -47,9 +48,10 @@ module _ {S : Type 0} (remaining : S → Option (List ℕ)) (options : Options) 
       let client = all_at (IsNewClient options.capacity) clients proxy given.0 new given.1 in
       let has_worked : HasWorked options.form proxy bytes given.0 f =
       subst (λ (p : ℕ). HasWorked options.form p bytes given.0 f) (omega arith) given.2 in
-      served options.window options.form log (slice_index_or ended proxy true) account.complete outcome.all_sent account.stop
+      let here = mapped_at (λ (f : Finished). f.client) finished proxy f there in
+      served options.window options.form log (has_ended lanes proxy) outcome.all_sent (sent_to lanes proxy) account
       bytes proxy given.0 f (ap (λ p. p.sent) client.requests) (ap (λ i. i.taken) client.replies) has_worked
-      (settled.each proxy f.client (mapped_at (λ (f : Finished). f.client) finished proxy f there))
+      (settled.each proxy f.client here) (settled.reported proxy f.client here)
       (λ all. all_at (λ (f : Finished). f.unsent ≡ None) finished proxy f (of_finished.all_sent all) there)
       whole
 
@@ -67,10 +69,8 @@ module _ {S : Type 0} (remaining : S → Option (List ℕ)) (options : Options) 
       subst (λ (p : ℕ). HasWorked options.form p bytes.0 given.0 back.worker) (omega arith) given.2 in
       let settled_for = settled.each back.place back.worker.client
       (mapped_at (λ (f : Finished). f.client) finished back.place back.worker back.at) in
-      let left = left_over options.window options.form log (slice_index_or ended back.place true) bytes.0 back.place
-      given.0 back.worker back.batch (ap (λ p. p.sent) client.requests) has_worked
-      (subst (λ (b : Bool). SettledFor options.window log (slice_index_or ended back.place true) b back.place back.worker.client)
-      yes settled_for) back.unsent in
+      let left = left_over options.window options.form log (has_ended lanes back.place) (sent_to lanes back.place) account bytes.0
+      back.place given.0 back.worker back.batch (ap (λ p. p.sent) client.requests) has_worked settled_for yes back.unsent in
       record {
         proxy = back.place;
         bytes = bytes.0;
@@ -104,6 +104,7 @@ module _ {S : Type 0} (remaining : S → Option (List ℕ)) (options : Options) 
         (subst (λ (lines : List Line). IsServed options.window options.form log (is_complete outcome account) account.stop bytes proxy lines (failure_of f.0))
         (same_Some f.0.lines.items lines (sym lines_here ∙ lines_at)) here);
     chain = settled.chain;
+    serializable = settled.serializable;
     finish = λ none. settled.finish (whole none);
     no_stop = λ all. settled.no_stop (both account.complete outcome.all_sent all).0;
     incomplete = leaves;

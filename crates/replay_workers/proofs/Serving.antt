@@ -1,12 +1,16 @@
 -- What was read, sent, answered and received of one proxy, put together.
-use Rattle.std.specs.Prelude.{◌≡◌, ℕ, ℤ, Bool, true, false, ◌&&◌, List, [], ◌∷◌, ◌++◌, Option, None, Some, option_to_list}
+use Rattle.std.specs.Prelude.{◌≡◌, ℕ, ℤ, Bool, true, false, ◌&&◌, List, [], ◌∷◌, ◌++◌, Option, None, Some, option_to_list, Contains}
 use Rattle.std.proofs.Common.{refl, sym, ap, subst, ◌∙◌, append_assoc, append-nil}
 use Rattle.std.proofs.lemmas.Bool.{false≢true}
+use Rattle.std.proofs.lemmas.List.Elements.{Contains-append_left}
 use Rattle.keyspace.specs.declared.batch.Batch.{Batch}
 use Rattle.keyspace.specs.declared.answer.Answer.{Answer}
-use Rattle.keyspace.specs.Run.{Step, part}
+use Rattle.keyspace.specs.declared.answer.Answer.TheVariants as answer
+use Rattle.keyspace.specs.Run.{Step, run, answers, part}
+use Rattle.serial.specs.Replies.{IsCommittedAt, ReportsCommitted}
 use Rattle.resolver.specs.declared.client.Client.{Client}
-use Rattle.resolver.specs.declared.stop.Stop.{Stop}
+use Rattle.resolver.specs.declared.turn.Account.{Account}
+use Rattle.resolver.specs.Core.{IsBeginning}
 use Rattle.resolver.specs.Settled.{SettledFor}
 use Rattle.replay_output.specs.declared.options.form.Form.{Form}
 use Rattle.replay_workers.specs.declared.worker.Finished.{Finished}
@@ -20,12 +24,14 @@ both true b is = (refl, is)
 both false b is = absurd (false≢true is)
 
 -- the worker was given a client that had sent and taken nothing
-pub served : (window : ℤ) (form : Form) (log : List Step) (ended complete all_sent : Bool) (stop : Option Stop) (bytes : Option (List ℕ))
-    (proxy : ℕ) (given : Client) (finished : Finished) → given.requests.sent ≡ [] → given.replies.taken ≡ []
-    → HasWorked form proxy bytes given finished → SettledFor window log ended complete proxy finished.client
-    → (all_sent ≡ true → finished.unsent ≡ None) → (stop ≡ None → complete ≡ true)
-    → IsServed window form log (complete && all_sent) stop bytes proxy finished.lines.items (failure_of finished)
-served window form log ended complete all_sent stop bytes proxy given finished none_sent none_taken worked settled none_unsent whole =
+pub served : (window : ℤ) (form : Form) (log : List Step) (ended all_sent : Bool) (answers_sent : List Answer) (account : Account)
+    (bytes : Option (List ℕ)) (proxy : ℕ) (given : Client) (finished : Finished) → given.requests.sent ≡ [] → given.replies.taken ≡ []
+    → HasWorked form proxy bytes given finished → SettledFor window log ended answers_sent account proxy finished.client
+    → ((version : ℤ) (j : ℕ) → ReportsCommitted finished.client.replies.taken version j
+    → IsCommittedAt (run window log).processed proxy version j)
+    → (all_sent ≡ true → finished.unsent ≡ None) → (account.stop ≡ None → account.complete ≡ true)
+    → IsServed window form log (account.complete && all_sent) account.stop bytes proxy finished.lines.items (failure_of finished)
+served window form log ended all_sent answers_sent account bytes proxy given finished none_sent none_taken worked settled reported none_unsent whole =
     let sends = worked.sends in
     let keeps = worked.keeps in
     let unsent = option_to_list finished.unsent in
@@ -34,6 +40,8 @@ served window form log ended complete all_sent stop bytes proxy given finished n
     sends.sent ∙ ap (λ (l : List Batch). l ++ sends.batches) none_sent in
     let taken : finished.client.replies.taken ≡ told ++ keeps.dropped =
     keeps.taken ∙ ap (λ (l : List Answer). l ++ (told ++ keeps.dropped)) none_taken in
+    let all_told : finished.lost ≡ false → told ≡ finished.client.replies.taken = λ not_lost.
+    sym (append-nil told) ∙ ap (λ (l : List Answer). told ++ l) (sym (keeps.none_dropped not_lost)) ∙ sym taken in
     record {
       read = sends.batches ++ unsent;
       left = sends.left;
@@ -44,7 +52,7 @@ served window form log ended complete all_sent stop bytes proxy given finished n
             ∙ append_assoc (part log proxy) settled.batches.0 unsent,
       );
       all_batches = λ all no_fault.
-          let parts = both complete all_sent all in
+          let parts = both account.complete all_sent all in
           let none = none_unsent parts.1 in (
             ap (λ (u : Option Batch). sends.batches ++ option_to_list u) none ∙ append-nil sends.batches ∙ sym sent
                 ∙ sym (settled.all_batches (settled.all_ended parts.0)),
@@ -52,27 +60,37 @@ served window form log ended complete all_sent stop bytes proxy given finished n
           );
       first_fault = sends.first_fault;
       received = (
-        keeps.dropped ++ settled.received.0,
-        settled.received.1 ∙ ap (λ (l : List Answer). l ++ settled.received.0) taken
-            ∙ append_assoc told keeps.dropped settled.received.0,
+        keeps.dropped ++ settled.receives.received.0,
+        settled.receives.received.1 ∙ ap (λ (l : List Answer). l ++ settled.receives.received.0) taken
+            ∙ append_assoc told keeps.dropped settled.receives.received.0,
       );
-      all_received = λ no_stop not_lost.
-          sym (append-nil told) ∙ ap (λ (l : List Answer). told ++ l) (sym (keeps.none_dropped not_lost)) ∙ sym taken
-          ∙ settled.all_received (whole no_stop);
+      all_received = λ no_stop not_lost. all_told not_lost ∙ settled.receives.all_received (whole no_stop);
+      all_before_last = λ not_lost before last is.
+          subst (IsBeginning (answers window before proxy)) (sym (all_told not_lost))
+          (settled.receives.all_before_last worked.ended before last is);
+      reported = λ version j reports.
+          reported version j (record {
+            reply = reports.reply;
+            is_received =
+                subst (λ (l : List Answer). Contains l (answer.Reply reports.reply)) (sym taken)
+                (Contains-append_left told keeps.dropped (answer.Reply reports.reply) reports.is_received);
+            at_version = reports.at_version;
+            verdict = reports.verdict;
+          });
       lines_told = keeps.each;
     }
 
 -- a worker has a batch left that it read and could not send, though no stop was met
-pub left_over : (window : ℤ) (form : Form) (log : List Step) (ended : Bool) (bytes : Option (List ℕ)) (proxy : ℕ)
-    (given : Client) (finished : Finished) (batch : Batch) → given.requests.sent ≡ []
-    → HasWorked form proxy bytes given finished → SettledFor window log ended true proxy finished.client
-    → finished.unsent ≡ Some batch
+pub left_over : (window : ℤ) (form : Form) (log : List Step) (ended : Bool) (answers_sent : List Answer) (account : Account)
+    (bytes : Option (List ℕ)) (proxy : ℕ) (given : Client) (finished : Finished) (batch : Batch) → given.requests.sent ≡ []
+    → HasWorked form proxy bytes given finished → SettledFor window log ended answers_sent account proxy finished.client
+    → account.complete ≡ true → finished.unsent ≡ Some batch
     → (left : Option (List ℕ)) × TakesFrames bytes left (part log proxy ++ batch ∷ [])
-left_over window form log ended bytes proxy given finished batch none_sent worked settled is =
+left_over window form log ended answers_sent account bytes proxy given finished batch none_sent worked settled complete is =
     let sends = worked.sends in
     let sent : sends.batches ≡ part log proxy =
     sym (ap (λ (l : List Batch). l ++ sends.batches) none_sent) ∙ sym sends.sent
-    ∙ sym (settled.all_batches (settled.all_ended refl)) in (
+    ∙ sym (settled.all_batches (settled.all_ended complete)) in (
       sends.left,
       subst (λ (l : List Batch). TakesFrames bytes sends.left (l ++ batch ∷ [])) sent
           (subst (λ (u : Option Batch). TakesFrames bytes sends.left (sends.batches ++ option_to_list u)) is sends.frames),

@@ -6,6 +6,8 @@ use Rattle.std.specs.Io.KnownBytes.{IsAtEnd}
 use Rattle.keyspace.specs.declared.batch.Batch.{Batch}
 use Rattle.keyspace.specs.Chain.{IsChain}
 use Rattle.keyspace.specs.Run.{Step, run, answers, part}
+use Rattle.serial.specs.Serial.{IsSerializable}
+use Rattle.serial.specs.Replies.{IsCommittedAt, ReportsCommitted}
 use Rattle.wire.specs.declared.error.WireError.TheVariants as wire
 use Rattle.wire.specs.NextFrame.{IsFaultOf}
 use Rattle.resolver.specs.declared.client.Client.{Client}
@@ -47,6 +49,14 @@ pub record IsServed (window : ℤ) (form : Form) (log : List Step) (complete : B
   -- nothing was lost
   pub received : IsBeginning (answers_of lines) (answers window log proxy)
   pub all_received : stop ≡ None → failure.lost ≡ false → answers_of lines ≡ answers window log proxy
+  -- whatever stop was met, the answers of the log without its last step are among them, unless something was lost
+  pub all_before_last :
+      failure.lost ≡ false → (before : List Step) (last : Step) → log ≡ before ++ last ∷ []
+      → IsBeginning (answers window before proxy) (answers_of lines)
+  -- a transaction that they report as committed is committed
+  pub reported :
+      (version : ℤ) (j : ℕ) → ReportsCommitted (answers_of lines) version j
+      → IsCommittedAt (run window log).processed proxy version j
   pub lines_told : All (IsLineOf form proxy) lines
 
 -- Of some file, a batch was read that the log doesn't take: it was the last that was read, and could not be sent.
@@ -73,6 +83,8 @@ pub record IsRun (options : Options) (files : List (Option (List ℕ))) (receive
       IsServed options.window options.form log complete stop bytes proxy lines failure
   -- what was processed follows the chain of versions
   pub chain : IsChain options.window (run options.window log).processed
+  -- so what was committed can be run one transaction at a time, in the order of commit, and each reads what it has read
+  pub serializable : IsSerializable (run options.window log).processed
   -- where no stop was met, no batch is left unanswered
   pub finish : stop ≡ None → FinishesLast log
   -- where all is complete, no stop was met; where neither is so, a batch could not be sent

@@ -1,14 +1,20 @@
 -- What a client knows of the log, from *Lane* of both of its lanes.
-use Rattle.std.proofs.Common.{◌≡◌, ℕ, suc, eqb, ◌<◌, Bool, true, List, [], ◌∷◌, ◌++◌, length, map, Option, Some, None, sym, ap, subst, ◌∙◌, inl, inr, append-nil, length-append, arith}
-use Rattle.std.specs.Prelude.{is_some, option_map, slice_get, slice_index_or}
-use Rattle.std.proofs.lemmas.Bool.{false≢true, eqb-true, eq-eqb}
-use Rattle.std.proofs.lemmas.Option.{slice_get-map, slice_get_within, get_or_from_slice_get}
-use Rattle.std.proofs.lemmas.List.{nil_from_length, length-map}
+use Rattle.std.proofs.Common.{◌≡◌, ℕ, suc, eqb, ◌<◌, ℤ, true, List, [], ◌∷◌, ◌++◌, length, map, Option, Some, None, sym, ap, subst, ◌∙◌, inl, inr, append-nil, length-append, arith}
+use Rattle.std.specs.Prelude.{is_some, option_map, slice_get, slice_index_or, IsSomeAnd, Contains}
+use Rattle.std.proofs.lemmas.Bool.{false≢true, eqb-true, eq-eqb, cases_lt}
+use Rattle.std.proofs.lemmas.Option.{slice_get-map, slice_get_within, get_or_from_slice_get, none-some}
+use Rattle.std.proofs.lemmas.List.{nil_from_length, length-map, same_from_push}
+use Rattle.std.proofs.lemmas.List.Elements.{Contains-append_left}
 use Rattle.std.proofs.lemmas.List.Folds.{sum_by-zero}
 use Rattle.std.proofs.lemmas.List.Sums.{AllPass-from_list_all}
+use Rattle.keyspace.specs.declared.batch.Batch.{Batch}
 use Rattle.keyspace.specs.declared.answer.Answer.{Answer}
-use Rattle.keyspace.specs.Run.{Step, run, answers, part}
+use Rattle.keyspace.specs.declared.answer.Answer.TheVariants as answer
+use Rattle.keyspace.specs.Processed.{Processed}
+use Rattle.keyspace.specs.Run.{State, Step, step, run, answers, answers_to, part}
 use Rattle.keyspace.specs.Laws.{RunsAreChains, EachBatchIsAnswered, NoneIsHeldAfterFinish, held_of}
+use Rattle.serial.specs.Serial.{ChainsAreSerializable}
+use Rattle.serial.specs.Replies.{IsSent, IsCommittedAt, ReportsCommitted, AnswersTellVerdicts}
 use Rattle.lane.specs.Lane.{Lane, HasEnded}
 use Rattle.resolver.specs.declared.stop.Stop.{Stop}
 use Rattle.resolver.specs.declared.turn.Account.{Account}
@@ -16,13 +22,13 @@ use Rattle.resolver.specs.declared.client.Client.{Client}
 use Rattle.resolver.specs.Owed.{owed_to, owed_count}
 use Rattle.resolver.specs.Core.{CoreState, Given, IsBeginning, made_to}
 use Rattle.resolver.specs.Stands.{StandsBy}
-use Rattle.resolver.specs.Lanes.{Lanes, all_ended, sent_to}
+use Rattle.resolver.specs.Lanes.{Lanes, has_ended, all_ended, sent_to}
 use Rattle.resolver.specs.Resolver.{StandsOver, TakesOnlyFrom, FinishesBy, FinishesLast}
 use Rattle.resolver.specs.Parts.{ProxyLanesView, Parts, AreParts, lanes_of, owed_with, resolver_of}
-use Rattle.resolver.specs.Settled.{Settled, SettledFor, IsComplete}
-use Rattle.resolver.proofs.Growing.{begins_itself, begins_then}
-use Rattle.resolver.proofs.Standing.{IsIn-standing}
-use Rattle.resolver.proofs.OnlyFrom.{stands_only}
+use Rattle.resolver.specs.Settled.{Settled, SettledFor, ReceivesAnswers, LearnsVerdicts, IsComplete}
+use Rattle.resolver.proofs.Growing.{begins_itself, begins_then, begins_answers_to, grows_step}
+use Rattle.resolver.proofs.Standing.{run-more, IsIn-standing}
+use Rattle.resolver.proofs.OnlyFrom.{none_of_others, stands_only}
 use Rattle.resolver.proofs.Settling.{lanes_at}
 use Rattle.resolver.proofs.Unchanged.{LanesHold, slice_get_inside}
 
@@ -41,6 +47,32 @@ made_begins None log given core stands proxy inside =
     subst (IsBeginning (made_to proxy given core)) (stands.answers proxy inside)
     (begins_itself (made_to proxy given core))
 made_begins (Some stop) log given core stands proxy inside = stands.made.no_others proxy inside
+
+-- and all answers of the log without its last step are among them
+pub made_before_last : (stop : Option Stop) (log : List Step) (given : Given) (core : CoreState)
+    → StandsBy stop log given core → (before : List Step) (last : Step) → log ≡ before ++ last ∷ [] → (proxy : ℕ)
+    → proxy < length core.owed → IsBeginning (answers core.set.window before proxy) (made_to proxy given core)
+made_before_last None log given core stands before last is proxy inside =
+    let window = core.set.window in
+    let now = run-more window before last in
+    let whole = stands.answers proxy inside ∙ ap (λ steps. answers window steps proxy) is
+    ∙ ap (λ (s : State). answers_to proxy s.answered) now in
+    subst (IsBeginning (answers window before proxy)) (sym whole)
+    (begins_answers_to proxy (run window before).answered (step window last (run window before)).answered
+    (grows_step window last (run window before)).answered)
+made_before_last (Some stop) log given core stands before last is proxy inside =
+    let same = same_from_push stands.before before stands.last last (sym stands.log_is ∙ is) in
+    subst (λ steps. IsBeginning (answers core.set.window steps proxy) (made_to proxy given core)) same.0
+    (stands.made.all_before proxy inside)
+
+-- an item of a prefix is one of the list
+Contains-beginning : {T : Type 0} (xs ys : List T) (x : T) → IsBeginning xs ys → Contains xs x → Contains ys x
+Contains-beginning xs ys x begins among =
+    subst (λ zs. Contains zs x) (sym begins.1) (Contains-append_left xs begins.0 x among)
+
+-- what holds of the value that there is
+some_at : {X : Type 0} (P : X → Type 0) (o : Option X) (x : X) → o ≡ Some x → P x → IsSomeAnd o P
+some_at P o x e h = subst (λ (o : Option _). IsSomeAnd o P) (sym e) h
 
 -- where nothing is owed, nothing is owed to the proxy
 owed_none : (owed : List (List Answer)) (proxy : ℕ) → owed_count owed ≡ 0 → proxy < length owed
@@ -175,22 +207,32 @@ module _ (p : Parts) (are : AreParts p) (clients : List Client) (count : length 
           (owed_to proxy core.owed, made_is)
           (made_begins p.core.stop log (sent_to lanes) core stands.core proxy inside)
 
-      -- and is all of them, where all is complete
-      sent_all : IsComplete (resolver_of p) clients
-          → l.lanes.replies.sent ≡ answers core.set.window log proxy
-      sent_all complete =
-          let through = are.through (was_closed complete) in
-          let state = IsIn-standing p.core.stop log (sent_to lanes) core complete.no_stop stands.core in
-          sym (append-nil l.lanes.replies.sent)
-          ∙ ap (λ owed. l.lanes.replies.sent ++ owed)
-          (sym (owed_none core.owed proxy through.nothing_owed inside))
-          ∙ sym made_is
-          ∙ state.answers proxy inside
+      -- if the reply lanes were closed, all that was made was sent
+      made_sent : p.closed ≡ true → made_to proxy (sent_to lanes) core ≡ l.lanes.replies.sent
+      made_sent closed =
+          let through = are.through closed in
+          made_is
+          ∙ ap (λ owed. l.lanes.replies.sent ++ owed) (owed_none core.owed proxy through.nothing_owed inside)
+          ∙ append-nil l.lanes.replies.sent
+
+      -- and is all of them, if the reply lanes were closed and no stop was met
+      sent_all : p.closed ≡ true → p.core.stop ≡ None → l.lanes.replies.sent ≡ answers core.set.window log proxy
+      sent_all closed none =
+          let state = IsIn-standing p.core.stop log (sent_to lanes) core none stands.core in
+          sym (made_sent closed) ∙ state.answers proxy inside
 
       whole : HasEnded l.lanes.requests → l.lanes.requests.taken ≡ c.requests.sent
       whole ended =
           begins_whole l.lanes.requests.taken c.requests.sent requests.in_order
           (ended.all ∙ requests.all_seen ended.close)
+
+      -- if its answers have ended, the reply lanes were closed, and it has taken all that was sent
+      closed_at : HasEnded c.replies → p.closed ≡ true
+      closed_at ended = sym (are.closed proxy l.lanes at) ∙ replies.seen_close ended.close
+
+      taken_whole : HasEnded c.replies → c.replies.taken ≡ l.lanes.replies.sent
+      taken_whole ended =
+          begins_whole c.replies.taken l.lanes.replies.sent replies.in_order (ended.all ∙ replies.all_seen ended.close)
 
       -- each of its batches has its answer, where none is held
       one_each : EachBatchIsAnswered → (run core.set.window log).held ≡ []
@@ -203,53 +245,132 @@ module _ (p : Parts) (are : AreParts p) (clients : List Client) (count : length 
           let as_batches = ap length batches in
           omega (arith, told, left, as_answers, as_batches)
 
-      pub settled_for : EachBatchIsAnswered → NoneIsHeldAfterFinish → (complete : Bool)
-          → (complete ≡ true → IsComplete (resolver_of p) clients)
-          → SettledFor core.set.window log (slice_index_or (map (λ k. k.ended) lanes) proxy true) complete proxy c
-      settled_for once none complete is = record {
-        batches = subst (λ taken. IsBeginning taken c.requests.sent) (sym part_is) requests.in_order;
-        all_batches = all_batches;
-        nothing_after = λ ended. requests.seen_close (has_ended ended).close;
-        received =
-            begins_then c.replies.taken l.lanes.replies.sent (answers core.set.window log proxy) replies.in_order
-            sent_begins;
-        all_received = all_received;
-        all_ended = every_ended;
-        each_answered = λ yes.
-            one_each once (holds_none none (is yes)) (all_received yes) (all_batches (every_ended yes));
-      }
-        where
-          ended_is : slice_index_or (map (λ k. k.ended) lanes) proxy true ≡ l.lanes.ended
-          ended_is = field proxy l l_at (λ k. k.ended) true
+      -- it has received a prefix of the answers of the reference resolver
+      received : IsBeginning c.replies.taken (answers core.set.window log proxy)
+      received =
+          begins_then c.replies.taken l.lanes.replies.sent (answers core.set.window log proxy) replies.in_order sent_begins
 
-          has_ended : slice_index_or (map (λ k. k.ended) lanes) proxy true ≡ true → HasEnded l.lanes.requests
-          has_ended ended = are.ended proxy l.lanes at (sym ended_is ∙ ended)
+      -- the log holds a prefix of its batches
+      batches : IsBeginning (part log proxy) c.requests.sent
+      batches = subst (λ taken. IsBeginning taken c.requests.sent) (sym part_is) requests.in_order
 
-          all_batches : slice_index_or (map (λ k. k.ended) lanes) proxy true ≡ true → part log proxy ≡ c.requests.sent
-          all_batches ended = part_is ∙ whole (has_ended ended)
+      -- a transaction that was reported to it as committed is committed
+      reported : AnswersTellVerdicts → (version : ℤ) (j : ℕ) → ReportsCommitted c.replies.taken version j
+          → IsCommittedAt (run core.set.window log).processed proxy version j
+      reported tell version j reports =
+          tell.reported core.set.window log proxy version j (record {
+            reply = reports.reply;
+            is_received = Contains-beginning c.replies.taken _ (answer.Reply reports.reply) received reports.is_received;
+            at_version = reports.at_version;
+            verdict = reports.verdict;
+          })
 
-          all_received : complete ≡ true → c.replies.taken ≡ answers core.set.window log proxy
-          all_received done = (is done).taken proxy c c_at ∙ sent_is ∙ sent_all (is done)
+      module _ (once : EachBatchIsAnswered) (none : NoneIsHeldAfterFinish) (tell : AnswersTellVerdicts) (account : Account)
+          (is : account.complete ≡ true → IsComplete (resolver_of p) clients) (stop : account.stop ≡ p.core.stop) where
+        ended_is : has_ended lanes proxy ≡ l.lanes.ended
+        ended_is = field proxy l l_at (λ k. k.ended) true
 
-          every_ended : complete ≡ true → slice_index_or (map (λ k. k.ended) lanes) proxy true ≡ true
-          every_ended done = ended_is ∙ ended_at lanes proxy l.lanes (have_ended (is done)) at
+        requests_ended : has_ended lanes proxy ≡ true → HasEnded l.lanes.requests
+        requests_ended ended = are.ended proxy l.lanes at (sym ended_is ∙ ended)
+
+        all_batches : has_ended lanes proxy ≡ true → part log proxy ≡ c.requests.sent
+        all_batches ended = part_is ∙ whole (requests_ended ended)
+
+        all_received : account.complete ≡ true → c.replies.taken ≡ answers core.set.window log proxy
+        all_received done =
+            (is done).taken proxy c c_at ∙ sent_is ∙ sent_all (was_closed (is done)) (is done).no_stop
+
+        every_ended : account.complete ≡ true → has_ended lanes proxy ≡ true
+        every_ended done = ended_is ∙ ended_at lanes proxy l.lanes (have_ended (is done)) at
+
+        receives : ReceivesAnswers core.set.window log (sent_to lanes proxy) account proxy c
+        receives = record {
+          received = received;
+          all_received = all_received;
+          each_answered = λ done.
+              one_each once (holds_none none (is done)) (all_received done) (all_batches (every_ended done));
+          received_of_sent = subst (IsBeginning c.replies.taken) (sym sent_is) replies.in_order;
+          all_sent = λ ended. taken_whole ended ∙ sym sent_is;
+          all_unless_stopped = λ ended no_stop.
+              taken_whole ended ∙ sent_all (closed_at ended) (sym stop ∙ no_stop);
+          all_before_last = λ ended before last is_log.
+              subst (IsBeginning (answers core.set.window before proxy))
+              (made_sent (closed_at ended) ∙ sym (taken_whole ended))
+              (made_before_last p.core.stop log (sent_to lanes) core stands.core before last is_log proxy inside);
+        }
+
+        learns : LearnsVerdicts core.set.window log account proxy c
+        learns = record {
+          replies = λ reply among.
+              tell.replies core.set.window log proxy c.requests.sent batches.0 batches.1 reply
+              (Contains-beginning c.replies.taken _ (answer.Reply reply) received among);
+          all_replies = λ done entry there own.
+              subst (λ taken. Contains taken (answer.Reply entry.reply)) (sym (all_received done))
+              (subst (λ q. Contains (answers core.set.window log q) (answer.Reply entry.reply)) own
+              (tell.answered core.set.window log entry there));
+          all_reported = λ done version j committed.
+              subst (λ taken. ReportsCommitted taken version j) (sym (all_received done))
+              (tell.all_reported core.set.window log proxy version j committed);
+        }
+
+        pub settled_for : SettledFor core.set.window log (has_ended lanes proxy) (sent_to lanes proxy) account proxy c
+        settled_for = record {
+          batches = batches;
+          all_batches = all_batches;
+          nothing_after = λ ended. requests.seen_close (requests_ended ended).close;
+          all_ended = every_ended;
+          receives = receives;
+          learns = learns;
+        }
 
     -- the headline, of all clients
     pub settled : LanesHold p.all_lanes clients → RunsAreChains → EachBatchIsAnswered → NoneIsHeldAfterFinish
+        → ChainsAreSerializable → AnswersTellVerdicts
         → (account : Account)
         → (account.complete ≡ true → IsComplete (resolver_of p) clients) → account.stop ≡ p.core.stop
-        → Settled core.set.window log (map (λ k. k.ended) lanes) clients account
-    settled holds chains once none account is stop = record {
+        → Settled core.set.window log lanes clients account
+    settled holds chains once none serializable tell account is stop = record {
+      serializable = serializable core.set.window (run core.set.window log).processed (chains core.set.window log);
+      reported = λ proxy c at.
+          let l = proxy_lanes_of proxy c at in
+          let both = holds proxy l.0 c l.1 at in
+          reported proxy c l.0 at l.1 both.0 both.1 tell;
       each = λ proxy c at.
           let l = proxy_lanes_of proxy c at in
           let both = holds proxy l.0 c l.1 at in
-          settled_for proxy c l.0 at l.1 both.0 both.1 once none account.complete is;
-      proxies = subst (λ many. TakesOnlyFrom many log) as_many (stands_only (resolver_of p) log stands);
+          settled_for proxy c l.0 at l.1 both.0 both.1 once none tell account is stop;
+      proxies = only;
+      from_clients = from_clients;
       chain = chains core.set.window log;
-      finish = λ yes. finishes (is yes);
-      none_held = λ yes. holds_none none (is yes);
-      no_stop = λ yes. stop ∙ (is yes).no_stop;
+      finish = λ done. finishes (is done);
+      none_held = λ done. holds_none none (is done);
+      no_stop = λ done. stop ∙ (is done).no_stop;
     }
       where
         as_many : length lanes ≡ length clients
         as_many = length-map p.all_lanes (λ k. k.lanes) ∙ sym count
+
+        only : TakesOnlyFrom (length clients) log
+        only = subst (λ many. TakesOnlyFrom many log) as_many (stands_only (resolver_of p) log stands)
+
+        -- the client of a proxy from which the log takes something
+        client_of : (proxy n : ℕ) (b : Batch) → slice_get (part log proxy) n ≡ Some b
+            → (c : Client) × (slice_get clients proxy ≡ Some c)
+        client_of proxy n b there = elim (cases_lt proxy (length clients)) [
+          | inl known ↦ slice_get_inside clients proxy known
+          | inr past ↦
+              absurd (none-some b (sym (ap (λ batches. slice_get batches n) (none_of_others (length clients) log only proxy past))
+              ∙ there))
+        ]
+
+        from_clients : (index : ℕ) (entry : Processed) → slice_get (run core.set.window log).processed index ≡ Some entry
+            → IsSomeAnd (slice_get clients entry.proxy) (λ c. IsSent core.set.window log c.requests.sent index entry)
+        from_clients index entry at =
+            let own = part log entry.proxy in
+            let by_log = tell.sent core.set.window log index entry at own [] (sym (append-nil own)) in
+            let c = client_of entry.proxy (length (part by_log.before entry.proxy)) entry.batch by_log.next in
+            let l = proxy_lanes_of entry.proxy c.0 c.1 in
+            let both = holds entry.proxy l.0 c.0 l.1 c.1 in
+            let sent = batches entry.proxy c.0 l.0 c.1 l.1 both.0 both.1 in
+            some_at (λ c. IsSent core.set.window log c.requests.sent index entry) (slice_get clients entry.proxy) c.0 c.1
+            (tell.sent core.set.window log index entry at c.0.requests.sent sent.0 sent.1)

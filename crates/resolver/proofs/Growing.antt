@@ -61,7 +61,7 @@ begins_then xs ys zs b d =
     (b.0 ++ d.0, d.1 ∙ ap (λ ws. ws ++ d.0) b.1 ∙ append_assoc xs b.0 d.0)
 
 -- so do the answers to each proxy
-begins_answers_to : (proxy : ℕ) (xs ys : List (ℕ × Answer)) → IsBeginning xs ys
+pub begins_answers_to : (proxy : ℕ) (xs ys : List (ℕ × Answer)) → IsBeginning xs ys
     → IsBeginning (answers_to proxy xs) (answers_to proxy ys)
 begins_answers_to proxy xs ys b =
     (answers_to proxy b.0, ap (answers_to proxy) b.1 ∙ answers_to-append proxy xs b.0)
@@ -120,7 +120,7 @@ grows_leave (suc turns) window s =
 pub grows_leave_all : (window : ℤ) (s : State) → Grows s (leave_all window s)
 grows_leave_all window s = grows_leave (length s.held) window s
 
-grows_step : (window : ℤ) (x : Step) (s : State) → Grows s (step window x s)
+pub grows_step : (window : ℤ) (x : Step) (s : State) → Grows s (step window x s)
 grows_step window (Take proxy b) s =
     let next = admit window proxy b s in
     grows_then s next (leave_all window next) (grows_admit window proxy b s) (grows_leave_all window next)

@@ -22,6 +22,10 @@ taken_from lanes proxy = slice_index_or (map (λ l. l.requests.taken) lanes) pro
 abbrev pub sent_to : List Lanes → Given
 sent_to lanes proxy = slice_index_or (map (λ l. l.replies.sent) lanes) proxy []
 
+-- the request lane of the proxy has ended
+abbrev pub has_ended : List Lanes → ℕ → Bool
+has_ended lanes proxy = slice_index_or (map (λ l. l.ended) lanes) proxy true
+
 -- all request lanes have ended
 abbrev pub all_ended : List Lanes → Bool
 all_ended lanes = list_all (λ l. l.ended) lanes

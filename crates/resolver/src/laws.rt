@@ -1,6 +1,6 @@
 //! Laws about the definitions of the headline and of shares. Each is the contract of a function with an empty body.
 
-ghost use Rattle.std.specs.Prelude.{◌≡◌, ◌≤◌, ◌↔◌, ℕ, ℤ, Bool, List, [], Some, length, slice_get};
+ghost use Rattle.std.specs.Prelude.{◌≡◌, ◌≤◌, ◌↔◌, ℕ, ℤ, List, [], Some, length, slice_get};
 ghost use Rattle.keyspace.specs.Run.{Step, part};
 ghost use Rattle.lane.specs.Lane.{Lane};
 ghost use Rattle.resolver.specs.declared.client.Client.{Client};
@@ -16,8 +16,8 @@ pub fn no_other_proxy()
         ↔ ((proxy : ℕ) → proxies ≤ proxy → part log proxy ≡ []) }
     ensures stands { (r : ResolverState) (log : List Step) → StandsOver r log
         → (proxy : ℕ) → length r.lanes ≤ proxy → part log proxy ≡ [] }
-    ensures settled { (window : ℤ) (log : List Step) (ended : List Bool) (clients : List Client) (account : Account)
-        → Settled window log ended clients account
+    ensures settled { (window : ℤ) (log : List Step) (lanes : List Lanes) (clients : List Client) (account : Account)
+        → Settled window log lanes clients account
         → (proxy : ℕ) → length clients ≤ proxy → part log proxy ≡ [] }
 {}
 

@@ -155,9 +155,9 @@ impl Resolver {
     pub fn settle(&mut self, clients: &mut [Client]) -> Account
         requires clients { AreClients self.old.lanes clients.old }
         ensures settled { (log : List Step) → StandsOver self.old log
-            → Settled self.old.core.set.window log (map (λ l. l.ended) self.old.lanes) clients.old result }
+            → Settled self.old.core.set.window log self.old.lanes clients.old result }
         ensures settled_for_some { IsResolving self.old → (log : List Step)
-            × Settled self.old.core.set.window log (map (λ l. l.ended) self.old.lanes) clients.old result }
+            × Settled self.old.core.set.window log self.old.lanes clients.old result }
         ensures stands { (log : List Step) → StandsOver self.old log → StandsOver self.new log }
         ensures resolving { IsResolving self.old → IsResolving self.new }
         ensures complete { (result.complete ≡ true) ↔ IsComplete self.old clients.old }
@@ -172,6 +172,8 @@ impl Resolver {
     {
         laws::runs_are_chains();
         laws::each_batch_is_answered();
+        serial::laws::chains_are_serializable();
+        serial::laws::answers_tell_verdicts();
         let all_taken = all_lanes::settle(&mut self.all_lanes, clients);
         Account::new(self.core.stop(), self.closed, all_taken)
     }

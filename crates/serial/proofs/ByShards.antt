@@ -26,6 +26,7 @@ use Rattle.std.proofs.Common.{
 use Rattle.std.specs.Prelude.{◌≤ℤ◌, Option, Some, slice_get, IsSomeAnd, Contains}
 use Rattle.std.specs.List.{AllZip}
 use Rattle.std.proofs.lemmas.List.Elements.{All-get_or}
+use Rattle.std.proofs.lemmas.List.Folds.{Any-from_list_any, list_any-from_Any}
 use Rattle.std.proofs.lemmas.Option.{slice_get_within, slice_get-get_or, get_or_from_slice_get}
 use Rattle.keys.specs.declared.range.Range.{Range}
 use Rattle.keyspace.specs.declared.txn.Txn.{Txn}
@@ -41,16 +42,15 @@ use Rattle.serial.specs.Shards.{
   has_key,
   shards_from,
   shards,
-  IsClip,
   IsTxnClip,
   IsBatchClip,
   SaysCommitted,
   AreByShards,
 }
 use Rattle.serial.proofs.Holding.{written_above, current_from_tests, low_from_current, none_from_current}
-use Rattle.serial.proofs.Reading.{some_at, at_index, chain_current}
+use Rattle.serial.proofs.Reading.{some_at, chain_current}
 use Rattle.serial.proofs.Versions.{VersionsRise, version_up_to}
-use Rattle.serial.proofs.Clipping.{CommittedAt, partner, clip_holds, written_by_clips, clips_above}
+use Rattle.serial.proofs.Clipping.{CommittedAt, partner, written_by_clips, clips_above}
 
 -- the element at an index of a list is an element of it
 pub contains_at : {X : Type 0} (xs : List X) (i : ℕ) (x : X) → slice_get xs i ≡ Some x → Contains xs x
@@ -62,7 +62,7 @@ none_before_empty [] = refl
 none_before_empty (byte ∷ key) = refl
 
 -- a key that isn't before the first of the shards lies in one of them
-some_shard : (points : List (List ℕ)) (from key : List ℕ) → is_before key from ≡ false
+pub some_shard : (points : List (List ℕ)) (from key : List ℕ) → is_before key from ≡ false
     → (m : ℕ) × (shard : Shard) × (slice_get (shards_from from points) m ≡ Some shard) × (has_key shard key ≡ true)
 some_shard [] from key h =
     (0, _, refl, and_both (not (is_before key from)) true (ap not h) refl)
@@ -88,8 +88,8 @@ module _ (shard : Shard) (ps own : List Processed)
       let q = batch.0 in
       let txn = partner (IsTxnClip shard) p.batch.txns q.batch.txns batch.2.txns j t c.txn in
       let u = txn.0 in
-      let place = at_index t.reads range read in
-      let clip = partner (IsClip shard) t.reads u.reads txn.2.reads place.0 range place.1 in
+      let reads_key = list_any-from_Any (λ range. holds range key) t.reads (read.0, range, read.1, read.2, held) in
+      let clip = Any-from_list_any (λ range. holds range key) u.reads (txn.2.reads key bytes has ∙ reads_key) in
       let entries_say = λ (l : ℕ) (s : CommittedAt l p.reply.entries).
       subst (λ (o : Option Processed). IsSomeAnd o (λ (p : Processed). CommittedAt l p.reply.entries)) batch.1
       (says i l (some_at (λ (p : Processed). CommittedAt l p.reply.entries) (slice_get ps i) p c.batch s)) in
@@ -100,8 +100,7 @@ module _ (shard : Shard) (ps own : List Processed)
       } in
       let own_writes = writes (take i own) in
       let own_earlier = earlier q.batch q.reply j in
-      let known = current i j q u committed_there clip.0 (contains_at u.reads place.0 clip.0 clip.1) key bytes
-      (clip_holds shard key bytes has range clip.0 clip.2 ∙ held) in
+      let known = current i j q u committed_there clip.1 (clip.0, clip.2, clip.3) key bytes clip.4 in
       let low = subst (λ snapshot. written_above snapshot key own_writes ≡ false) txn.2.snapshot
       (low_from_current u.snapshot q.batch.version key own_writes own_earlier known) in
       let none = none_from_current u.snapshot q.batch.version key own_writes own_earlier known in

@@ -91,7 +91,7 @@ head_version [] = pos 0
 head_version (w ∷ ws) = w.version
 
 -- different numbers are different versions
-not_equal : (a b : ℕ) → a < b → pos a ≡ pos b → ⊥
+pub not_equal : (a b : ℕ) → a < b → pos a ≡ pos b → ⊥
 not_equal a b h k = let same : a ≡ b = cc in omega (arith, same)
 
 -- the two values of a, and of x, are not the same

@@ -44,7 +44,7 @@ use Rattle.keyspace.specs.Writes.{at_version, counted, committed, writes, writes
 use Rattle.keys.proofs.callers.Booleans.{and_left, and_right, and_both, or_either, or_left, or_right}
 use Rattle.serial.specs.Commits.{holds}
 use Rattle.serial.specs.Stores.{in_ranges}
-use Rattle.serial.specs.Shards.{Shard, has_key, IsClip, IsTxnClip, IsBatchClip, SaysCommitted}
+use Rattle.serial.specs.Shards.{Shard, has_key, IsTxnClip, IsBatchClip, SaysCommitted}
 use Rattle.serial.proofs.Holding.{written_above, written_above-append}
 use Rattle.serial.proofs.Reading.{the_value}
 
@@ -173,20 +173,6 @@ above_at_version snapshot version key (range ∷ ranges) =
     ]
 
 module _ (shard : Shard) (key : List ℕ) (bytes : IsBytes key) (has : has_key shard key ≡ true) where
-  -- what a shard that has the key keeps of a range holds the key exactly if the range does
-  pub clip_holds : (range clip : Range) → IsClip shard range clip → holds clip key ≡ holds range key
-  clip_holds range clip is_clip = is_clip key bytes ∙ ap (λ b. b && holds range key) has
-
-  -- and so it is with many ranges
-  clips_hold : (ranges clips : List Range) → AllZip (IsClip shard) ranges clips
-      → in_ranges clips key ≡ in_ranges ranges key
-  clips_hold [] [] zipped = refl
-  clips_hold [] (clip ∷ clips) zipped = absurd zipped
-  clips_hold (range ∷ ranges) [] zipped = absurd zipped
-  clips_hold (range ∷ ranges) (clip ∷ clips) zipped =
-      ap (λ b. b || in_ranges clips key) (clip_holds range clip zipped.0)
-      ∙ ap (λ b. holds range key || b) (clips_hold ranges clips zipped.1)
-
   -- a key that committed transactions before index j write is written by their clips, if those are committed too
   pub written_by_clips : (ts clips : List Txn) (es others : List Entry) (j : ℕ)
       → AllZip (IsTxnClip shard) ts clips → ((l : ℕ) → CommittedAt l es → CommittedAt l others)
@@ -196,7 +182,7 @@ module _ (shard : Shard) (key : List ℕ) (bytes : IsBytes key) (has : has_key s
       let w = writer_from ts es j key h in
       let clip = partner (IsTxnClip shard) ts clips zipped w.index w.txn w.there in
       writer_held clips others j key w.index clip.0 w.below clip.1 (says w.index w.verdict)
-      (clips_hold w.txn.writes clip.0.writes clip.2.writes ∙ w.writes)
+      (clip.2.writes key bytes has ∙ w.writes)
 
   -- a write of a batch above the snapshot that holds the key has one of the batch's clip
   batch_above : (snapshot : ℤ) (p c : Processed) → IsBatchClip shard p.batch c.batch

@@ -22,12 +22,11 @@ first_read_same (range ∷ ranges) one other same =
       | false ↦ λ e. refl
     ] refl
 
--- what a transaction does in the examples depends on its read ranges, and changes its write ranges alone
+-- what a transaction writes in the examples depends on its read ranges
 pub effect_kept : (t : Txn) (i j : ℕ) → IsEffect t (effect_of (Some t) i j)
 effect_kept t i j = record {
   reads = λ one other same key bytes written.
       rw written (ap (λ read. Some (i ∷ j ∷ read)) (first_read_same t.reads one other same));
-  writes = λ store key bytes unwritten. rw unwritten refl;
 }
 
 -- a committed transaction is at its place in the list

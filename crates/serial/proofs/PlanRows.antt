@@ -21,19 +21,19 @@ use Rattle.serial.proofs.Isolation.{current_isolated}
 use Rattle.serial.proofs.EffectRows.{found_at}
 
 -- there is no transaction in an empty list
-none_there : (j : ℕ) (t : Txn) → slice_get [] j ≡ Some t → ⊥
+pub none_there : (j : ℕ) (t : Txn) → slice_get [] j ≡ Some t → ⊥
 none_there j t h = cc
 
 -- the value of an option that has one
-same_value : (t u : Txn) → Some t ≡ Some u → t ≡ u
+pub same_value : (t u : Txn) → Some t ≡ Some u → t ≡ u
 same_value t u h = cc
 
 -- a plan that puts values at the keys of a transaction's write ranges keeps to them
-keeps_by : (t : Txn) (value : Store → Store → Store) → KeepsToWrites t (write_by t.writes value)
+pub keeps_by : (t : Txn) (value : Store → Store → Store) → KeepsToWrites t (write_by t.writes value)
 keeps_by t value read changed key bytes h = rw h refl
 
 -- a plan puts the same if the values are the same
-declared_by : (t : Txn) (value : Store → Store → Store) (read changed : Store)
+pub declared_by : (t : Txn) (value : Store → Store → Store) (read changed : Store)
     → ((other : Store) → SameIn t.reads read other → (key : List ℕ) (bytes : IsBytes key)
     → value read changed key bytes ≡ value other changed key bytes)
     → ReadsOnlyDeclared t (write_by t.writes value) read changed

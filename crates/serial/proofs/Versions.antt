@@ -68,6 +68,10 @@ at_most_through a b c h k = omega (arith, ints)
 no_circle : (a b c : ℤ) → a ≤ℤ b → b ≤ℤ c → c <ℤ a → ⊥
 no_circle a b c h k l = omega (arith, ints)
 
+-- the last of three versions, above the second, which is at or above the first, isn't the first
+not_same : (a b c : ℤ) → a ≤ℤ b → b <ℤ c → a ≡ c → ⊥
+not_same a b c h k same = omega (arith, ints)
+
 -- a batch at or before another has a version at or below the other's
 abbrev pub VersionsRise : List Processed → Type 0
 VersionsRise ps =
@@ -110,6 +114,26 @@ module _ (window : ℤ) (ps : List Processed) (chain : IsChain window ps) where
       let rises = subst (λ m. version_of (take (suc i) ps) ≤ℤ version_of (take m ps)) index (rises_by (k - i) (suc i)) in
       let from_here = subst (λ v. v ≤ℤ version_of (take (suc k) ps)) (version_after ps i p here) rises in
       subst (λ v. p.batch.version ≤ℤ v) (version_after ps k q there) from_here
+
+  -- and no two batches have the same one
+  pub one_at_version : (i k : ℕ) (p q : Processed) → slice_get ps i ≡ Some p → slice_get ps k ≡ Some q
+      → p.batch.version ≡ q.batch.version → i ≡ k
+  one_at_version i k p q here there same =
+      elim (cases_lt i k) [
+        | inl earlier ↦ absurd (never_before i k p q here there earlier same)
+        | inr later ↦ elim (cases_lt k i) [
+          | inl later ↦ absurd (never_before k i q p there here later (sym same))
+          | inr earlier ↦ omega (arith, later, earlier)
+        ]
+      ]
+    where
+      never_before : (i k : ℕ) (p q : Processed) → slice_get ps i ≡ Some p → slice_get ps k ≡ Some q → i < k
+          → p.batch.version ≡ q.batch.version → ⊥
+      never_before i k p q here there h same =
+          let index : (k - suc i) + suc i ≡ k = omega (arith, h) in
+          let rises = subst (λ m. version_of (take (suc i) ps) ≤ℤ version_of (take m ps)) index (rises_by (k - suc i) (suc i)) in
+          let from_here = subst (λ v. v ≤ℤ version_of (take k ps)) (version_after ps i p here) rises in
+          not_same p.batch.version (version_of (take k ps)) q.batch.version from_here (version_before k q there) same
 
 -- if versions rise, a batch with a version at or below a snapshot that is below another batch's version comes before the other
 pub comes_before : (ps : List Processed) → VersionsRise ps → (k i : ℕ) (q p : Processed) (snapshot : ℤ)

@@ -11,6 +11,7 @@ use Rattle.serial.specs.RowStores.{first_store, effects_of, plans_of, at_x, show
 use Rattle.serial.specs.RowLists.{chain, flipped}
 use Rattle.serial.specs.ClauseRows.{ClauseRows}
 use Rattle.serial.specs.PlanRows.{PlanRows}
+use Rattle.serial.specs.AnswerRows.{AnswerRows}
 use Rattle.serial.specs.ShardRows.{ShardRows}
 
 module _ (limits : Limits) where
@@ -48,5 +49,7 @@ module _ (limits : Limits) where
     pub clauses : ClauseRows limits
     -- plans that are no functions of the read ranges
     pub plans : PlanRows limits
+    -- what answers tell
+    pub answers : AnswerRows limits
     -- several resolvers
     pub shards : ShardRows limits

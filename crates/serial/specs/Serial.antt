@@ -9,7 +9,7 @@ use Rattle.std.specs.Prelude.{
   ℤ,
   ◌<ℤ◌,
   ◌≤ℤ◌,
-  false,
+  Bool,
   if◌then◌else◌,
   IsTrue,
   List,
@@ -24,6 +24,7 @@ use Rattle.keyspace.specs.declared.txn.Txn.{Txn}
 use Rattle.keys.specs.Key.{IsBytes}
 use Rattle.keyspace.specs.Processed.{Processed}
 use Rattle.keyspace.specs.Writes.{Write, at_version, writes}
+use Rattle.keyspace.specs.Chain.{IsChain}
 use Rattle.serial.specs.Commits.{IsCommitted, before, holds, holding, up_to}
 use Rattle.serial.specs.Stores.{
   Store,
@@ -92,14 +93,25 @@ Serializable ps =
     (first : Store) (plans : Plans) → AllKeepToWrites ps plans → AllReadOnlyDeclared first plans ps
     → (i j : ℕ) (p : Processed) (t : Txn) → IsCommitted ps i j p t → IsSerial first plans ps i j p t
 
+-- run alone on a store for which the invariant holds, the plan leaves a store for which it holds
+abbrev pub Preserves : (Store → Bool) → Plan → Type 0
+Preserves invariant plan = (store : Store) → IsTrue (invariant store) → IsTrue (invariant (plan store store))
+
+-- An invariant that holds at first, and that each committed transaction preserves alone, holds after any number of batches, as the
+-- transactions were run.
+abbrev pub InvariantsHold : List Processed → Type 0
+InvariantsHold ps =
+    (first : Store) (plans : Plans) → AllKeepToWrites ps plans → AllReadOnlyDeclared first plans ps
+    → (invariant : Store → Bool)
+    → ((i j : ℕ) (p : Processed) (t : Txn) → IsCommitted ps i j p t → Preserves invariant (plans i j))
+    → IsTrue (invariant first)
+    → (batches : ℕ) → IsTrue (invariant (stores_after first plans (take batches ps)).as_run)
+
 -- Transactions that are functions of their read ranges.
 
--- What a transaction writes depends on the keys of its read ranges alone, and it changes the keys of its write ranges alone.
+-- what a transaction writes depends on the keys of its read ranges alone
 pub record IsEffect (t : Txn) (effect : Store → Store) : Type 0 where
   pub reads : (one other : Store) → SameIn t.reads one other → SameIn t.writes (effect one) (effect other)
-  pub writes :
-      (store : Store) (key : List ℕ) (bytes : IsBytes key) → in_ranges t.writes key ≡ false
-      → effect store key bytes ≡ store key bytes
 
 -- what the one store has at the keys of the ranges, and elsewhere what the other has
 abbrev pub put : List Range → Store → Store → Store
@@ -156,3 +168,22 @@ RealTime ps =
     (k l : ℕ) (q : Processed) (u : Txn) → IsCommitted ps k l q u
     → (i j : ℕ) (p : Processed) (t : Txn) → IsCommitted ps i j p t
     → t.snapshot <ℤ p.batch.version → q.batch.version ≤ℤ t.snapshot → Follows ps k l q u i j p t
+
+-- All of it.
+
+-- What the verdicts of this list give a database.
+pub record IsSerializable (ps : List Processed) : Type 0 where
+  -- each committed transaction has read current values, and may be run at its place in the commit order, whatever the others read
+  pub isolated : EachIsIsolated ps
+  -- if none looks at more than it declares, they may be run one at a time in that order: each reads what it has read and leaves what it
+  -- has left
+  pub serial : Serializable ps
+  -- so invariants hold that each of them preserves
+  pub invariants : InvariantsHold ps
+  -- a transaction that only reads is run at its snapshot
+  pub snapshots : SnapshotsArePlaces ps
+  -- a transaction comes after those that were committed at its snapshot
+  pub real_time : RealTime ps
+
+abbrev pub ChainsAreSerializable : Type 0
+ChainsAreSerializable = (window : ℤ) (ps : List Processed) → IsChain window ps → IsSerializable ps

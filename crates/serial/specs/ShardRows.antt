@@ -3,8 +3,11 @@ use Rattle.std.specs.Prelude.{
   ◌≡◌,
   ℕ,
   Bool,
+  true,
   false,
   ◌&&◌,
+  Some,
+  None,
   List,
   [],
   ◌∷◌,
@@ -16,13 +19,14 @@ use Rattle.std.specs.Prelude.{
 }
 use Rattle.keyspace.specs.declared.TheConstants.{WINDOW}
 use Rattle.keys.specs.declared.range.Range.{Range}
+use Rattle.keyspace.specs.declared.txn.Txn.{Txn}
 use Rattle.keyspace.specs.declared.reply.Verdict.{Verdict}
 use Rattle.keyspace.specs.declared.reply.Verdict.TheVariants.{Conflict, Committed}
 use Rattle.keyspace.specs.Processed.{Processed}
 use Rattle.keyspace.specs.Run.{Step, run}
-use Rattle.keyspace.specs.Rows.{Limits, letter, txn, ab, bc, cd, xy, nothing}
+use Rattle.keyspace.specs.Rows.{Limits, letter, is_txn, range, txn, ab, bc, cd, xy, nothing}
 use Rattle.serial.specs.Commits.{holds}
-use Rattle.serial.specs.Shards.{Shard, has_key, shards, SaysCommitted, AreByShards}
+use Rattle.serial.specs.Shards.{Shard, has_key, shards, IsTxnClip, SaysCommitted, AreByShards}
 use Rattle.serial.specs.RowLists.{with_verdicts, four}
 
 abbrev pub verdicts_of : List Step → List Verdict
@@ -54,6 +58,13 @@ held ranges = map (λ range. map (holds range) six_keys) ranges
 abbrev pub at_m : List (List ℕ)
 at_m = letter 109 ∷ []
 
+-- the keys below m, and those from m on
+abbrev pub below_m : Shard
+below_m = record { from = []; to = Some (letter 109) }
+
+abbrev pub from_m : Shard
+from_m = record { from = letter 109; to = None }
+
 module _ (limits : Limits) where
   -- A blind write W[x,y), and then three that read: the first R[x,y)@50 W[c,d), the second R[c,d)@150 W[b,c), the third
   -- R[b,c)@250 W[a,b).
@@ -79,6 +90,22 @@ module _ (limits : Limits) where
       (txn limits 50 false (xy limits ∷ []) (nothing limits ∷ []) refl)
       (txn limits 150 false (nothing limits ∷ []) (nothing limits ∷ []) refl)
       (txn limits 250 false (nothing limits ∷ []) (nothing limits ∷ []) refl)
+
+  -- The same clipped to the keys below m, without the ranges that miss them.
+  abbrev pub fewer_below : List Step
+  fewer_below =
+      four limits (txn limits 0 false [] [] refl)
+      (txn limits 50 false [] (cd limits ∷ []) refl)
+      (txn limits 150 false (cd limits ∷ []) (bc limits ∷ []) refl)
+      (txn limits 250 false (bc limits ∷ []) (ab limits ∷ []) refl)
+
+  -- it reads these ranges, and writes [c,d)
+  abbrev pub reads_then_cd : (snapshot : ℕ) (reads : List Range) → is_txn reads (cd limits ∷ []) ≡ true → Txn
+  reads_then_cd snapshot reads h = txn limits snapshot false reads (cd limits ∷ []) h
+
+  -- [m,n)
+  abbrev pub mn : Range
+  mn = range limits (letter 109) (letter 110) refl
 
   -- what is resolved after that many steps
   abbrev pub resolved : ℕ → Resolved
@@ -126,3 +153,16 @@ module _ (limits : Limits) where
     -- Both shards have committed the last transaction, and its client received a conflict. The laws speak of that too.
     pub proxy_rejects : AreByShards WINDOW at_m each_shard with_rejection
     pub proxy_rejects_committed : All (SaysCommitted 4 0) each_shard × ¬ SaysCommitted 4 0 with_rejection
+    -- A clip may omit a range that misses the shard, and may send a range uncut.
+    pub clip_omits : IsTxnClip below_m (reads_then_cd 50 (xy limits ∷ cd limits ∷ []) refl) (reads_then_cd 50 (cd limits ∷ []) refl)
+    pub clip_uncut : IsTxnClip below_m (reads_then_cd 50 (xy limits ∷ cd limits ∷ []) refl) (reads_then_cd 50 (xy limits ∷ cd limits ∷ []) refl)
+    -- It may not omit a range that meets the shard, nor the key at a split point, nor have another snapshot.
+    pub clip_keeps_ranges : ¬ IsTxnClip below_m (reads_then_cd 50 (cd limits ∷ []) refl) (reads_then_cd 50 [] refl)
+    pub clip_keeps_split_point : ¬ IsTxnClip from_m (reads_then_cd 50 (mn ∷ []) refl) (reads_then_cd 50 (nothing limits ∷ []) refl)
+    pub clip_keeps_snapshot : ¬ IsTxnClip below_m (reads_then_cd 0 (cd limits ∷ []) refl) (reads_then_cd 1 (cd limits ∷ []) refl)
+    -- so the laws of shards speak of shards whose batches omit what misses them
+    pub omitting_together : AreByShards WINDOW at_m
+        ((run WINDOW fewer_below).processed ∷ (run WINDOW (whole_above)).processed ∷ []) of_both
+    -- and of shards that get the batches uncut
+    pub uncut_together : AreByShards WINDOW at_m
+        ((run WINDOW whole).processed ∷ (run WINDOW whole).processed ∷ []) (run WINDOW whole).processed

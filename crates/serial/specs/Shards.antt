@@ -28,7 +28,7 @@ use Rattle.keyspace.specs.declared.batch.Batch.{Batch}
 use Rattle.keys.specs.Key.{IsBytes, is_before, IsBefore}
 use Rattle.keyspace.specs.Chain.{IsChain}
 use Rattle.keyspace.specs.Processed.{Processed}
-use Rattle.serial.specs.Commits.{holds}
+use Rattle.serial.specs.Stores.{in_ranges}
 
 -- the keys from the first one on, up to another one or without end
 pub record Shard : Type 0 where
@@ -65,16 +65,17 @@ pub record IsInOne (shards : List Shard) (key : List ℕ) : Type 0 where
 abbrev pub OneShardEach : Type 0
 OneShardEach = (points : List (List ℕ)) → IsRising [] points → (key : List ℕ) → IsBytes key → IsInOne (shards points) key
 
--- what a shard has of a range: the keys of the range that lie in the shard, if there are any
-abbrev pub IsClip : Shard → Range → Range → Type 0
-IsClip shard range clip =
-    (key : List ℕ) → IsBytes key → holds clip key ≡ has_key shard key && holds range key
+-- Of the keys of the shard, both lists of ranges hold the same. Nothing is said of other keys: a proxy may omit ranges that miss the
+-- shard, or send ranges uncut.
+abbrev pub SameInShard : Shard → List Range → List Range → Type 0
+SameInShard shard ranges clips =
+    (key : List ℕ) → IsBytes key → IsTrue (has_key shard key) → in_ranges clips key ≡ in_ranges ranges key
 
--- the same of a transaction: its ranges in their places, and its snapshot
+-- what a shard has of a transaction: its snapshot, and what it reads and writes in the shard
 pub record IsTxnClip (shard : Shard) (t clip : Txn) : Type 0 where
   pub snapshot : clip.snapshot ≡ t.snapshot
-  pub reads : AllZip (IsClip shard) t.reads clip.reads
-  pub writes : AllZip (IsClip shard) t.writes clip.writes
+  pub reads : SameInShard shard t.reads clip.reads
+  pub writes : SameInShard shard t.writes clip.writes
 
 -- and of a batch: its transactions in their places, and its version
 pub record IsBatchClip (shard : Shard) (b clip : Batch) : Type 0 where

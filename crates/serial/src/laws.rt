@@ -5,7 +5,8 @@ ghost use Rattle.keyspace.specs.Processed.{Processed};
 ghost use Rattle.keyspace.specs.Chain.{IsChain};
 ghost use Rattle.keyspace.specs.Rows.{Limits};
 ghost use Rattle.serial.specs.Commits.{Current};
-ghost use Rattle.serial.specs.Serial.{EachIsIsolated, Serializable, EffectsAreSerializable, SnapshotsArePlaces, RealTime};
+ghost use Rattle.serial.specs.Serial.{EachIsIsolated, Serializable, InvariantsHold, EffectsAreSerializable, SnapshotsArePlaces, RealTime, IsSerializable, ChainsAreSerializable};
+ghost use Rattle.serial.specs.Replies.{AnswersTellVerdicts};
 ghost use Rattle.serial.specs.Shards.{OneShardEach, AreByShards};
 ghost use Rattle.serial.specs.Rows.{WorkedRows};
 
@@ -30,6 +31,12 @@ pub fn serializable()
     ensures effects { (window : ℤ) (ps : List Processed) → IsChain window ps → EffectsAreSerializable ps }
 {}
 
+/// If the committed transactions of a chain read only what they declare, an invariant that each of them preserves alone holds after
+/// any number of batches, as they were run.
+pub fn invariants_hold()
+    ensures invariants { (ps : List Processed) → Current ps → InvariantsHold ps }
+{}
+
 /// A snapshot is a place in the commit order of a chain, so transactions that only read are run there.
 pub fn snapshots_are_places()
     ensures places { (window : ℤ) (ps : List Processed) → IsChain window ps → SnapshotsArePlaces ps }
@@ -40,6 +47,19 @@ pub fn snapshots_are_places()
 pub fn real_time()
     ensures follows { (window : ℤ) (ps : List Processed) → IsChain window ps → RealTime ps }
 {}
+
+/// All of these in one: what a chain gives a database.
+pub fn chains_are_serializable()
+    ensures chains { ChainsAreSerializable }
+{}
+
+/// Each reply is that of one processed batch, which its proxy has sent, and the transactions that replies report as committed are the
+/// committed ones.
+pub fn answers_tell_verdicts()
+    ensures tell { AnswersTellVerdicts }
+{
+    keyspace::laws::runs_are_chains();
+}
 
 /// Rising split points make shards of which exactly one has each key.
 pub fn one_shard_per_key()
@@ -61,6 +81,8 @@ pub fn serializable_by_shards()
         → AreByShards window points each ps → SnapshotsArePlaces ps }
     ensures follows { (window : ℤ) (points : List (List ℕ)) (each : List (List Processed)) (ps : List Processed)
         → AreByShards window points each ps → RealTime ps }
+    ensures all { (window : ℤ) (points : List (List ℕ)) (each : List (List Processed)) (ps : List Processed)
+        → AreByShards window points each ps → IsSerializable ps }
 {}
 
 /// The worked examples, computed on the definitions.

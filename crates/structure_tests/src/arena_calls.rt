@@ -1,9 +1,7 @@
-//! The worked rows of the arena, and random calls beside a map.
+//! The worked rows of the arena, and what prints.
 
 use arena::{Arena, ArenaError, MAX_LENGTH, Slot};
 use std::alloc::{AllocError, Allocator, Global};
-use std::collections::BTreeMap;
-use std::process::Abort;
 use std::test::Fail;
 use test_values::prints;
 
@@ -65,53 +63,6 @@ fn arena_reserve_and_place(rt: HostRuntime) -> Result<(), Fail> {
     assert!(rt; shows(&arena, slot, 1, b"small"));
     assert_eq!(rt; arena.live(), 1);
     Ok(())
-}
-
-type Records = BTreeMap<u32, (Slot, Vec<u8>)>;
-
-// An arena, with what its records are.
-#[derive(Drop)]
-struct Both {
-    arena: Arena<u32>,
-    records: Records,
-}
-
-impl Both {
-    fn new(alloc: Global) -> Self {
-        Both {
-            arena: Arena::new(alloc),
-            records: BTreeMap::new(alloc),
-        }
-    }
-
-    fn place(&mut self, alloc: Global, number: u32, length: usize) -> Result<(), Fail> {
-        let key = bytes_of(alloc, number, length)?;
-        let slot = self.arena.place(number, &key)?;
-        self.records.insert(number, (slot, key))?;
-        Ok(())
-    }
-
-    // Takes out the record whose number is the first from this one on, and releases it.
-    fn release_from(&mut self, rt: &impl Abort, from: u32) {
-        let Some((number, _)) = self.records.range(from..).next() else {
-            return;
-        };
-        let number = *number;
-        let Some((slot, key)) = self.records.remove(&number) else {
-            return;
-        };
-        assert!(rt; shows(&self.arena, slot, number, &key));
-        assert!(rt; self.arena.is_live(slot));
-        self.arena.release(slot);
-    }
-
-    fn shows_all(&self) -> bool {
-        let mut all_show = true;
-        for (number, (slot, key)) in &self.records {
-            all_show &= shows(&self.arena, *slot, *number, key);
-        }
-        all_show
-    }
 }
 
 #[test]

@@ -2,188 +2,205 @@
 
 use super::{Arg, ArgAction, ArgMatches, Command, Error, ErrorKind};
 use crate::string::String;
-use std::fmt::Write;
+use std::slice;
+
+// Returns an error of this kind with a message.
+macro_rules! refuse {
+    ($command:ident, $kind:ident, $($message:tt)*) => {
+        return Err($command.refusal(ErrorKind::$kind, &format!($($message)*)))
+    };
+}
 
 impl<'a> Command<'a> {
     /// Takes the words, of which the first is the program's name.
-    pub fn try_get_matches_from(&self, words: &'a [String]) -> Result<ArgMatches<'a>, Error>
-    where
-        Self: 'a,
-    {
-        let words: Vec<&'a str> = words.iter().skip(1).map(String::as_str).collect();
-        self.take(&words)
-    }
-
-    fn refuse(&self, kind: ErrorKind, message: std::string::String) -> Error {
-        self.refusal(kind, &message)
+    pub fn try_get_matches_from(&self, words: &'a [String]) -> Result<ArgMatches<'a>, Error> {
+        self.take(words.get(1..).unwrap_or_default())
     }
 
     pub(super) fn refusal(&self, kind: ErrorKind, message: &str) -> Error {
-        let text = format!("error: {message}\n\n{}\nFor more information, try '--help'.\n", self.usage());
+        let usage = self.usage();
+        let text = format!("error: {message}\n\n{usage}\nFor more information, try '--help'.\n");
         Error { kind, text }
     }
 
-    fn take(&self, words: &[&'a str]) -> Result<ArgMatches<'a>, Error> {
+    fn take(&self, words: &'a [String]) -> Result<ArgMatches<'a>, Error> {
         if words.is_empty() && self.arg_required_else_help {
             return Err(self.help(ErrorKind::MissingRequiredArgument));
         }
         let mut found = ArgMatches::default();
-        let mut rest = words.iter();
-        let mut options = true;
+        let (mut rest, mut options) = (words.iter(), true);
         while let Some(word) = rest.next() {
-            match word.strip_prefix("--").filter(|_| options) {
-                Some("") => options = false,
-                Some(option) => self.take_option(option, &mut rest, &mut found)?,
-                None if options && word.len() > 1 && word.starts_with('-') => return Err(self.short(word)),
-                None if options && !self.subcommands.is_empty() => {
-                    let rest: Vec<_> = rest.copied().collect();
-                    return self.take_subcommand(word, &rest);
-                }
-                None => self.take_positional(word, &mut found)?,
+            if options && word.as_str() == "--" {
+                options = false;
+            } else if options && word.len() > 1 && word.starts_with('-') {
+                self.take_option(word, &mut rest, &mut found)?;
+            } else if options && !self.subcommands.is_empty() {
+                return self.take_subcommand(word, rest.as_slice());
+            } else {
+                self.take_positional(word, &mut found)?;
             }
         }
         self.complete(found)
     }
 
-    fn short(&self, word: &str) -> Error {
-        match word.as_bytes()[1] {
-            b'h' => self.help(ErrorKind::DisplayHelp),
-            b'V' if !self.version.is_empty() => self.shown_version(),
-            _ => self.refuse(ErrorKind::UnknownArgument, format!("unexpected argument '{word}' found")),
+    fn take_option(
+        &self,
+        word: &'a str,
+        rest: &mut slice::Iter<'a, String>,
+        found: &mut ArgMatches<'a>,
+    ) -> Result<(), Error> {
+        let (name, given) = match word.split_once('=') {
+            Some((name, value)) => (name, Some(value)),
+            None => (word, None),
+        };
+        let Some(arg) = self.arguments.iter().find(|arg| arg.is_named(name)) else {
+            return Err(self.asked(name, given));
+        };
+        let shown = arg.shown();
+        let is_value = |next: &&String| next.as_str() == "-" || !next.starts_with('-');
+        match (arg.action, given) {
+            (ArgAction::SetTrue, None) => self.keep(arg, "true", found),
+            (ArgAction::SetTrue, Some(value)) => {
+                refuse!(self, TooManyValues, "unexpected value '{value}' for '{shown}' found")
+            }
+            (_, Some(value)) => self.keep(arg, value, found),
+            (_, None) => match rest.next().filter(is_value) {
+                Some(value) => self.keep(arg, value, found),
+                None => refuse!(self, WrongNumberOfValues, "a value is required for '{shown}'"),
+            },
         }
     }
 
-    fn shown_version(&self) -> Error {
-        Error { kind: ErrorKind::DisplayVersion, text: format!("{} {}\n", self.name, self.version) }
+    // Returns what an option is that commands have unasked, or that it is unknown.
+    fn asked(&self, name: &str, given: Option<&str>) -> Error {
+        let is = |short, long| name.starts_with(short) || name == long && given.is_none();
+        if is("-h", "--help") {
+            self.help(ErrorKind::DisplayHelp)
+        } else if is("-V", "--version") && !self.version.is_empty() {
+            let text = format!("{} {}\n", self.name, self.version);
+            Error { kind: ErrorKind::DisplayVersion, text }
+        } else {
+            self.unexpected(name)
+        }
     }
 
-    fn take_option<'w>(&self, option: &'a str, rest: &mut impl Iterator<Item = &'w &'a str>, found: &mut ArgMatches<'a>) -> Result<(), Error>
-    where
-        'a: 'w,
-    {
-        let (name, given) = option.split_once('=').map_or((option, None), |(name, value)| (name, Some(value)));
-        let Some(arg) = self.arguments.iter().find(|arg| arg.long == Some(name)) else {
-            return Err(match (name, given) {
-                ("help", None) => self.help(ErrorKind::DisplayHelp),
-                ("version", None) if !self.version.is_empty() => self.shown_version(),
-                _ => self.refuse(ErrorKind::UnknownArgument, format!("unexpected argument '--{name}' found")),
-            });
-        };
-        let value = match (arg.action, given) {
-            (ArgAction::SetTrue, None) => "true",
-            (ArgAction::SetTrue, Some(value)) => {
-                return Err(self.refuse(ErrorKind::TooManyValues, format!("unexpected value '{value}' for '--{name}' found")));
-            }
-            (_, Some(value)) => value,
-            (_, None) => match rest.next() {
-                Some(value) if !value.starts_with('-') || *value == "-" => value,
-                _ => return Err(self.refuse(ErrorKind::WrongNumberOfValues, format!("a value is required for '{}'", arg.shown()))),
-            },
-        };
-        self.keep(arg, value, found)
+    fn unexpected(&self, word: &str) -> Error {
+        self.refusal(ErrorKind::UnknownArgument, &format!("unexpected argument '{word}' found"))
     }
 
     fn take_positional(&self, word: &'a str, found: &mut ArgMatches<'a>) -> Result<(), Error> {
-        let mut positional = self.arguments.iter().filter(|arg| arg.long.is_none());
-        match positional.find(|arg| arg.action == ArgAction::Append || found.get_strs(arg.id).is_none()) {
+        let takes = |arg: &&Arg<'a>| {
+            let is_open = arg.action == ArgAction::Append || found.get_str(arg.id).is_none();
+            arg.long.is_none() && is_open
+        };
+        match self.arguments.iter().find(takes) {
             Some(arg) => self.keep(arg, word, found),
-            None => Err(self.refuse(ErrorKind::UnknownArgument, format!("unexpected argument '{word}' found"))),
+            None => Err(self.unexpected(word)),
         }
     }
 
     fn keep(&self, arg: &Arg<'a>, value: &'a str, found: &mut ArgMatches<'a>) -> Result<(), Error> {
-        if arg.parser.is_some_and(|parser| !parser.takes(value)) {
-            return Err(self.refuse(ErrorKind::ValueValidation, format!("invalid value '{value}' for '{}'", arg.shown())));
+        let shown = arg.shown();
+        if arg.value_parser.as_ref().is_some_and(|parser| !parser.takes(value)) {
+            refuse!(self, ValueValidation, "invalid value '{value}' for '{shown}'");
         }
         match found.values.iter_mut().find(|(id, _)| *id == arg.id) {
             None => found.values.push((arg.id, vec![value])),
             Some((_, values)) if arg.action == ArgAction::Append => values.push(value),
-            Some(_) => {
-                return Err(self.refuse(ErrorKind::ArgumentConflict, format!("the argument '{}' cannot be used multiple times", arg.shown())));
-            }
+            Some(_) => refuse!(
+                self,
+                ArgumentConflict,
+                "the argument '{shown}' cannot be used multiple times"
+            ),
         }
         Ok(())
     }
 
-    fn take_subcommand(&self, name: &'a str, rest: &[&'a str]) -> Result<ArgMatches<'a>, Error> {
+    fn take_subcommand(&self, name: &'a str, rest: &'a [String]) -> Result<ArgMatches<'a>, Error> {
         if name == "help" {
             return Err(self.help_of(rest));
         }
-        let Some(command) = self.subcommands.iter().find(|command| command.name == name) else {
-            return Err(self.refuse(ErrorKind::UnknownArgument, format!("unrecognized subcommand '{name}'")));
-        };
-        let matches = Box::new(command.take(rest)?);
+        let matches = Box::new(self.below(name)?.take(rest)?);
         Ok(ArgMatches { values: Vec::new(), subcommand: Some((name, matches)) })
     }
 
-    // Returns the help of the subcommand that these words name, one below the other. `help` itself is one at the top.
-    fn help_of(&self, names: &[&'a str]) -> Error {
-        let mut command = self;
-        for name in names {
-            match command.subcommands.iter().find(|below| below.name == *name) {
-                Some(below) => command = below,
-                None if names == ["help"] => {}
-                None => return self.refuse(ErrorKind::UnknownArgument, format!("unrecognized subcommand '{name}'")),
-            }
+    fn below(&self, name: &str) -> Result<&Self, Error> {
+        match self.subcommands.iter().find(|command| command.name == name) {
+            Some(command) => Ok(command),
+            None => refuse!(self, UnknownArgument, "unrecognized subcommand '{name}'"),
         }
-        command.help(ErrorKind::DisplayHelp)
+    }
+
+    // Returns the help of the subcommand that these words name, one below the other. `help` itself
+    // is one at the top.
+    fn help_of(&self, names: &[String]) -> Error {
+        let below = match names {
+            [name] if name.as_str() == "help" => Ok(self),
+            _ => names.iter().try_fold(self, |command, name| command.below(name)),
+        };
+        below.map_or_else(|unknown| unknown, |command| command.help(ErrorKind::DisplayHelp))
     }
 
     // Adds defaults, and looks that nothing required is missing.
     fn complete(&self, mut found: ArgMatches<'a>) -> Result<ArgMatches<'a>, Error> {
         if self.subcommand_required {
-            return Err(self.refuse(ErrorKind::MissingRequiredArgument, format!("'{}' requires a subcommand but one was not provided", self.name)));
+            refuse!(self, MissingRequiredArgument, "a subcommand was not provided");
         }
         for arg in &self.arguments {
-            if found.get_strs(arg.id).is_some() {
+            let default =
+                arg.default_value.or((arg.action == ArgAction::SetTrue).then_some("false"));
+            if found.get_str(arg.id).is_some() {
                 continue;
-            }
-            if arg.required {
-                let message = format!("the following required arguments were not provided:\n  {}", arg.shown());
-                return Err(self.refuse(ErrorKind::MissingRequiredArgument, message));
-            }
-            let default = if arg.action == ArgAction::SetTrue { Some("false") } else { arg.default };
-            if let Some(value) = default {
+            } else if let Some(value) = default {
                 found.values.push((arg.id, vec![value]));
+            } else if arg.required {
+                let message = "the following required arguments were not provided";
+                refuse!(self, MissingRequiredArgument, "{message}:\n  {}", arg.shown());
             }
         }
         Ok(found)
     }
 
     fn usage(&self) -> std::string::String {
-        let positional = self.arguments.iter().filter(|arg| arg.long.is_none());
-        let words: Vec<_> = positional.map(Arg::shown).chain((!self.subcommands.is_empty()).then(|| "<COMMAND>".to_owned())).collect();
+        let positional = self.arguments.iter().filter(|arg| arg.long.is_none()).map(Arg::shown);
+        let command = (!self.subcommands.is_empty()).then(|| "<COMMAND>".to_owned());
+        let words: Vec<_> = positional.chain(command).collect();
         format!("Usage: {} [OPTIONS] {}\n", self.name, words.join(" "))
     }
 
     fn help(&self, kind: ErrorKind) -> Error {
         let mut text = format!("{}\n\n{}\n", self.about, self.usage());
+        let mut row = |name: &str, help: &str| text += &format!("  {name:<22} {help}\n");
         for command in &self.subcommands {
-            let _ = writeln!(text, "  {:<22} {}", command.name, command.about);
+            row(command.name, command.about);
         }
         for arg in &self.arguments {
-            let default = arg.default.map_or(std::string::String::new(), |value| format!(" [default: {value}]"));
-            let _ = writeln!(text, "  {:<22} {}{default}", arg.shown(), arg.help);
+            let default = arg.default_value.map(|value| format!(" [default: {value}]"));
+            row(&arg.shown(), &format!("{}{}", arg.help, default.unwrap_or_default()));
         }
-        text.push_str("  -h, --help             Print help\n");
+        row("-h, --help", "Print help");
         if !self.version.is_empty() {
-            text.push_str("  -V, --version          Print version\n");
+            row("-V, --version", "Print version");
         }
-        if !self.after_long_help.is_empty() {
-            let _ = write!(text, "\n{}\n", self.after_long_help);
-        }
-        text.push_str("\nThis is the help of the unproved edition. The proved programs print a longer one.\n");
+        text += &format!("\n{}\n\n{EDITION}\n", self.after_long_help);
         Error { kind, text }
     }
 }
 
+const EDITION: &str =
+    "This is the help of the unproved edition. The proved programs print a longer one.";
+
 impl Arg<'_> {
+    fn is_named(&self, name: &str) -> bool {
+        self.long.is_some() && self.long == name.strip_prefix("--")
+    }
+
     fn shown(&self) -> std::string::String {
-        match (self.long, self.action) {
-            (Some(name), ArgAction::SetTrue) => format!("--{name}"),
-            (Some(name), _) => format!("--{name} <{}>", self.value_name),
-            (None, ArgAction::Append) => format!("<{}>...", self.value_name),
-            (None, _) => format!("[{}]", self.value_name),
+        match (self.long, self.action, self.value_name) {
+            (Some(name), ArgAction::SetTrue, _) => format!("--{name}"),
+            (Some(name), _, value) => format!("--{name} <{value}>"),
+            (None, ArgAction::Append, value) => format!("<{value}>..."),
+            (None, _, value) => format!("[{value}]"),
         }
     }
 }

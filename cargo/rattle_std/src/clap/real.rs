@@ -9,22 +9,27 @@ fn kept(text: &str) -> &'static str {
     Box::leak(text.to_owned().into_boxed_str())
 }
 
+fn kept_if_any(text: &str) -> Option<&'static str> {
+    (!text.is_empty()).then(|| kept(text))
+}
+
 impl<'a> Command<'a> {
     /// Takes the words, of which the first is the program's name.
     pub fn try_get_matches_from(&self, words: &'a [String]) -> Result<ArgMatches<'a>, Error> {
-        let words = words.iter().map(String::as_str);
-        self.real().try_get_matches_from(words).map(|found| self.matches(&found)).map_err(error_of)
+        let found = self.real().try_get_matches_from(words.iter().map(|word| word.as_str()));
+        found.map(|found| self.matches(&found)).map_err(error_of)
     }
 
     pub(super) fn refusal(&self, kind: ErrorKind, message: &str) -> Error {
-        Error { kind, ..error_of(self.real().error(error::ErrorKind::ValueValidation, message)) }
+        let error = self.real().error(error::ErrorKind::ValueValidation, message);
+        Error { kind, ..error_of(error) }
     }
 
     fn real(&self) -> clap::Command {
-        let command = clap::Command::new(kept(self.name)).about(kept(self.about));
-        let command = if self.version.is_empty() { command } else { command.version(kept(self.version)) };
-        let command = if self.after_long_help.is_empty() { command } else { command.after_long_help(kept(self.after_long_help)) };
-        command
+        clap::Command::new(kept(self.name))
+            .about(kept(self.about))
+            .version(kept_if_any(self.version))
+            .after_long_help(kept_if_any(self.after_long_help))
             .subcommand_required(self.subcommand_required)
             .arg_required_else_help(self.arg_required_else_help)
             .args(self.arguments.iter().map(Arg::real))
@@ -46,21 +51,26 @@ impl<'a> Command<'a> {
 
 impl Arg<'_> {
     fn real(&self) -> clap::Arg {
-        let arg = clap::Arg::new(kept(self.id)).help(kept(self.help)).required(self.required).action(match self.action {
+        let action = match self.action {
             ArgAction::Set => clap::ArgAction::Set,
             ArgAction::Append => clap::ArgAction::Append,
             ArgAction::SetTrue => clap::ArgAction::SetTrue,
-        });
-        let arg = self.long.map_or(arg.clone(), |name| arg.long(kept(name)));
-        let arg = if self.action == ArgAction::SetTrue { arg } else { arg.value_name(kept(self.value_name)) };
-        let arg = self.default.map_or(arg.clone(), |value| arg.default_value(kept(value)));
-        self.parser.as_ref().map_or(arg.clone(), |parser| arg.value_parser(parser.real()))
+        };
+        let is_switch = self.action == ArgAction::SetTrue;
+        clap::Arg::new(kept(self.id))
+            .help(kept(self.help))
+            .required(self.required)
+            .action(action)
+            .long(self.long.map(kept))
+            .value_name((!is_switch).then(|| kept(self.value_name)))
+            .default_value(self.default_value.map(kept))
+            .value_parser(self.value_parser.as_ref().map(ValueParser::real))
     }
 }
 
 impl ValueParser<'_> {
     fn real(&self) -> builder::ValueParser {
-        match (i64::try_from(self.least), i64::try_from(self.most)) {
+        match (i64::try_from(*self.0.start()), i64::try_from(*self.0.end())) {
             (Ok(least), Ok(most)) => value_parser!(i64).range(least..=most).into(),
             _ => value_parser!(u64).into(),
         }

@@ -1,111 +1,77 @@
-//! The strings of a text, of which those with escapes are unescaped before anything is borrowed.
+//! The strings of a text. One with escapes is unescaped into room that is made before.
 
-use super::Error;
 use crate::alloc::{AllocError, Global};
+use std::str::{Chars, from_utf8};
+use std::{iter, mem};
 
 /// Room for the strings with escapes. It is kept from text to text.
 #[derive(Debug)]
-pub struct Scratch {
-    text: String,
-    // Where each of the strings ends.
-    ends: Vec<usize>,
-}
+pub struct Scratch(Vec<u8>);
 
 impl Scratch {
     pub fn new(_alloc: Global) -> Self {
-        Scratch { text: String::new(), ends: Vec::new() }
+        Scratch(Vec::new())
+    }
+
+    /// Returns room for the strings of a text of that length. No escape is shorter than its
+    /// character.
+    pub fn room(&mut self, length: usize) -> Result<Room<'_>, AllocError> {
+        self.0.try_reserve(length.saturating_sub(self.0.len()))?;
+        self.0.resize(length.max(self.0.len()), 0);
+        Ok(Room(&mut self.0))
     }
 }
 
-/// The unescaped strings of a text that are still to come.
-pub struct Strings<'a> {
-    text: &'a str,
-    ends: &'a [usize],
-    at: usize,
-}
+/// The remaining room.
+pub struct Room<'a>(&'a mut [u8]);
 
-impl<'a> Strings<'a> {
-    /// Unescapes each string of a text.
-    pub fn of(text: &str, scratch: &'a mut Scratch) -> Result<Self, Error> {
-        scratch.text.clear();
-        scratch.ends.clear();
-        scratch.text.try_reserve(text.len()).map_err(|_| AllocError)?;
-        let mut rest = text;
-        while let Some(quote) = rest.find('"') {
-            let inside = &rest[quote + 1..];
-            let end = end_of(inside).ok_or(Error::Invalid)?;
-            if inside[..end].contains('\\') {
-                unescape(&inside[..end], &mut scratch.text).ok_or(Error::Invalid)?;
-                scratch.ends.try_reserve(1).map_err(|_| AllocError)?;
-                scratch.ends.push(scratch.text.len());
-            }
-            rest = &inside[end + 1..];
+impl<'a> Room<'a> {
+    /// Returns the string that ends at the first quote of a text, and what comes after the quote.
+    pub fn string(&mut self, text: &'a str) -> Option<(&'a str, &'a str)> {
+        let end = text.find(['"', '\\'])?;
+        if text.as_bytes()[end] == b'"' {
+            let string = &text[..end];
+            let is_plain = string.bytes().all(|byte| byte >= b' ');
+            return is_plain.then_some((string, &text[end + 1..]));
         }
-        Ok(Strings { text: &scratch.text, ends: &scratch.ends, at: 0 })
-    }
-
-    /// Returns the string at the front of a text, and what comes after its quote, or None if no string is there.
-    pub fn next(&mut self, text: &'a str) -> Option<(&'a str, &'a str)> {
-        let inside = text.strip_prefix('"')?;
-        let end = end_of(inside)?;
-        let (string, rest) = (&inside[..end], &inside[end + 1..]);
-        if string.bytes().any(|byte| byte < 32) {
-            return None;
+        let mut rest = text.chars();
+        let mut length = 0;
+        loop {
+            let character = match rest.next()? {
+                '"' => break,
+                '\\' => escaped(&mut rest)?,
+                '\0'..' ' => return None,
+                same => same,
+            };
+            length += character.encode_utf8(&mut self.0[length..]).len();
         }
-        if !string.contains('\\') {
-            return Some((string, rest));
-        }
-        let (until, ends) = self.ends.split_first()?;
-        let string = &self.text[self.at..*until];
-        (self.at, self.ends) = (*until, ends);
-        Some((string, rest))
+        let (string, left) = mem::take(&mut self.0).split_at_mut(length);
+        self.0 = left;
+        Some((from_utf8(string).ok()?, rest.as_str()))
     }
 }
 
-// Returns the place of the quote that ends a string.
-fn end_of(inside: &str) -> Option<usize> {
-    let mut escaped = false;
-    inside.bytes().position(|byte| {
-        let ends = byte == b'"' && !escaped;
-        escaped = byte == b'\\' && !escaped;
-        ends
+// Reads what comes after a backslash.
+fn escaped(rest: &mut Chars<'_>) -> Option<char> {
+    Some(match rest.next()? {
+        'b' => '\u{8}',
+        'f' => '\u{c}',
+        'n' => '\n',
+        'r' => '\r',
+        't' => '\t',
+        'u' => code_point(rest)?,
+        same @ ('"' | '\\' | '/') => same,
+        _ => return None,
     })
 }
 
-fn unescape(string: &str, out: &mut String) -> Option<()> {
-    let mut rest = string.chars();
-    while let Some(character) = rest.next() {
-        if character != '\\' {
-            out.push(character);
-            continue;
-        }
-        out.push(match rest.next()? {
-            'b' => '\u{8}',
-            'f' => '\u{c}',
-            'n' => '\n',
-            'r' => '\r',
-            't' => '\t',
-            'u' => code_point(&mut rest)?,
-            same @ ('"' | '\\' | '/') => same,
-            _ => return None,
-        });
-    }
-    Some(())
+// Reads the digits after `\u`, and a second escape if they are half of a pair.
+fn code_point(rest: &mut Chars<'_>) -> Option<char> {
+    let first = code_unit(rest.by_ref())?;
+    let second = || code_unit(rest.as_str().strip_prefix("\\u").map(|_| rest.by_ref().skip(2))?);
+    char::decode_utf16(iter::once(first).chain(iter::from_fn(second))).next()?.ok()
 }
 
-// Reads the digits behind `\u`, and those of the second half of a pair. A half alone is refused.
-fn code_point(rest: &mut std::str::Chars<'_>) -> Option<char> {
-    let high = code_unit(rest)?;
-    if !(0xd800..0xdc00).contains(&high) {
-        return char::from_u32(high);
-    }
-    if (rest.next(), rest.next()) != (Some('\\'), Some('u')) {
-        return None;
-    }
-    let low = code_unit(rest)?.checked_sub(0xdc00).filter(|low| *low < 0x400)?;
-    char::from_u32(0x1_0000 + ((high - 0xd800) << 10) + low)
-}
-
-fn code_unit(rest: &mut std::str::Chars<'_>) -> Option<u32> {
-    (0..4).try_fold(0, |unit, _| Some(16 * unit + rest.next()?.to_digit(16)?))
+fn code_unit(mut rest: impl Iterator<Item = char>) -> Option<u16> {
+    (0..4).try_fold(0, |unit, _| Some(16 * unit + rest.next()?.to_digit(16)? as u16))
 }

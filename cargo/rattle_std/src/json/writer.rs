@@ -12,7 +12,18 @@ pub struct Writer<A = Global> {
     ended: bool,
 }
 
+// Methods that write the same token in each call.
+macro_rules! tokens {
+    ($($name:ident $token:literal)*) => {
+        $(pub fn $name(&mut self) -> Result<(), AllocError> {
+            self.token($token)
+        })*
+    };
+}
+
 impl<A> Writer<A> {
+    tokens!(begin_object "{" end_object "}" begin_array "[" end_array "]");
+
     pub fn new(out: Vec<u8, A>) -> Self {
         Writer { out, ended: false }
     }
@@ -21,64 +32,40 @@ impl<A> Writer<A> {
         self.out
     }
 
-    fn token(&mut self, text: &[u8], ends: bool) -> Result<(), AllocError> {
-        self.separate()?;
-        self.ended = ends;
-        self.out.extend_from_slice(text)
-    }
-
-    fn separate(&mut self) -> Result<(), AllocError> {
-        if self.ended { self.out.extend_from_slice(b",") } else { Ok(()) }
-    }
-
-    fn close(&mut self, bracket: u8) -> Result<(), AllocError> {
-        self.ended = true;
-        self.out.extend_from_slice(&[bracket])
-    }
-
-    pub fn begin_object(&mut self) -> Result<(), AllocError> {
-        self.token(b"{", false)
-    }
-
-    pub fn end_object(&mut self) -> Result<(), AllocError> {
-        self.close(b'}')
-    }
-
-    pub fn begin_array(&mut self) -> Result<(), AllocError> {
-        self.token(b"[", false)
-    }
-
-    pub fn end_array(&mut self) -> Result<(), AllocError> {
-        self.close(b']')
+    fn token(&mut self, text: &str) -> Result<(), AllocError> {
+        if self.ended && !matches!(text, "}" | "]" | ":") {
+            self.out.push(b',')?;
+        }
+        self.ended = !matches!(text, "{" | "[" | ":");
+        self.out.extend_from_slice(text.as_bytes())
     }
 
     pub fn key(&mut self, name: &str) -> Result<(), AllocError> {
         self.string(name)?;
-        self.ended = false;
-        self.out.extend_from_slice(b":")
+        self.token(":")
     }
 
     pub fn boolean(&mut self, truth: bool) -> Result<(), AllocError> {
-        self.token(if truth { b"true" } else { b"false" }, true)
+        self.token(if truth { "true" } else { "false" })
     }
 
     pub fn i64(&mut self, number: i64) -> Result<(), AllocError> {
-        self.token(Buffer::new().format(number).as_bytes(), true)
+        self.token(Buffer::new().format(number))
     }
 
     pub fn u64(&mut self, number: u64) -> Result<(), AllocError> {
-        self.token(Buffer::new().format(number).as_bytes(), true)
+        self.token(Buffer::new().format(number))
     }
 
     pub fn string(&mut self, text: &str) -> Result<(), AllocError> {
-        self.token(b"\"", true)?;
+        self.token("\"")?;
         for byte in text.bytes() {
-            self.escaped(byte)?;
+            self.character(byte)?;
         }
         self.out.extend_from_slice(b"\"")
     }
 
-    fn escaped(&mut self, byte: u8) -> Result<(), AllocError> {
+    fn character(&mut self, byte: u8) -> Result<(), AllocError> {
         let letter = match byte {
             b'"' | b'\\' => byte,
             8 => b'b',
@@ -88,9 +75,10 @@ impl<A> Writer<A> {
             13 => b'r',
             0..32 => {
                 let digit = b"0123456789abcdef"[usize::from(byte & 15)];
-                return self.out.extend_from_slice(&[b'\\', b'u', b'0', b'0', b'0' + (byte >> 4), digit]);
+                let escape = [b'\\', b'u', b'0', b'0', b'0' + (byte >> 4), digit];
+                return self.out.extend_from_slice(&escape);
             }
-            _ => return self.out.extend_from_slice(&[byte]),
+            _ => return Ok(self.out.push(byte)?),
         };
         self.out.extend_from_slice(&[b'\\', letter])
     }

@@ -21,6 +21,7 @@ use Rattle.std.proofs.Common.{
   drop,
   replicate,
   slice_index,
+  false,
   refl,
   sym,
   ap,
@@ -39,7 +40,7 @@ use Rattle.std.specs.Int.{w64, to_be_bytes}
 use Rattle.std.specs.Ordering.{nat_cmp, is_lt, ordering_then}
 use Rattle.std.specs.Cmp.{nat_cmp_is}
 use Rattle.std.specs.Cmp.Lexicographic.{slice_cmp}
-use Rattle.std.specs.declared.cmp.Ordering.TheVariants.{Less, Equal}
+use Rattle.std.specs.declared.cmp.Ordering.TheVariants.{Less, Equal, Greater}
 use Rattle.std.proofs.Math.Nat.{pow-suc, one-le-pow, mul-le-mul_left}
 use Rattle.std.proofs.Math.Seq.{take-append-add}
 use Rattle.std.proofs.lemmas.Bool.{cases_lt, cases_order}
@@ -69,12 +70,17 @@ abbrev IsByte : ℕ → Type 0
 IsByte byte = byte < 256
 
 -- the lesser first byte comes first
-before_by_first : (x y : ℕ) (a b : List ℕ) → x < y → IsBefore (x ∷ a) (y ∷ b)
+pub before_by_first : (x y : ℕ) (a b : List ℕ) → x < y → IsBefore (x ∷ a) (y ∷ b)
 before_by_first x y a b less =
     ap (λ o. is_lt (ordering_then o (slice_cmp nat_cmp a b))) (sym (nat_cmp_is x y Less less))
 
+-- and the greater one doesn't
+pub after_by_first : (x y : ℕ) (a b : List ℕ) → y < x → is_before (x ∷ a) (y ∷ b) ≡ false
+after_by_first x y a b greater =
+    ap (λ o. is_lt (ordering_then o (slice_cmp nat_cmp a b))) (sym (nat_cmp_is x y Greater greater))
+
 -- behind equal first bytes the others decide
-before_behind_first : (x : ℕ) (a b : List ℕ) → is_before (x ∷ a) (x ∷ b) ≡ is_before a b
+pub before_behind_first : (x : ℕ) (a b : List ℕ) → is_before (x ∷ a) (x ∷ b) ≡ is_before a b
 before_behind_first x a b =
     ap (λ o. is_lt (ordering_then o (slice_cmp nat_cmp a b))) (sym (nat_cmp_is x x Equal refl))
 
@@ -128,6 +134,10 @@ head_of-number (p ∷ q ∷ r ∷ s ∷ t ∷ []) = omega arith
 head_of-number (p ∷ q ∷ r ∷ s ∷ t ∷ u ∷ []) = omega arith
 head_of-number (p ∷ q ∷ r ∷ s ∷ t ∷ u ∷ v ∷ []) = omega arith
 head_of-number (p ∷ q ∷ r ∷ s ∷ t ∷ u ∷ v ∷ w ∷ a) = omega arith
+
+-- a head has 64 bits
+pub head_below : (a : List ℕ) → IsBytes a → head_of a < 2 ^ 64
+head_below a bytes = omega (arith, head_of-number a, number_of-below 8 a bytes)
 
 -- the key with the lesser head comes first
 pub head_less : (a b : List ℕ) → IsBytes a → IsBytes b → head_of a < head_of b → IsBefore a b

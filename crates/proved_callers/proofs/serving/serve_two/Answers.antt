@@ -115,6 +115,6 @@ returns c =
           (record { first = c.in_ok-first.first; second = c.in_ok-first.second; account = account }) serving
           (subst
           (λ (clients : List Client). (log : List Step)
-          × Settled r.core.set.window log (map (λ l. l.ended) r.lanes) clients account)
+          × Settled r.core.set.window log r.lanes clients account)
           back (c.settle-account.ensures.settled_for_some serving.resolving));
     }

@@ -62,6 +62,7 @@ returns g c =
           let parts = report.done is in
           is_replayed options files received failures complete account.stop run
           (λ answers. Took out (check_lines recorded answers) × (differences_of recorded answers ≡ 0))
+          c.answers_tell_verdicts.ensures.tell
           (subst (λ (e : Ending). NothingFailed failures e) ending parts.2) (
             held_ok c.print_check.result.printed _ lines (ok_at c.print_check.result.printed 0 parts.0),
             sym (held_at c.print_check.result.printed 0 _ parts.0 (report.count are)),
@@ -70,6 +71,7 @@ returns g c =
           let parts = report.differs is in
           is_replayed options files received failures complete account.stop run
           (λ answers. Took out (check_lines recorded answers) × (differences_of recorded answers ≢ 0))
+          c.answers_tell_verdicts.ensures.tell
           (subst (λ (e : Ending). NothingFailed failures e) ending parts.2)
           (held_and c.print_check.result.printed _ _ lines (report.count are) parts.0);
       quiet = report.quiet;

@@ -60,6 +60,7 @@ returns g c =
       done = λ is.
           let parts = report.done.0 is in
           is_replayed options files received failures complete account.stop run (λ answers. Took out (lines_of options.form answers))
+          c.answers_tell_verdicts.ensures.tell
           (subst (λ (e : Ending). NothingFailed failures e) ending parts.2)
           (held_ok c.print_report.result.printed _ lines parts.0);
       quiet = report.quiet;

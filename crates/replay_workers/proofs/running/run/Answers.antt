@@ -5,7 +5,6 @@ use Rattle.std.specs.Prelude.{map, true, Option, None, IfSome, slice_get, vec_le
 use Rattle.std.specs.List.{All, AllZip}
 use Rattle.resolver.specs.declared.client.Client.{Client}
 use Rattle.resolver.specs.declared.stop.Stop.{Stop}
-use Rattle.resolver.specs.Lanes.{Lanes}
 use Rattle.resolver.specs.Resolver.{AreClients, SameClients}
 use Rattle.resolver.specs.Settled.{Settled}
 use Rattle.resolver.specs.Share.{share_of}
@@ -76,16 +75,15 @@ returns g c =
     let told = c.turn_to_end.ensures.accounted
     (accounted_new c.in_ok-resolver.resolver c.in_ok-resolver.ensures.stands c.in_ok-resolver.ensures.no_stop) in
     let account = c.settle-account.result in
-    let ended = map (λ (l : Lanes). l.ended) resolver.lanes in
     let back = map (λ (f : Finished). f.client) worked.0 in
     let kept : to_z w64 (of_z w64 c.args.options.window) ≡ c.args.options.window =
     first_of (search rules, grind (arith, ints, to_z-of_z)) in
     let window_is = c.turn_to_end.ensures.goes_on.window ∙ c.in_ok-resolver.ensures.window ∙ kept in
     let limit_is = c.turn_to_end.ensures.goes_on.limit ∙ c.in_ok-resolver.ensures.limit in
     let handed_back = c.as_mut_slice.ensures.value ∙ worked.2.clients in
-    let windowed = subst (λ (window : ℤ). Settled window told.log ended c.as_mut_slice.result.now account) window_is
+    let windowed = subst (λ (window : ℤ). Settled window told.log resolver.lanes c.as_mut_slice.result.now account) window_is
     (c.settle-account.ensures.settled told.log told.stands) in
-    let settled = subst (λ (back : List Client). Settled c.args.options.window told.log ended back account)
+    let settled = subst (λ (back : List Client). Settled c.args.options.window told.log resolver.lanes back account)
     handed_back windowed in
     let outcome = c.join_all-outcome.result in
     let now = c.settle-account.new.clients in
@@ -106,7 +104,7 @@ returns g c =
     (subst (λ (stop : Option Stop). IfSome stop (IsStopOf resolver.core.set.map.limit resolver.core.set.window told.log))
     (sym c.settle-account.ensures.stop) told.met)) in
     record {
-      run = is_run g.S.Source.remaining c.args.options share readers clients worked.0 c.join_all-outcome.result told.log ended
+      run = is_run g.S.Source.remaining c.args.options share readers clients worked.0 c.join_all-outcome.result told.log resolver.lanes
           account same c.in_ok-resolver.ensures.new_clients handed worked.2 settled whole met;
       capacity = subst (All (HasCapacity c.args.options.capacity))
           (sym (written_back outcome.clients.len now outcome.clients.items same_clients.count outcome.clients.ok.0))

@@ -3,6 +3,7 @@ use Rattle.serial.proofs.Running.{current_serializable, current_effects}
 use Rattle.serial.proofs.ByShards.{shards_current, shards_rise}
 use Rattle.serial.proofs.Places.{places}
 use Rattle.serial.proofs.Following.{real_time}
+use Rattle.serial.proofs.Whole.{serializable}
 use Rattle.serial.proofs.laws.serializable_by_shards.Goals as goal
 
 pub returns-clause-current : goal.returns-clause-current
@@ -27,3 +28,7 @@ returns-clause-places c window points each ps by_shards =
 pub returns-clause-follows : goal.returns-clause-follows
 returns-clause-follows c window points each ps by_shards =
     real_time ps (shards_rise window points each ps by_shards)
+
+pub returns-clause-all : goal.returns-clause-all
+returns-clause-all c window points each ps by_shards =
+    serializable ps (shards_rise window points each ps by_shards) (shards_current window points each ps by_shards)

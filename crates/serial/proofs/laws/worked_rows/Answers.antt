@@ -3,6 +3,7 @@ use Rattle.keyspace.proofs.callers.Chains.{limits}
 use Rattle.serial.proofs.EffectRows.{are_effects}
 use Rattle.serial.proofs.ClauseRows as clauses
 use Rattle.serial.proofs.PlanRows as plans
+use Rattle.serial.proofs.AnswerRows as answers
 use Rattle.serial.proofs.ShardRows as shards
 use Rattle.serial.proofs.laws.worked_rows.Goals as goal
 
@@ -17,6 +18,7 @@ returns c = record {
       flipped_verdict_differs = clauses.not_same_x _ _ refl refl;
       clauses = clauses.rows limits c.runs_are_chains.ensures.chain;
       plans = plans.rows limits c.runs_are_chains.ensures.chain;
+      answers = answers.rows limits;
       shards = shards.rows limits c.runs_are_chains.ensures.chain;
     },
   );

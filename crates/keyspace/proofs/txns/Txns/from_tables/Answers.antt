@@ -1,4 +1,4 @@
-use Rattle.std.proofs.Common.{arith, ◌≡◌, ◌+◌, ◌<◌, All, length, sym, ap, ◌∙◌, subst}
+use Rattle.std.proofs.Common.{arith, ◌≡◌, ◌+◌, ◌<◌, All, length, refl, sym, ap, ◌∙◌, subst}
 use Rattle.std.proofs.lemmas.List.{length-map}
 use Rattle.keys.specs.Hash.{AreHashesOf}
 use Rattle.keys.specs.Ranks.{AreRanked}
@@ -17,13 +17,16 @@ new-ranges-requires-clause-holds c =
     rw (c.deref.ensures.value, c.deref-2.ensures.value)
     (spans_hold c.args.buffer.items c.args.spans.items c.args.rows.items c.requires.tables)
 
-pub with_order-requires : goal.with_order-requires
-with_order-requires c =
+pub with_hashes-requires : goal.with_hashes-requires
+with_hashes-requires c =
     let few = few_spans c.args.buffer.items c.args.spans.items c.args.rows.items c.requires.tables in
     let told : length c.new-ranges.result ≡ length c.deref-2.result.now =
     sym (length-map c.new-ranges.result range_fields) ∙ ap length c.new-ranges.ensures.told
     ∙ length-map c.deref-2.result.now (range_told c.deref.result.now) in
-    record { few = omega (arith, ap length c.deref-2.ensures.value, c.args.rows.ok.0) }
+    record {
+      few = omega (arith, ap length c.deref-2.ensures.value, c.args.rows.ok.0);
+      hashes = subst (AreHashesOf c.new-ranges.result) (sym c.deref-3.ensures.value) c.in_ok-hashes.ensures.hashes;
+    }
 
 -- there are as many ranges as spans
 count : (c : After-new-ranges) → length c.new-ranges.result ≡ length c.args.spans.items
@@ -42,9 +45,9 @@ list_writes-requires-clause-within c =
     let at = goal.at.list_writes-requires-clause-within c in
     let as_many = count at.After-new-ranges in
     let marked = marks at.After-deref-4 in
-    subst (All (λ index. index < length (marks_of_rows c.deref-4.result.now))) (sym c.deref-3.ensures.value) (λ k d within.
+    λ k d within.
     let inside = order_within c.new-ranges.result c.in_ok-ranks.order.items c.in_ok-ranks.ensures.order k d within in
-    omega (arith, inside, as_many, marked))
+    omega (arith, inside, as_many, marked)
 
 pub invariant_of-result-2 : goal.invariant_of-result-2
 invariant_of-result-2 c =
@@ -53,8 +56,8 @@ invariant_of-result-2 c =
     c.new-ranges.ensures.told in (
       subst (λ ranges. AreRanked ranges c.in_ok-ranks.ranks) same c.in_ok-ranks.ensures.ranked,
       writes_in_order c.args.buffer.items c.args.spans.items c.args.rows.items c.requires.tables _ c.deref-4.result.now
-          c.new-ranges.result c.in_ok-ranks.order.items c.deref-3.result.now c.in_ok-write_order.write_order.items
-          c.deref-4.ensures.value same c.deref-3.ensures.value c.in_ok-ranks.ensures.order c.in_ok-write_order.ensures.writes,
+          c.new-ranges.result c.in_ok-ranks.order.items c.in_ok-ranks.order.items c.in_ok-write_order.write_order.items
+          c.deref-4.ensures.value same refl c.in_ok-ranks.ensures.order c.in_ok-write_order.ensures.writes,
       subst (λ ranges. AreHashesOf ranges c.in_ok-hashes.hashes.items) same c.in_ok-hashes.ensures.hashes,
     )
 

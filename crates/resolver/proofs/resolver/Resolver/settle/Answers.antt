@@ -1,4 +1,4 @@
-use Rattle.std.proofs.Common.{◌≡◌, ◌++◌, ℕ, List, map, true, length, take, drop, Some, ap, sym, subst, subst₂, ◌∙◌}
+use Rattle.std.proofs.Common.{◌≡◌, ◌++◌, ℕ, List, true, length, take, drop, Some, ap, sym, subst, subst₂, ◌∙◌}
 use Rattle.std.specs.Prelude.{◌↔◌, slice_get}
 use Rattle.std.proofs.lemmas.List.{length-map}
 use Rattle.keyspace.specs.Run.{Step}
@@ -70,14 +70,14 @@ pub returns-clause-settled : goal.returns-clause-settled
 returns-clause-settled c =
     let clients = c.args.clients.now in
     subst
-    (λ (r : ResolverState). (log : List Step) → StandsOver r log → Settled r.core.set.window log
-    (map (λ l. l.ended) r.lanes) clients c.new.result)
+    (λ (r : ResolverState). (log : List Step) → StandsOver r log → Settled r.core.set.window log r.lanes clients c.new.result)
     c.self.view_is
     (λ log stands. settled (parts c) c.self.invariant clients (many c) log stands
     (lanes_hold (parts c).all_lanes (new c) clients c.settle-all_taken.new.clients (each c)
     (clients_are c).count)
     c.runs_are_chains.ensures.chain c.each_batch_is_answered.ensures.once
-    c.each_batch_is_answered.ensures.none_held _ (complete_is c).0 (c.new.ensures.stop ∙ c.stop.ensures.stop))
+    c.each_batch_is_answered.ensures.none_held c.chains_are_serializable.ensures.chains
+    c.answers_tell_verdicts.ensures.tell _ (complete_is c).0 (c.new.ensures.stop ∙ c.stop.ensures.stop))
 
 pub returns-clause-settled_for_some : goal.returns-clause-settled_for_some
 returns-clause-settled_for_some c = λ before.

@@ -1,7 +1,7 @@
 use Rattle.std.proofs.Common.{◌+◌, ◌-◌, ◌*◌, ◌<◌, ◌≤◌, length, take, All}
 use Rattle.keys.specs.Key.{IsBefore}
 use Rattle.keys.specs.Sorting.{begin_at}
-use Rattle.keys.proofs.ranks.reaching.count_below.Given as goal
+use Rattle.keys.proofs.ranks.reaching.gallop.Given as goal
 
 abbrev pub invariant-loop-step : goal.invariant-loop-step
 invariant-loop-step g l = record {

@@ -1,0 +1,208 @@
+// Package archcaraway is a conflict set and a transaction resolver, after FoundationDB 7.1, over
+// the library for C.
+//
+// cgo finds the library by pkg-config: install it, or name the folder that has archcaraway.pc in
+// PKG_CONFIG_PATH.
+package archcaraway
+
+/*
+#cgo pkg-config: archcaraway
+#include <archcaraway_frames.h>
+*/
+import "C"
+
+import (
+	"runtime"
+	"sync"
+	"unsafe"
+)
+
+// The window of FoundationDB 7.1 in versions, and a limit that suits most uses, in boundaries.
+const (
+	Window = 5_000_000
+	Limit  = 1_000_000
+)
+
+// Status is a refusal, with its number in archcaraway.h.
+type Status int
+
+// The statuses that a program may expect. Those of frames are 101 to 115.
+const (
+	Memory      Status = C.ARCHCARAWAY_MEMORY
+	GateFull    Status = C.ARCHCARAWAY_GATE_FULL
+	ArenaFull   Status = C.ARCHCARAWAY_ARENA_FULL
+	VersionLate Status = C.ARCHCARAWAY_VERSION_LATE
+	Argument    Status = C.ARCHCARAWAY_ARGUMENT
+	Behind      Status = C.ARCHCARAWAY_BEHIND
+	Processor   Status = C.ARCHCARAWAY_PROCESSOR
+)
+
+// Error returns the text of the status. The part before the first colon is what `replay` prints.
+func (s Status) Error() string { return C.GoString(C.archcaraway_status_text(C.int(s))) }
+
+// IsStop returns whether the object has stopped for good.
+func (s Status) IsStop() bool { return s >= Memory && s <= ArenaFull }
+
+func check(status C.int) error {
+	if status == C.ARCHCARAWAY_OK {
+		return nil
+	}
+	return Status(status)
+}
+
+// Version returns the release of the library as one number: 1,000,000 * major + 1,000 * minor +
+// patch.
+func Version() int { return int(C.archcaraway_version()) }
+
+// The bytes as C sees them. C keeps no pointer to them.
+func pointer(bytes []byte) *C.uint8_t {
+	if len(bytes) == 0 {
+		return nil
+	}
+	return (*C.uint8_t)(unsafe.Pointer(&bytes[0]))
+}
+
+// Set is the committed writes of one chain of batches. Goroutines may share it: their calls wait
+// for each other.
+type Set struct {
+	mutex  sync.Mutex
+	handle C.archcaraway_set
+}
+
+// NewSet creates a set that remembers the writes of the last `window` versions, in at most `limit`
+// boundaries.
+func NewSet(window int64, limit uint64) (*Set, error) {
+	set := new(Set)
+	status := C.archcaraway_set_new(C.int64_t(window), C.uint64_t(limit), &set.handle)
+	if err := check(status); err != nil {
+		return nil, err
+	}
+	runtime.SetFinalizer(set, (*Set).Close)
+	return set, nil
+}
+
+// Close frees the set. Later calls return Argument; closing it again does nothing.
+func (s *Set) Close() {
+	s.mutex.Lock()
+	defer s.mutex.Unlock()
+	C.archcaraway_set_free(&s.handle)
+}
+
+// Resolve judges the batch of a frame, and remembers what it commits. It returns the frame of the
+// reply.
+//
+// After an error that isn't a stop the set is as before.
+func (s *Set) Resolve(batch []byte) ([]byte, error) {
+	s.mutex.Lock()
+	defer s.mutex.Unlock()
+	reply := make([]byte, 256)
+	for {
+		var length C.size_t
+		status := C.archcaraway_set_resolve(&s.handle, pointer(batch), C.size_t(len(batch)),
+			pointer(reply), C.size_t(len(reply)), &length)
+		if status != C.ARCHCARAWAY_BUFFER {
+			return reply[:length], check(status)
+		}
+		reply = make([]byte, length)
+	}
+}
+
+// Boundaries returns the number of boundaries that the set keeps; 0 if it is closed.
+func (s *Set) Boundaries() uint64 {
+	s.mutex.Lock()
+	defer s.mutex.Unlock()
+	return uint64(C.archcaraway_set_boundaries(&s.handle))
+}
+
+// Kind says what a core gives a proxy.
+type Kind int
+
+// Kinds of answers.
+const (
+	Nothing  Kind = C.ARCHCARAWAY_NOTHING // none is owed
+	HasReply Kind = C.ARCHCARAWAY_REPLY   // the frame of a reply
+	Never    Kind = C.ARCHCARAWAY_NEVER   // a repeat whose reply is no longer kept
+	Held     Kind = C.ARCHCARAWAY_HELD    // its previous version hadn't come at the end
+)
+
+// Answer is what a core gives a proxy for the batch of a version.
+type Answer struct {
+	Kind    Kind
+	Version int64
+	Frame   []byte // of the reply, if there is one
+}
+
+// Core is a resolver for the batches of many proxies. Goroutines may share it: their calls wait for
+// each other.
+type Core struct {
+	mutex  sync.Mutex
+	handle C.archcaraway_core
+}
+
+// NewCore creates a core for proxies that are numbered from 0. Window and limit are those of
+// NewSet.
+func NewCore(proxies uint32, window int64, limit uint64) (*Core, error) {
+	core := new(Core)
+	status := C.archcaraway_core_new(C.uint32_t(proxies), C.int64_t(window), C.uint64_t(limit),
+		&core.handle)
+	if err := check(status); err != nil {
+		return nil, err
+	}
+	runtime.SetFinalizer(core, (*Core).Close)
+	return core, nil
+}
+
+// Close frees the core. Later calls return Argument; closing it again does nothing.
+func (c *Core) Close() {
+	c.mutex.Lock()
+	defer c.mutex.Unlock()
+	C.archcaraway_core_free(&c.handle)
+}
+
+// Admit takes the batch of a frame from a proxy. After a stop the core takes no more; after another
+// error it is as before.
+func (c *Core) Admit(proxy uint32, batch []byte) error {
+	c.mutex.Lock()
+	defer c.mutex.Unlock()
+	return check(C.archcaraway_core_admit(&c.handle, C.uint32_t(proxy), pointer(batch),
+		C.size_t(len(batch))))
+}
+
+// Finish answers every batch that is still held.
+func (c *Core) Finish() error {
+	c.mutex.Lock()
+	defer c.mutex.Unlock()
+	return check(C.archcaraway_core_finish(&c.handle))
+}
+
+// Give returns the oldest answer owed to a proxy. It continues after a stop.
+func (c *Core) Give(proxy uint32) (Answer, error) {
+	c.mutex.Lock()
+	defer c.mutex.Unlock()
+	frame := make([]byte, 256)
+	for {
+		var length C.size_t
+		var kind C.int
+		var version C.int64_t
+		status := C.archcaraway_core_give(&c.handle, C.uint32_t(proxy), pointer(frame),
+			C.size_t(len(frame)), &length, &kind, &version)
+		if status != C.ARCHCARAWAY_BUFFER {
+			return Answer{Kind(kind), int64(version), frame[:length]}, check(status)
+		}
+		frame = make([]byte, length)
+	}
+}
+
+// Owed returns the number of answers owed to all proxies; 0 if the core is closed.
+func (c *Core) Owed() uint64 {
+	c.mutex.Lock()
+	defer c.mutex.Unlock()
+	return uint64(C.archcaraway_core_owed(&c.handle))
+}
+
+// Stop returns the stop that the core has met, or nil.
+func (c *Core) Stop() error {
+	c.mutex.Lock()
+	defer c.mutex.Unlock()
+	return check(C.archcaraway_core_stop(&c.handle))
+}

@@ -1,0 +1,234 @@
+package archcaraway
+
+import (
+	"bytes"
+	"errors"
+	"reflect"
+	"sync"
+	"testing"
+)
+
+func encoded(t *testing.T, batch Batch) []byte {
+	t.Helper()
+	frame, err := batch.Encode()
+	if err != nil {
+		t.Fatal(err)
+	}
+	return frame
+}
+
+func resolved(t *testing.T, set *Set, version int64, transactions ...Transaction) Reply {
+	t.Helper()
+	frame, err := set.Resolve(encoded(t, Batch{-1, version, -1, transactions}))
+	if err != nil {
+		t.Fatal(err)
+	}
+	reply, err := ReadReply(frame)
+	if err != nil {
+		t.Fatal(err)
+	}
+	return reply
+}
+
+func newSet(t *testing.T) *Set {
+	t.Helper()
+	set, err := NewSet(Window, Limit)
+	if err != nil {
+		t.Fatal(err)
+	}
+	t.Cleanup(set.Close)
+	return set
+}
+
+func span(begin, end string) Range { return Range{Begin: []byte(begin), End: []byte(end)} }
+
+func TestVerdictsAndReports(t *testing.T) {
+	set := newSet(t)
+	resolved(t, set, 100, Transaction{Writes: []Range{span("a", "b"), span("e", "f")}})
+	reads := []Range{span("a", "b"), span("c", "d"), Key([]byte("e"))}
+	reply := resolved(t, set, 200, Transaction{Snapshot: 99, Reads: reads, Report: true},
+		Transaction{Snapshot: 100, Reads: reads, Writes: []Range{Key([]byte("c"))}})
+	want := Reply{200, []Entry{{Conflict, []int{0, 2}}, {Committed, nil}}}
+	if !reflect.DeepEqual(reply, want) {
+		t.Errorf("%v, not %v", reply, want)
+	}
+}
+
+func TestSingleKeysAreNoEmptyRanges(t *testing.T) {
+	set := newSet(t)
+	resolved(t, set, 100, Transaction{Writes: []Range{Key([]byte("k"))}})
+	rows := []struct {
+		read Range
+		want Verdict
+	}{
+		{Key([]byte("k")), Conflict},
+		{span("k", "k\x00"), Conflict},
+		{span("k", "k"), Committed},
+		{Key([]byte("k\x00")), Committed},
+		{Key(nil), Committed},
+	}
+	for index, row := range rows {
+		reply := resolved(t, set, int64(101+index), Transaction{Snapshot: 50, Reads: []Range{row.read}})
+		if got := reply.Entries[0].Verdict; got != row.want {
+			t.Errorf("row %d: %v, not %v", index, got, row.want)
+		}
+	}
+}
+
+func TestRefusals(t *testing.T) {
+	long := bytes.Repeat([]byte("k"), 10001)
+	rows := []struct {
+		batch Batch
+		want  Status
+	}{
+		{Batch{-1, -1, -1, nil}, 105},
+		{Batch{5, 5, -1, nil}, 105},
+		{Batch{-1, 5, -1, []Transaction{{Snapshot: -1}}}, 105},
+		{Batch{-1, 5, -1, make([]Transaction, 4097)}, 107},
+		{Batch{-1, 5, -1, []Transaction{{Reads: make([]Range, 1025)}}}, 107},
+		{Batch{-1, 5, -1, []Transaction{{Reads: []Range{Key(long)}}}}, 108},
+		{Batch{-1, 5, -1, []Transaction{{Writes: []Range{span("b", "a")}}}}, 109},
+	}
+	for index, row := range rows {
+		if _, err := row.batch.Encode(); !errors.Is(err, row.want) {
+			t.Errorf("row %d: %v, not %v", index, err, row.want)
+		}
+	}
+	for _, number := range []int64{0, -1, 1<<40 + 1} {
+		if _, err := NewSet(number, Limit); !errors.Is(err, Argument) {
+			t.Errorf("window %d: %v", number, err)
+		}
+	}
+	for _, number := range []uint32{0, 65} {
+		if _, err := NewCore(number, Window, Limit); !errors.Is(err, Argument) {
+			t.Errorf("proxies %d: %v", number, err)
+		}
+	}
+	set := newSet(t)
+	resolved(t, set, 100)
+	if _, err := set.Resolve(encoded(t, Batch{-1, 100, -1, nil})); !errors.Is(err, VersionLate) {
+		t.Error(err)
+	}
+	if _, err := set.Resolve(nil); !errors.Is(err, Status(101)) {
+		t.Error(err)
+	}
+	if _, err := set.Resolve(append(encoded(t, Batch{-1, 101, -1, nil}), 0)); !errors.Is(err, Behind) {
+		t.Error(err)
+	}
+	if _, err := ReadReply(encoded(t, Batch{-1, 101, -1, nil})); !errors.Is(err, Status(103)) {
+		t.Error(err)
+	}
+}
+
+func TestClosedObjectsRefuseCalls(t *testing.T) {
+	set := newSet(t)
+	core, err := NewCore(1, Window, Limit)
+	if err != nil {
+		t.Fatal(err)
+	}
+	for i := 0; i < 2; i++ {
+		set.Close()
+		core.Close()
+	}
+	if _, err := set.Resolve(encoded(t, Batch{-1, 1, -1, nil})); !errors.Is(err, Argument) {
+		t.Error(err)
+	}
+	if err := core.Admit(0, encoded(t, Batch{-1, 1, -1, nil})); !errors.Is(err, Argument) {
+		t.Error(err)
+	}
+	if _, err := core.Give(0); !errors.Is(err, Argument) {
+		t.Error(err)
+	}
+	if set.Boundaries() != 0 || core.Owed() != 0 {
+		t.Error("a closed object has boundaries or answers")
+	}
+}
+
+func TestCoreOrdersBatches(t *testing.T) {
+	core, err := NewCore(2, Window, Limit)
+	if err != nil {
+		t.Fatal(err)
+	}
+	defer core.Close()
+	sent := []struct {
+		proxy uint32
+		batch Batch
+	}{{1, Batch{0, 100, -1, nil}}, {0, Batch{-1, 0, -1, nil}}, {0, Batch{800, 900, -1, nil}}}
+	for _, each := range sent {
+		if err := core.Admit(each.proxy, encoded(t, each.batch)); err != nil {
+			t.Fatal(err)
+		}
+	}
+	if err := core.Finish(); err != nil || core.Owed() != 3 || core.Stop() != nil {
+		t.Fatal(err, core.Owed(), core.Stop())
+	}
+	rows := []struct {
+		proxy   uint32
+		kind    Kind
+		version int64
+	}{{1, HasReply, 100}, {0, HasReply, 0}, {0, Held, 900}, {0, Nothing, -1}}
+	for _, row := range rows {
+		answer, err := core.Give(row.proxy)
+		if err != nil || answer.Kind != row.kind || answer.Version != row.version {
+			t.Errorf("%v, not %v: %v", answer, row, err)
+		}
+	}
+}
+
+func TestStopIsFinal(t *testing.T) {
+	set, err := NewSet(Window, 1)
+	if err != nil {
+		t.Fatal(err)
+	}
+	defer set.Close()
+	write := []Transaction{{Writes: []Range{Key([]byte("k"))}}}
+	for version := int64(1); version < 3; version++ {
+		_, err := set.Resolve(encoded(t, Batch{-1, version, -1, write}))
+		if !errors.Is(err, ArenaFull) || !ArenaFull.IsStop() {
+			t.Error(err)
+		}
+	}
+}
+
+func TestGoroutinesShareASet(t *testing.T) {
+	set := newSet(t)
+	var mutex sync.Mutex
+	var group sync.WaitGroup
+	var version int64
+	for worker := 0; worker < 8; worker++ {
+		group.Add(1)
+		go func() {
+			defer group.Done()
+			for i := 0; i < 500; i++ {
+				mutex.Lock()
+				version++
+				key := []Range{Key([]byte("k"))}
+				reply := resolved(t, set, version, Transaction{Snapshot: version - 1, Reads: key, Writes: key})
+				if reply.Entries[0].Verdict != Committed {
+					t.Error(reply)
+				}
+				mutex.Unlock()
+				set.Boundaries()
+			}
+		}()
+	}
+	group.Wait()
+}
+
+func TestNextFrameDividesAStream(t *testing.T) {
+	first := encoded(t, Batch{-1, 1, -1, nil})
+	second := encoded(t, Batch{1, 2, -1, make([]Transaction, 3)})
+	frame, rest, err := NextFrame(append(append([]byte(nil), first...), second...))
+	if err != nil || !bytes.Equal(frame, first) || !bytes.Equal(rest, second) {
+		t.Error(frame, rest, err)
+	}
+	if _, _, err := NextFrame(first[:30]); !errors.Is(err, Status(101)) {
+		t.Error(err)
+	}
+}
+
+func TestVersion(t *testing.T) {
+	if Version() < 2000 {
+		t.Error(Version())
+	}
+}

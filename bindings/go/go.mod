@@ -1,0 +1,3 @@
+module archcaraway
+
+go 1.19

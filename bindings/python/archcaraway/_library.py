@@ -1,0 +1,73 @@
+"""The functions of archcaraway.h and archcaraway_frames.h, by ctypes."""
+
+from __future__ import annotations
+
+import os
+from ctypes import CDLL, POINTER, Structure, c_bool, c_char_p, c_int, c_int64, c_size_t, c_uint
+from ctypes import c_uint32, c_uint64, c_void_p
+from pathlib import Path
+
+
+class Handle(Structure):  # archcaraway_set and archcaraway_core
+    _fields_ = [("at", c_void_p)]
+
+
+class Writer(Structure):  # archcaraway_writer
+    _fields_ = [("bytes", c_void_p), ("length", c_size_t), ("capacity", c_size_t)]
+    _fields_ += [("grow", c_void_p), ("context", c_void_p), ("status", c_int)]
+    _fields_ += [("transaction", c_size_t)]
+    _fields_ += [("count", c_uint), ("reads", c_uint), ("writes", c_uint)]
+
+
+class ReplyReader(Structure):  # archcaraway_reply
+    _fields_ = [("version", c_int64), ("count", c_uint), ("length", c_size_t), ("at", c_void_p)]
+    _fields_ += [("left", c_uint)]
+
+
+class EntryReader(Structure):  # archcaraway_entry
+    _fields_ = [("verdict", c_int), ("count", c_uint), ("places", c_void_p)]
+
+
+_KEY = (c_char_p, c_size_t)
+_BUFFER = (c_char_p, c_size_t, POINTER(c_size_t))
+_HANDLE = POINTER(Handle)
+_WRITER = POINTER(Writer)
+
+# The result of each function, and its parameters.
+_FUNCTIONS = {
+    "version": (c_int,),
+    "status_text": (c_char_p, c_int),
+    "set_new": (c_int, c_int64, c_uint64, _HANDLE),
+    "set_resolve": (c_int, _HANDLE, *_KEY, *_BUFFER),
+    "set_boundaries": (c_uint64, _HANDLE),
+    "set_free": (None, _HANDLE),
+    "core_new": (c_int, c_uint32, c_int64, c_uint64, _HANDLE),
+    "core_admit": (c_int, _HANDLE, c_uint32, *_KEY),
+    "core_finish": (c_int, _HANDLE),
+    "core_give": (c_int, _HANDLE, c_uint32, *_BUFFER, POINTER(c_int), POINTER(c_int64)),
+    "core_owed": (c_uint64, _HANDLE),
+    "core_stop": (c_int, _HANDLE),
+    "core_free": (None, _HANDLE),
+    "writer_new": (Writer, c_void_p, c_void_p),
+    "writer_free": (None, _WRITER),
+    "batch_begin": (c_int, _WRITER, c_int64, c_int64, c_int64),
+    "batch_transaction": (c_int, _WRITER, c_int64, c_bool),
+    "batch_read": (c_int, _WRITER, *_KEY, *_KEY),
+    "batch_read_key": (c_int, _WRITER, *_KEY),
+    "batch_write": (c_int, _WRITER, *_KEY, *_KEY),
+    "batch_write_key": (c_int, _WRITER, *_KEY),
+    "batch_end": (c_int, _WRITER),
+    "frame_length": (c_int, *_BUFFER),
+    "reply_read": (c_int, POINTER(ReplyReader), *_KEY),
+    "reply_next": (c_bool, POINTER(ReplyReader), POINTER(EntryReader)),
+    "entry_place": (c_uint, POINTER(EntryReader), c_uint),
+}
+
+
+# The library that ARCHCARAWAY_LIBRARY names, that of the package, or the installed one.
+_BESIDE = Path(__file__).with_name("libarchcaraway.so.1")
+_FOUND = str(_BESIDE) if _BESIDE.exists() else _BESIDE.name
+LIBRARY = CDLL(os.environ.get("ARCHCARAWAY_LIBRARY") or _FOUND)
+for _name, (_result, *_parameters) in _FUNCTIONS.items():
+    _function = getattr(LIBRARY, f"archcaraway_{_name}")
+    _function.restype, _function.argtypes = _result, _parameters

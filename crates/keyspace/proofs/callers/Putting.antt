@@ -1,0 +1,6 @@
+-- Lemmas for callers: transactions that are appended to tables, and parts of lists.
+pub use Rattle.keyspace.proofs.Putting.{ranges_kept, length-put, put_none, put_then}
+pub use Rattle.keyspace.proofs.TablesPut.{txn_put}
+pub use Rattle.keyspace.proofs.TablesRanges.{few_spans}
+pub use Rattle.keyspace.proofs.RowsInTurn.{length-told}
+pub use Rattle.keyspace.proofs.Slices.{slice_range-append, slice_range-appended}

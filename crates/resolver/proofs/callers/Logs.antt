@@ -1,0 +1,2 @@
+-- Lemmas for callers: a log takes batches of so many proxies alone.
+pub use Rattle.resolver.proofs.OnlyFrom.{none_of_others}

@@ -1,0 +1,5 @@
+use Rattle.serial.proofs.Whole.{chain_serializable}
+use Rattle.serial.proofs.laws.chains_are_serializable.Goals as goal
+
+pub returns : goal.returns
+returns c = record { chains = chain_serializable }

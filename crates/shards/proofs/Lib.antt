@@ -1,0 +1,14 @@
+mod ShardList
+mod Counts
+mod Reached
+mod ClipKeys
+mod ClipLists
+mod Appended
+mod IndexLists
+mod Leasts
+mod Reports
+mod Misfits
+mod Together
+mod Going
+mod NoMore
+mod BuiltTables

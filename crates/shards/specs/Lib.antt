@@ -1,0 +1,9 @@
+-- In the order in which one reads them aloud, after `Shards` of `serial`.
+pub mod SplitPoints
+pub mod Clips
+pub mod Combined
+pub mod Laws
+-- Not of the meaning: how the code keeps the indices of read ranges, and to which shards it takes a range to go.
+pub mod ReadIndices
+pub mod Reach
+pub mod Built

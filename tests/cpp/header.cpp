@@ -1,0 +1,149 @@
+// The C++ header: views, single keys, iterators, moves and refusals. Also compiled with -fno-exceptions, where refusals are left out.
+#include <algorithm>
+#include <cstdio>
+#include <cstdlib>
+#include <string>
+#include <type_traits>
+
+#include "archcaraway.hpp"
+
+#define DEMAND(holds)                                                                                                  \
+    do {                                                                                                               \
+        if (!(holds)) {                                                                                                \
+            std::fprintf(stderr, "%s:%d: not so: %s\n", __FILE__, __LINE__, #holds);                                   \
+            std::exit(1);                                                                                              \
+        }                                                                                                              \
+    } while (0)
+
+using namespace archcaraway;
+using namespace std::string_literals;
+using namespace std::string_view_literals;
+
+static_assert(!std::is_copy_constructible_v<Set> && std::is_nothrow_move_constructible_v<Set>);
+static_assert(!std::is_copy_constructible_v<Core> && std::is_nothrow_move_constructible_v<Core>);
+static_assert(!std::is_copy_constructible_v<BatchWriter> && std::is_nothrow_move_constructible_v<BatchWriter>);
+static_assert(std::is_same_v<std::iterator_traits<Reply::Iterator>::value_type, Entry>);
+static_assert(std::is_base_of_v<std::input_iterator_tag, std::iterator_traits<Reply::Iterator>::iterator_category>);
+static_assert(std::is_convertible_v<std::string, View> && std::is_convertible_v<std::string_view, View>);
+static_assert(std::is_convertible_v<std::vector<std::uint8_t>, View> && std::is_convertible_v<const char*, View>);
+
+static void views() {
+    const char* pointer = "k\0z";
+    char array[8] = "ab";
+    const std::string string = "k\0"s;
+    const std::vector<std::uint8_t> bytes = {0, 1, 2};
+    const auto length = [](View view) { return view.size; };
+    DEMAND(length("") == 0 && length("k") == 1 && length("k\0") == 2 && length("k\0z") == 3);
+    DEMAND(length(pointer) == 1 && length(array) == 2);
+    DEMAND(length(string) == 2 && length("k\0z"sv) == 3 && length(bytes) == 3 && length(View()) == 0);
+    DEMAND(View(string).text() == "k\0"sv && View(bytes).data == bytes.data());
+    const KeyRangeRef range = {"k", "k\0"};
+    DEMAND(range.begin.size() == 1 && range.end.size() == 2 && !range.isSingle());
+    const KeyRangeRef strings(string, string), single = KeyRangeRef::single(string);
+    DEMAND(strings.begin == strings.end && !strings.isSingle());
+    DEMAND(single.begin == "k\0"sv && single.isSingle());
+}
+
+static CommitTransactionRef transaction(Version snapshot, std::vector<KeyRangeRef> reads, std::vector<KeyRangeRef> writes) {
+    CommitTransactionRef made;
+    made.read_snapshot = snapshot;
+    made.read_conflict_ranges = std::move(reads);
+    made.write_conflict_ranges = std::move(writes);
+    return made;
+}
+
+// Reads of a key that was written after the snapshot, as each form of the key.
+static void single_keys() {
+    ConflictSet set;
+    const std::string key = "k";
+    std::vector<int> committed;
+    ConflictBatch first(&set);
+    first.addTransaction(transaction(0, {}, {KeyRangeRef::single(key)}));
+    first.detectConflicts(100, committed);
+    DEMAND(committed.size() == 1);
+    ConflictBatch second(&set);
+    second.addTransaction(transaction(50, {KeyRangeRef::single("k")}, {}));
+    second.addTransaction(transaction(50, {{"k", "k\0"}}, {}));
+    second.addTransaction(transaction(50, {{"k"sv, "k\0"sv}}, {}));
+    second.addTransaction(transaction(50, {{"a", "z"}}, {}));
+    second.addTransaction(transaction(50, {{key, key}}, {}));
+    second.addTransaction(transaction(50, {KeyRangeRef::single("k\0")}, {}));
+    committed.clear();
+    second.detectConflicts(200, committed);
+    DEMAND(committed == (std::vector<int>{4, 5}));
+}
+
+static void iterators() {
+    BatchWriter writer;
+    Set set;
+    std::vector<std::uint8_t> bytes;
+    writer.begin(-1, 0, -1);
+    for (int i = 0; i < 5; i++) writer.transaction(0);
+    Reply reply = set.resolve(writer.end(), bytes);
+    DEMAND(reply.size() == 5 && !reply.empty() && reply.version() == 0);
+    DEMAND(std::distance(reply.begin(), reply.end()) == 5);
+    DEMAND(std::all_of(reply.begin(), reply.end(), [](const Entry& entry) { return entry.verdict() == Verdict::committed; }));
+    const std::vector<Entry> entries(reply.begin(), reply.end());
+    DEMAND(entries.size() == 5 && entries[0].places() == 0);
+    Reply::Iterator at = reply.begin();
+    DEMAND(at == reply.begin() && at++ == reply.begin() && at != reply.begin() && at != reply.end());
+    DEMAND(frameLength(View(bytes)) == 15 + 5 * 3);
+    writer.begin(0, 1, -1);
+    Reply none = set.resolve(writer.end(), bytes);
+    DEMAND(none.empty() && none.begin() == none.end());
+}
+
+static void moves() {
+    Set set, other = std::move(set);
+    DEMAND(set.handle()->at == nullptr && set.boundaries() == 0 && other.boundaries() == 1);
+    set = std::move(other);
+    DEMAND(set.boundaries() == 1);
+    Core core(2), taken = std::move(core);
+    DEMAND(core.owed() == 0 && core.stop() == ARCHCARAWAY_ARGUMENT && taken.stop() == ARCHCARAWAY_OK);
+    BatchWriter writer;
+    writer.begin(-1, 0, -1);
+    BatchWriter last = std::move(writer);
+    taken.admit(1, last.end());
+    taken.finish();
+    std::vector<std::uint8_t> bytes;
+    DEMAND(taken.owed() == 1 && taken.give(0, bytes).kind == ARCHCARAWAY_NOTHING);
+    DEMAND(taken.give(1, bytes).kind == ARCHCARAWAY_REPLY && Reply(View(bytes.data(), 15)).empty());
+}
+
+#if defined(__cpp_exceptions)
+template <typename Call>
+static int refusal(Call call) {
+    try {
+        call();
+    } catch (const Error& error) {
+        DEMAND(error.what() == archcaraway_status_text(error.status()));
+        return error.status();
+    }
+    return ARCHCARAWAY_OK;
+}
+
+static void refusals() {
+    BatchWriter writer;
+    Set set;
+    std::vector<std::uint8_t> bytes;
+    DEMAND(refusal([] { Set none(0); }) == ARCHCARAWAY_ARGUMENT);
+    DEMAND(refusal([] { Core none(65); }) == ARCHCARAWAY_ARGUMENT);
+    DEMAND(refusal([&] { writer.begin(0, 0, -1); }) == ARCHCARAWAY_FRAME_VERSION);
+    DEMAND(refusal([&] { writer.end(); }) == ARCHCARAWAY_FRAME_VERSION);
+    DEMAND(refusal([&] { set.resolve("", bytes); }) == ARCHCARAWAY_FRAME_SHORT);
+    DEMAND(refusal([&] { Set taken = std::move(set); set.resolve("", bytes); }) == ARCHCARAWAY_ARGUMENT);
+    DEMAND(refusal([] { Reply none(View("abc")); }) == ARCHCARAWAY_FRAME_SHORT);
+    DEMAND(Error(ARCHCARAWAY_ARENA_FULL).isStop() && !Error(ARCHCARAWAY_BUFFER).isStop());
+}
+#else
+static void refusals() {}
+#endif
+
+int main() {
+    views();
+    single_keys();
+    iterators();
+    moves();
+    refusals();
+    std::puts("header: views, single keys, iterators, moves and refusals are as the header says");
+}
