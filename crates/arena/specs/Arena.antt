@@ -26,7 +26,7 @@ use Rattle.arena.specs.declared.size.TheConstants.{CHUNK_BYTES, SIZES}
 abbrev pub sizes : List ℕ
 sizes = 32 ∷ 64 ∷ 128 ∷ 256 ∷ 512 ∷ 1024 ∷ 2048 ∷ 4096 ∷ 8192 ∷ 16384 ∷ []
 
--- The index of the least size that a key of so many bytes fits: so many sizes are too short for it.
+-- The index of the least size that a key of n bytes fits: the number of sizes that are too short for it.
 abbrev pub size_of : ℕ → ℕ
 size_of n = count_by (λ bytes. nat_lt bytes n) sizes
 
@@ -38,7 +38,7 @@ slots_of size = CHUNK_BYTES / slice_index sizes size
 abbrev pub wanted_of : List ℕ → ℕ → ℕ
 wanted_of lengths size = count_by (λ n. size_of n == size) lengths
 
--- a slot is spare for a record with a key of each of these lengths, where so many slots of each size are spare
+-- a slot is spare for a record with a key of each of these lengths, given the number of spare slots of each size
 abbrev pub HasRoomFor : (ℕ → ℕ) → List ℕ → Type 0
 HasRoomFor spare lengths = (size : ℕ) → size < SIZES → wanted_of lengths size ≤ spare size
 

@@ -10,7 +10,7 @@ pub record Chunk (H : Type 0) : Type 0 where
   pub size : ℕ
   pub cells : List (Entry (Record H))
 
--- these entries, and free ones behind them up to so many
+-- these entries, and free ones after them, n in total
 abbrev pub with_free : {T : Type 0} → ℕ → List (Entry T) → List (Entry T)
 with_free zero es = es
 with_free (suc k) [] = Free ∷ with_free k []
@@ -30,7 +30,7 @@ abbrev pub made_bytes : List ℕ → List ℕ
 made_bytes [] = replicate CHUNK_BYTES 0
 made_bytes (b ∷ bytes) = b ∷ bytes
 
--- these bytes once a key is written from an index on: an empty key leaves them as they are, even where there are none
+-- these bytes after a key is written from an index on: an empty key leaves them as they are, even if there are none
 abbrev pub written : ℕ → List ℕ → List ℕ → List ℕ
 written from [] bytes = bytes
 written from (b ∷ key) bytes = with_key from (b ∷ key) (made_bytes bytes)
@@ -51,7 +51,7 @@ module _ {H : Type 0} where
   cell_of Free bytes = Free
   cell_of (Live head) bytes = Live (record { header = head.header; key = take head.length bytes })
 
-  -- the slots of these entries, each with so many bytes
+  -- the slots of these entries, each of this width in bytes
   abbrev pub cells_of : List (Entry (Head H)) → ℕ → List ℕ → List (Entry (Record H))
   cells_of [] width bytes = []
   cells_of (e ∷ es) width bytes = cell_of e bytes ∷ cells_of es width (drop width bytes)
@@ -88,7 +88,7 @@ module _ {H : Type 0} where
     pub bytes_room : CHUNK_BYTES ≤ bytes_capacity
     pub entries : AreEntries (entries_of lengths headers) size width bytes
 
-  -- there are so many slots, and all are free
+  -- there are n slots, and all are free
   pub record IsFresh (cells : List (Entry (Record H))) (count : ℕ) : Type 0 where
     pub slots : length cells ≡ count
     pub free : (k : ℕ) → k < count → IsFree cells k

@@ -53,7 +53,7 @@ module _ {H : Type 0} where
   entry_of slot None = []
   entry_of slot (Some r) = (slot, r) ∷ []
 
-  -- the live slots among so many, with their records
+  -- the live slots among the first n, with their records
   abbrev pub live_below : List (Chunk H) → ℕ → List (ℕ × Record H)
   live_below chunks zero = []
   live_below chunks (suc slot) = entry_of slot (record_in chunks slot) ++ live_below chunks slot

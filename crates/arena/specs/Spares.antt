@@ -21,7 +21,7 @@ spare_at spares size = slice_index_or spares size none
 abbrev pub counts_of : List Spare → List ℕ
 counts_of spares = map (λ s. length s.slots) spares
 
--- so many slots in a row, from the last down to the first, behind those that were there
+-- n slots in a row, from the last down to the first, after the existing ones
 abbrev pub with_row : List ℕ → ℕ → ℕ → List ℕ
 with_row slots first zero = slots
 with_row slots first (suc k) = with_row slots (suc first) k ++ first ∷ []

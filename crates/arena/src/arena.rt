@@ -29,7 +29,7 @@ pub struct Arena<H: Copy, A: Allocator + Copy = Global> {
     chunks: Vec<Chunk<H, A>, A>,
     spares: Spares<A>,
     live: usize,
-    // What was read ahead of spare slots. It says nothing, and is kept so that the reading isn't left out.
+    // What was read ahead of spare slots. It says nothing, and is kept so that the compiler doesn't omit the read.
     read: u16,
 }
 
@@ -87,7 +87,7 @@ impl<H: Copy, A: Allocator + Copy> Arena<H, A> {
         Ok(())
     }
 
-    /// Takes the memory that so many records with keys of this length need, and none where enough slots are spare. No chunk
+    /// Takes the memory that `count` records with keys of this length need, and none if enough slots are spare. No chunk
     /// is taken beyond the one that makes them enough.
     pub fn reserve_slots(&mut self, length: usize, count: usize) -> Result<(), ArenaError>
         requires fits { length ≤ MAX_LENGTH }
@@ -216,7 +216,7 @@ impl<H: Copy, A: Allocator + Copy> Arena<H, A> {
         chunk.is_live(slot.index())
     }
 
-    // Adds chunks until so many slots of the size are spare.
+    // Adds chunks until `wanted` slots of the size are spare.
     fn fill_up(&mut self, size: usize, wanted: usize) -> Result<(), ArenaError>
         requires size { size < SIZES }
         ensures room { OnOk result (wanted ≤ spare_of self.new size) }

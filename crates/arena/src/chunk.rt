@@ -12,7 +12,7 @@ use crate::size::{CHUNK_BYTES, slots_of, width_of};
 use std::alloc::{AllocError, Allocator};
 use std::marker::Model;
 
-// Stands in place of a length where the slot is free. No key is that long.
+// Marks a free slot instead of a length. No key is that long.
 const FREE: u16 = u16::MAX;
 
 const _: () = prove!(FREE == 65_535);
@@ -20,10 +20,10 @@ const _: () = prove!(FREE == 65_535);
 /// Slots of one size, their headers beside each other, and their key bytes beside each other.
 #[derive(Drop)]
 pub(crate) struct Chunk<H, A: Allocator> {
-    // The length of each live slot's key, or `FREE`. There is room for one for each slot. The slots behind the last
+    // The length of each live slot's key, or `FREE`. There is room for one for each slot. The slots after the last
     // length are free, and their memory is not touched yet.
     lengths: Vec<u16, A>,
-    // The header of each slot that has a length. What stands at a free slot says nothing.
+    // The header of each slot that has a length. That of a free slot says nothing.
     headers: Vec<H, A>,
     // The key bytes of all slots: none as long as every key is empty, so that their memory is not touched before.
     bytes: Vec<u8, A>,
@@ -80,7 +80,7 @@ fn write_key<A: Allocator>(bytes: &mut Vec<u8, A>, from: usize, key: &[u8])
     }
 }
 
-/// Adds lengths and headers, where there are fewer, up to those at an index. Their slots are free, so that a copy of any
+/// Adds lengths and headers, if there are fewer, up to those at an index. Their slots are free, so that a copy of any
 /// header does.
 fn add_free<H: Copy, A: Allocator>(
     lengths: &mut Vec<u16, A>,
@@ -107,7 +107,7 @@ fn add_free<H: Copy, A: Allocator>(
     }
 }
 
-/// Returns so many bytes from an index on. Behind the bytes there are none.
+/// Returns n bytes from an index on. After the last byte there are none.
 fn part(bytes: &[u8], from: usize, count: usize) -> &[u8]
     requires within { count ≤ length bytes.now - from }
     ensures bytes { result.now ≡ take count (drop from bytes.now) }
@@ -128,7 +128,7 @@ impl<H, A: Allocator> Chunk<H, A> {
         self.size
     }
 
-    /// Returns the header of a live slot, where it lies.
+    /// Returns a reference to the header of a live slot.
     pub(crate) fn header(&self, index: usize) -> &H
         requires live { IsSome (held_at self.now.cells index) }
         ensures header { option_map (λ r. r.header) (held_at self.now.cells index) ≡ Some result.now }
@@ -136,7 +136,7 @@ impl<H, A: Allocator> Chunk<H, A> {
         &self.headers[index]
     }
 
-    /// Returns the key of a live slot, where it lies.
+    /// Returns a reference to the key of a live slot.
     pub(crate) fn key(&self, index: usize) -> &[u8]
         requires live { IsSome (held_at self.now.cells index) }
         ensures key { option_map (λ r. r.key) (held_at self.now.cells index) ≡ Some result.now }

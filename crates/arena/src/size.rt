@@ -48,7 +48,7 @@ pub(crate) fn slots_of(size: usize) -> usize
     CHUNK_BYTES / width_of(size)
 }
 
-/// Returns the least size that a key of so many bytes fits.
+/// Returns the least size that a key of this length fits.
 pub(crate) fn size_of(length: usize) -> usize
     ensures size { result ≡ size_of length }
 {

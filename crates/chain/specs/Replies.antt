@@ -23,6 +23,6 @@ reply_of kept proxy version = map.get kept (proxy, version)
 abbrev pub is_up_to : ℕ → ℤ → ℕ × ℤ → Bool
 is_up_to proxy version key = (proxy == key.0) && int_le key.1 version
 
--- each reply stands at its own version
+-- each reply is kept under its own version
 abbrev pub IsFiled : BTreeMap (ℕ × ℤ) Reply → Type 0
 IsFiled kept = (key : ℕ × ℤ) (reply : Reply) → tree.get key_cmp kept key ≡ Some reply → reply.version ≡ key.1

@@ -11,11 +11,11 @@ empty_cell = record { version = negsuc 0; others = negsuc 0; hash = 0; marks = 0
 abbrev pub is_marked : Cell → ℕ → Bool
 is_marked cell hash = bit_at cell.marks (hash % 32) == 1
 
--- what the cell tells of the one hash that it has
+-- the cell's bound of the one hash that it has
 abbrev pub own_of : Cell → ℕ → ℤ
 own_of cell hash = if cell.hash == hash then cell.version else negsuc 0
 
--- what it tells of others, by their mark
+-- its bound of others, by their mark
 abbrev pub others_of : Cell → ℕ → ℤ
 others_of cell hash = if is_marked cell hash then cell.others else negsuc 0
 

@@ -13,7 +13,7 @@ pub record FilterState : Type 0 where
   -- that of the newest key
   pub newest_key : ℤ
 
--- Which of so many cells the keys of a hash fall into. The cells part the numbers of 32 bits in their order, so that each is two
+-- Which of n cells the keys of a hash fall into. The cells part the numbers of 32 bits in their order, so that each is two
 -- where there are twice as many.
 abbrev pub cell_at : ℕ → ℕ → ℕ
 cell_at count hash = hash * count / 2 ^ 32

@@ -1,4 +1,4 @@
-//! The filter: cells, each of which tells the bounds of the keys that fall into it. They only rise.
+//! The filter: cells, each of which has the bounds of the keys that fall into it. Bounds only rise.
 
 ghost use Rattle.std.specs.Prelude.{◌≡◌, ℕ, ◌≤◌, ◌*◌, ◌<◌, ◌≤ℤ◌, ◌<ℤ◌, ◌↔◌, negsuc, List, length, take, IfOk, OnOk, IsTrue, min};
 ghost use Rattle.std.specs.Int.{int_max};
@@ -81,7 +81,7 @@ impl Filter {
         self.newest_range
     }
 
-    /// Returns whether the newest key is newer than the newest range. Where it isn't, no bound tells more than the version of
+    /// Returns whether the newest key is newer than the newest range. If it isn't, no bound says more than the version of
     /// that range.
     pub fn is_useful(&self) -> bool
         ensures useful { IsTrue result ↔ (self.now.newest_range <ℤ self.now.newest_key) }
@@ -115,8 +115,8 @@ impl Filter {
         self.newest_range = self.newest_range.max(version);
     }
 
-    /// Doubles the cells as long as there are fewer than so many, and fewer than [`MAX_CELLS`], if the filter is useful. More
-    /// cells tell apart more of the keys that are written from then on. Returns an error where memory is refused. Each bound
+    /// Doubles the cells while there are fewer than `count`, and fewer than [`MAX_CELLS`], if the filter is useful. More
+    /// cells tell apart more of the keys that are written from then on. Returns an error if memory is refused. Each bound
     /// stays as it is, also then.
     pub fn reserve(&mut self, count: usize) -> Result<(), AllocError>
         ensures same { (key : List ℕ) → bound self.new key ≡ bound self.old key }
@@ -135,7 +135,7 @@ impl Filter {
         Ok(())
     }
 
-    // Makes two cells of each, which tell the same.
+    // Makes two cells of each, with the same bounds.
     fn double(&mut self) -> Result<(), AllocError>
         requires few { length self.old.cells < MAX_CELLS }
         ensures same { (key : List ℕ) → bound self.new key ≡ bound self.old key }
@@ -160,7 +160,7 @@ impl Filter {
     }
 }
 
-// Makes two cells of each of the first ones, in order, where they lie. It goes from the last of them to the first, so that what it
+// Makes two cells of each of the first ones, in order and in place. It goes from the last of them to the first, so that what it
 // reads is as it was.
 fn spread(cells: &mut [Cell], count: usize)
     requires room { length cells.old ≡ 2 * count }

@@ -1,4 +1,4 @@
-//! A filter of writes, which tells of most keys that they weren't written lately.
+//! A filter of writes, which says of most keys that they weren't written lately.
 //!
 //! A [`Filter`] keeps an array of cells, each with a version, and beside it the version of the newest range. A write of a
 //! key raises the cell that the key falls into, by its hash; a write of a range raises that one number. Whichever of the two

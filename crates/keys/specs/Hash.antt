@@ -33,6 +33,6 @@ hash_of key = mixture_of key / 2 ^ 32
 abbrev pub IsHashOf : Range → Option ℕ → Type 0
 IsHashOf range found = MatchOption found (¬ IsSingle range) (λ hash. IsSingle range × (hash ≡ hash_of range.begin))
 
--- one for each range, the hash of the key that it holds alone; or none at all, where no range holds a key alone
+-- one for each range, the hash of the key that it holds alone; or none at all, if no range holds a key alone
 abbrev pub AreHashesOf : List Range → List (Option ℕ) → Type 0
 AreHashesOf ranges hashes = ((hashes ≡ []) × All (λ range. ¬ IsSingle range) ranges) ⊎ AllZip IsHashOf ranges hashes

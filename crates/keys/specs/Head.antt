@@ -1,4 +1,4 @@
--- The first eight bytes of a key as one number: most keys are told apart by it. This project's own.
+-- The first eight bytes of a key as one number: it distinguishes most keys. This project's own.
 use Rattle.std.specs.Prelude.{ℕ, List, ◌++◌, take, replicate}
 use Rattle.std.specs.Int.{w64, from_be_bytes}
 

@@ -19,13 +19,13 @@ pub record KeyHeadsTell (a b : List ℕ) : Type 0 where
 abbrev pub KeyHeadsTellOrder : Type 0
 KeyHeadsTellOrder = (a b : List ℕ) → IsBytes a → IsBytes b → KeyHeadsTell a b
 
--- two keys begin with the same bytes, so many
+-- two keys have a common prefix of this length
 pub record BeginAlike (n : ℕ) (a b : List ℕ) : Type 0 where
   pub in_first : n ≤ length a
   pub in_second : n ≤ length b
   pub same : take n a ≡ take n b
 
--- keys that begin alike are in the order of what stands behind
+-- keys with a common prefix are in the order of the bytes after it
 pub record RestsTell (n : ℕ) (a b : List ℕ) : Type 0 where
   pub rests : is_before a b ≡ is_before (drop n a) (drop n b)
   -- the one that ends there comes first

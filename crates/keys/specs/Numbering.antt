@@ -35,7 +35,7 @@ abbrev pub IsNumbered : List Range → List (List ℕ) → List (ℕ × ℕ) →
 IsNumbered ranges keys runs index =
     run_at runs index ≡ (rank keys (begin_at ranges index), rank keys (begin_at ranges index) + 1)
 
--- the keys are the begins of the ranges listed, so many, and the runs of these are numbered
+-- the keys are the begins of the listed ranges, of this number, and their runs are numbered
 pub record AreNumbered (ranges : List Range) (headed : List Headed) (keys : List (List ℕ)) (begins : ℕ)
     (runs : List (ℕ × ℕ)) : Type 0 where
   pub each_once : AreEachOnce ranges headed keys
@@ -52,7 +52,7 @@ abbrev pub OthersStay : List Headed → List (ℕ × ℕ) → List (ℕ × ℕ) 
 OthersStay headed before after =
     (index : ℕ) → ¬ Contains (indices_of headed) index → run_at after index ≡ run_at before index
 
--- the number is the head of the end behind the prefix, or the greatest one if the end doesn't begin with the prefix
+-- the number is the head of the end after the prefix, or the greatest one if the end doesn't begin with the prefix
 abbrev pub IsEndHead : List ℕ → List ℕ → ℕ → Type 0
 IsEndHead prefix end head =
     ((take (length prefix) end ≡ prefix) × (head ≡ head_of (drop (length prefix) end)))

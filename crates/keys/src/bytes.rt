@@ -16,14 +16,14 @@ pub(crate) struct Bytes {
     kept: Kept,
 }
 
-// Where the bytes are.
+// The location of the bytes.
 #[derive(Drop)]
 enum Kept {
     Here(Short),
     There(Vec<u8>),
 }
 
-// The first bytes of the array. What stands behind them doesn't count.
+// The first bytes of the array. The bytes after them don't count.
 #[derive(Clone, Copy)]
 struct Short {
     count: u8,
@@ -77,7 +77,7 @@ impl Bytes {
 impl Short {
     ghost use Rattle.keys.specs.Bytes.{bytes_here};
 
-    // Copies the first bytes. Where there are enough, it copies as many as fit, which takes no loop.
+    // Copies the first bytes. If there are enough, it copies as many as fit, which takes no loop.
     fn front(bytes: &[u8], count: usize) -> Self
         requires short { count ≤ SHORT }
         requires within { count ≤ length bytes.now }

@@ -1,4 +1,4 @@
-//! The hash of a key, by which a filter tells of it.
+//! The hash of a key, by which a filter finds its cell.
 
 ghost use Rattle.std.specs.Prelude.{◌≡◌, ◌↔◌, ◌^◌, ◌<◌, Any, IfOk, IsTrue};
 ghost use Rattle.keys.specs.Head.{head_of};
@@ -27,7 +27,7 @@ pub fn key_hash(key: &[u8]) -> u32
 }
 
 /// Returns for each of the ranges, in order, what [`RangeRef::single_hash`](crate::RangeRef::single_hash) returns for it, or an
-/// error if memory is refused. Where no range is a single key it returns none at all, and takes no memory.
+/// error if memory is refused. If no range is a single key, it returns none at all and takes no memory.
 pub fn single_hashes<L: RangeList>(
     alloc: Global,
     ranges: &L,

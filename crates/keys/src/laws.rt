@@ -9,7 +9,7 @@ pub fn key_heads()
     ensures order { KeyHeadsTellOrder }
 {}
 
-/// Keys that begin with the same bytes are in the order of what stands behind these.
+/// Keys with a common prefix are in the order of the bytes after it.
 pub fn beginnings()
     ensures order { RestsTellOrder }
 {}

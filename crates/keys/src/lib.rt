@@ -6,10 +6,10 @@
 //! [`Ranks`] orders ranges by their begins and says which of the gaps between these each of them covers, wherever the ranges lie
 //! ([`RangeList`]).
 //!
-//! [`key_head`] and [`common_prefix_len`] tell keys apart quickly: by the first eight bytes, and by how far two keys begin alike.
+//! [`key_head`] and [`common_prefix_len`] distinguish keys quickly: by the first eight bytes, and by the length of the common prefix.
 //! [`key_hash`], [`RangeRef::single_hash`] and [`HashedRange`] are for a filter of keys.
 //!
-//! `specs/` says, in reading order, what a key is and which of two comes first (`Key`), what its head is (`Head`), and
+//! `specs/` defines, in reading order, keys and their order (`Key`), heads of keys (`Head`), and
 //! when a range holds a key and when two ranges meet (`Range`). `Laws` ties these together, and the functions of [`laws`]
 //! prove it. The crates above may use the contracts of the types and functions here, and these laws.
 #![tactic(auto)]

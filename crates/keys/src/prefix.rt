@@ -18,9 +18,9 @@ pub fn key_head(bytes: &[u8]) -> u64
     short_head(bytes)
 }
 
-/// Returns the head of what stands behind so many bytes of a key: that of no byte where the key ends before.
+/// Returns the head of the bytes of a key after the first n: that of no byte if the key ends before.
 ///
-/// Where fewer than eight bytes stand there, it is found in the last eight of the key, if there are so many.
+/// If fewer than eight bytes follow, it is found in the last eight of the key, if it has eight.
 pub fn head_behind(key: &[u8], prefix_len: usize) -> u64
     ensures key_head { result ≡ head_of (drop prefix_len key.now) }
     ensures are_bytes { IsBytes key.now }
@@ -95,7 +95,7 @@ fn common_words(a: &[u8], b: &[u8]) -> usize
         .count()
 }
 
-// Returns how many bytes both begin with, one after the other.
+// Returns the length of the common prefix, byte by byte.
 fn common_bytes(a: &[u8], b: &[u8]) -> usize
     ensures within { (result ≤ length a.now) × (result ≤ length b.now) }
     ensures same { take result a.now ≡ take result b.now }

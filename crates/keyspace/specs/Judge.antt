@@ -90,7 +90,7 @@ judge_txns oldest ws written [] = []
 judge_txns oldest ws written (t ∷ ts) =
     judge_txn oldest ws written t ∷ judge_txns oldest ws (written_with oldest ws written t) ts
 
--- an entry a transaction
+-- one entry per transaction
 pub length-judge_txns : (oldest : ℤ) (ws : List Write) (written : List Range) (ts : List Txn)
     → length (judge_txns oldest ws written ts) ≡ length ts
 length-judge_txns oldest ws written [] = refl

@@ -1,6 +1,6 @@
 -- Which reply a batch must have, after these writes. Source: Algorithm 1 of the FoundationDB paper (SIGMOD 2021), and
 -- the checks of `SkipList.cpp` and `ConflictBatch` of release 7.1. That the edge is the batch's own, that an empty read
--- range counts for "too old" and meets nothing, and what the places are, is this project's own.
+-- range counts for "too old" and meets nothing, and the meaning of places, is this project's own.
 use Rattle.std.specs.Prelude.{
   ◌≡◌,
   ℕ,
@@ -55,13 +55,13 @@ MeetsEarlier written t i = IsSomeAnd (slice_get t.reads i) (λ range. Any (Meets
 abbrev pub IsInConflict : List Write → List Range → Txn → Type 0
 IsInConflict ws written t = (i : ℕ) × (IsHit ws t i ⊎ MeetsEarlier written t i)
 
--- too old goes before conflict, and what is neither is committed
+-- too old precedes conflict, and a transaction that is neither is committed
 abbrev pub HasVerdict : ℤ → List Write → List Range → Txn → Verdict → Type 0
 HasVerdict oldest ws written t TooOld = IsTooOld oldest t
 HasVerdict oldest ws written t Conflict = ¬ IsTooOld oldest t × IsInConflict ws written t
 HasVerdict oldest ws written t Committed = ¬ IsTooOld oldest t × ¬ IsInConflict ws written t
 
--- whether the entry is to tell places: the transaction asks for them and is in conflict
+-- whether the entry must report places: the transaction requests them and is in conflict
 abbrev pub IsReported : Txn → Verdict → Type 0
 IsReported t verdict = IsTrue t.marked × (verdict ≡ Conflict)
 
@@ -71,7 +71,7 @@ IsFirstToMeet written t i = MeetsEarlier written t i × ((k : ℕ) → k < i →
 
 -- the places that an entry tells
 pub record HasReport (ws : List Write) (written : List Range) (t : Txn) (e : Entry) : Type 0 where
-  -- none unless it is to tell them
+  -- none unless it must report them
   pub silent : ¬ IsReported t e.verdict → e.places ≡ []
   -- all hits, in increasing order
   pub hits : IsReported t e.verdict → (i : ℕ) → IsHit ws t i

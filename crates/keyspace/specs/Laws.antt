@@ -51,7 +51,7 @@ pub record Leaves (version : ℤ) (held : List Held) (leaver : Held) (others : L
   pub least : All (λ h. leaver.1.previous ≤ℤ h.1.previous) after
   pub due : leaver.1.previous ≤ℤ version
 
--- `next_due` tells the one that leaves, and none only where all wait for a version to come
+-- `next_due` is the one that leaves, and none only if all wait for a version to come
 pub record NextDueLeaves : Type 0 where
   pub some : (version : ℤ) (held : List Held) (leaver : Held) (others : List Held)
       → next_due version held ≡ Some (leaver, others) → Leaves version held leaver others
@@ -67,7 +67,7 @@ NothingHeldIsDue = (window : ℤ) (log : List Step)
 abbrev pub held_of : ℕ → List Held → List Held
 held_of proxy held = filter (λ h. h.0 == proxy) held
 
--- in every run each proxy has been answered once for each batch taken from it, but for its batches that are held
+-- in every run each proxy has one answer per batch taken from it, except for its held batches
 abbrev pub EachBatchIsAnswered : Type 0
 EachBatchIsAnswered = (window : ℤ) (log : List Step) (proxy : ℕ)
     → length (answers window log proxy) + length (held_of proxy (run window log).held)

@@ -65,7 +65,7 @@ admit window proxy b s =
     then answer proxy (found s.processed proxy b.version) s
     else process window proxy b s)
 
--- where a batch is due, it leaves and is admitted anew, and the others go on
+-- if a batch is due, it leaves and is admitted anew, and then the others are considered
 abbrev pub leave_then : (State → State) → ℤ → State → Option (Held × List Held) → State
 leave_then go_on window s None = s
 leave_then go_on window s (Some l) = go_on (admit window l.0.0 l.0.1 (record s { held = l.1 }))
@@ -96,7 +96,7 @@ run window log = run_from window log start
 abbrev pub answers_to : ℕ → List (ℕ × Answer) → List Answer
 answers_to proxy answered = map (λ a. a.1) (filter (λ a. a.0 == proxy) answered)
 
--- what the proxy is answered
+-- the answers to the proxy
 abbrev pub answers : ℤ → List Step → ℕ → List Answer
 answers window log proxy = answers_to proxy (run window log).answered
 

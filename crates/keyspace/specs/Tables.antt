@@ -1,4 +1,4 @@
--- How the transactions of a batch are kept: one buffer with the bytes of all keys, a span a range, and a row a transaction.
+-- How the transactions of a batch are kept: one buffer with the bytes of all keys, one span per range, and one row per transaction.
 -- This project's own.
 use Rattle.std.specs.Prelude.{◌≡◌, ℕ, ◌+◌, ◌-◌, ◌≤◌, List, [], ◌∷◌, length, map, slice_range, All}
 use Rattle.std.specs.Coded.{×_prop, le_prop}
@@ -7,7 +7,7 @@ use Rattle.keyspace.specs.declared.span.Span.{Span}
 use Rattle.keyspace.specs.declared.row.Row.{Row}
 use Rattle.keyspace.specs.Fields.{RangeFields, TxnFields, TxnLimits}
 
--- so many bytes of the buffer, from an index on
+-- n bytes of the buffer, from an index on
 abbrev pub bytes_at : List ℕ → ℕ → ℕ → List ℕ
 bytes_at buffer from count = slice_range buffer from (from + count)
 
@@ -27,7 +27,7 @@ txn_told buffer spans from row = record {
   writes = map (range_told buffer) (slice_range spans (row.end - row.writes) row.end);
 }
 
--- the transactions of rows, in order, whose spans lie one after the other from an index on
+-- the transactions of rows, in order, whose spans are in sequence from an index on
 abbrev pub txns_from : List ℕ → List Span → ℕ → List Row → List TxnFields
 txns_from buffer spans from [] = []
 txns_from buffer spans from (row ∷ rows) = txn_told buffer spans from row ∷ txns_from buffer spans row.end rows
@@ -41,7 +41,7 @@ pub record LiesWithin (length : ℕ) (span : Span) : Type 0 where
   pub begin : span.begin + span.begin_length ≤ length
   pub end : span.end + span.end_length ≤ length
 
--- the spans of the rows lie one after the other, from one index to another
+-- the spans of the rows are in sequence, from one index to another
 abbrev pub AreRows : ℕ → List Row → ℕ → Type 0
 AreRows from [] to = from ≡ to
 AreRows from (row ∷ rows) to = (from + row.writes ≤ row.end) × AreRows row.end rows to

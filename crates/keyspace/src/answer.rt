@@ -2,7 +2,7 @@
 
 use crate::reply::Reply;
 
-/// What a proxy receives for a batch. FoundationDB 7.1 has the first alone, and sends nothing in place of the others,
+/// What a proxy receives for a batch. FoundationDB 7.1 has the first alone, and sends nothing instead of the others,
 /// which are this project's own.
 #[derive(Debug, Drop)]
 pub enum Answer {

@@ -9,7 +9,7 @@
 //!
 //! A batch keeps its transactions as [`Txns`]: one buffer with the bytes of all keys, a [`Span`] a range, and a [`Row`] a
 //! transaction. It lends them as [`TxnRef`], [`RangesRef`] and [`RangeRef`], so no key is copied once it is read. Their ranges
-//! are ranked ([`Ranks`]) where a batch is read, and not where batches are resolved one after the other.
+//! are ranked ([`Ranks`]) when a batch is read, and not when batches are resolved in sequence.
 #![tactic(auto)]
 
 mod answer;

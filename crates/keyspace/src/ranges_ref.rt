@@ -88,7 +88,7 @@ impl RangeList for RangesRef<'_> {
     }
 }
 
-// Returns so many bytes of the buffer, from an index on.
+// Returns n bytes of the buffer, from an index on.
 fn bytes_at(buffer: &[u8], from: u32, count: u16) -> &[u8]
     requires within { from + count ≤ length buffer.now }
     ensures bytes { result.now ≡ slice_range buffer.now from (from + count) }

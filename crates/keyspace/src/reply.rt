@@ -100,14 +100,14 @@ impl Entry {
 pub struct Reply {
     /// The version of the batch, 0 or more.
     pub version: i64,
-    /// One entry a transaction, in the order of the batch; at most [`MAX_TXNS`](crate::MAX_TXNS).
+    /// One entry per transaction, in the order of the batch; at most [`MAX_TXNS`](crate::MAX_TXNS).
     pub entries: Sequence<Entry>,
     ghost natural: { pos 0 ≤ℤ version },
     ghost few: { length entries ≤ MAX_TXNS },
 }
 
 impl Reply {
-    /// Creates the reply to the batch of this version, with one entry a transaction.
+    /// Creates the reply to the batch of this version, with one entry per transaction.
     pub fn new(version: i64, entries: Sequence<Entry>) -> Self
         requires natural { pos 0 ≤ℤ version }
         requires few { length entries ≤ MAX_TXNS }

@@ -9,7 +9,7 @@ ghost use Rattle.keyspace.specs.Tables.{AreRows};
 pub struct Row {
     /// The read version of the transaction.
     pub snapshot: i64,
-    /// The index behind the span of its last write range, where the spans of the next row begin.
+    /// The index after the span of its last write range: the spans of the next row begin there.
     pub end: u32,
     /// How many write ranges it has. Their spans are the last ones before `end`.
     pub writes: u16,

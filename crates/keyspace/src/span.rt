@@ -1,6 +1,6 @@
-//! Where a range lies in the buffer of its batch.
+//! The location of a range in the buffer of its batch.
 
-/// Where the keys of a range lie in a buffer, in bytes. The two may share bytes.
+/// The location of the keys of a range in a buffer, in bytes. The two may share bytes.
 #[derive(Clone, Copy, Debug, PartialEq, Eq)]
 pub struct Span {
     /// The index of the first byte of the begin.

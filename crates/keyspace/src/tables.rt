@@ -42,7 +42,7 @@ impl Tables {
         Ok(tables)
     }
 
-    // Copies a transaction behind the others.
+    // Appends a copy of a transaction.
     fn put(&mut self, txn: &Txn) -> Result<(), AllocError>
         requires tables { AreTables self.old.buffer.items self.old.spans.items self.old.rows.items }
         requires few { vec_len self.old.rows < MAX_TXNS }

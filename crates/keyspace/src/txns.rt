@@ -35,7 +35,7 @@ pub struct Txns {
     ranks: Ranks,
     // The indices of the write ranges that aren't empty, in the order of the ranks.
     write_order: Vec<u32>,
-    // Of each range that is a single key; or none at all, where there is no such range.
+    // Of each range that is a single key; or none at all, if there is no such range.
     hashes: Vec<Option<u32>>,
     ghost tables: { AreTables buffer.items spans.items rows.items } by { AreTables-prop buffer.items spans.items rows.items },
     ghost few: { vec_len rows ≤ MAX_TXNS },

@@ -8,7 +8,7 @@ use crate::row::Row;
 use std::alloc::{AllocError, Global};
 
 /// Lists those of the indices that are of write ranges, in the order in which they are given, or returns an error if memory is
-/// refused. The indices are those of the ranges of the rows, one after the other.
+/// refused. The indices are those of the ranges of the rows, in sequence.
 pub fn list_writes(alloc: Global, mut order: Vec<u32>, rows: &[Row]) -> Result<Vec<u32>, AllocError>
     requires rows { (count : ℕ) × AreRows 0 rows.now count }
     requires within { All (λ index. index < length (marks_of_rows rows.now)) order.items }

@@ -76,7 +76,7 @@ fn count_below<L: RangeList>(end: &[u8], prefix: &[u8], sorted: &[Headed], range
     gallop(end, end_head(end, prefix), sorted, ranges)
 }
 
-// Returns the head of the end behind the prefix, or the greatest one if the end doesn't begin with the prefix.
+// Returns the head of the end after the prefix, or the greatest one if the end doesn't begin with the prefix.
 fn end_head(end: &[u8], prefix: &[u8]) -> u64
     ensures head { IsEndHead prefix.now end.now result }
 {
