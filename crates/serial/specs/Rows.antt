@@ -16,7 +16,7 @@ use Rattle.serial.specs.ShardRows.{ShardRows}
 
 module _ (limits : Limits) where
   pub record WorkedRows : Type 0 where
-    -- what the transactions of any list do here are functions of their read ranges, so the laws speak of them
+    -- the effects of any list's transactions here are functions of their read ranges, so the laws speak of them
     pub effects_keep_to_ranges :
         (ps : List Processed) (i j : ℕ) (p : Processed) (t : Txn) → IsCommitted ps i j p t
         → IsEffect t (effects_of ps i j) × (plans_of ps i j ≡ plan_of t (effects_of ps i j))

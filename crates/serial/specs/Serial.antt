@@ -53,7 +53,7 @@ abbrev pub ReadsOnlyDeclared : Txn → Plan → Store → Store → Type 0
 ReadsOnlyDeclared t plan read changed =
     (other : Store) → SameIn t.reads read other → plan read changed ≡ plan other changed
 
--- it leaves the same store if it reads the store at its place in place of the store at its snapshot
+-- it leaves the same store if it reads the store at its place instead of the store at its snapshot
 abbrev pub RunsAtItsPlace : Store → Plans → List Processed → ℕ → ℕ → Processed → Txn → Type 0
 RunsAtItsPlace first plans ps i j p t =
     ReadsOnlyDeclared t (plans i j) (read_store first plans ps i j p t) (place_store first plans ps i j p)
@@ -117,7 +117,7 @@ pub record IsEffect (t : Txn) (effect : Store → Store) : Type 0 where
 abbrev pub put : List Range → Store → Store → Store
 put ranges one other key bytes = if in_ranges ranges key then one key bytes else other key bytes
 
--- the plan that puts what the effect gives of the store that was read at the keys of the write ranges
+-- the plan that writes, at the keys of the write ranges, the effect's values for the store that was read
 abbrev pub plan_of : Txn → (Store → Store) → Plan
 plan_of t effect read changed = put t.writes (effect read) changed
 
@@ -131,7 +131,7 @@ EffectsAreSerializable ps =
 
 -- Transactions that only read, which no resolver sees.
 
--- A snapshot is a place in the commit order: what a reader finds there is what the batches up to the last one with a version at or
+-- A snapshot is a place in the commit order: a reader finds there the values that the batches up to the last one with a version at or
 -- below it have left.
 pub record IsPlace (first : Store) (plans : Plans) (ps : List Processed) (snapshot : ℤ) : Type 0 where
   pub batches : ℕ
@@ -155,7 +155,7 @@ pub record Follows (ps : List Processed) (k l : ℕ) (q : Processed) (u : Txn) (
   -- in the commit order
   pub later : k < i
   -- At each key of its read ranges, the writes that its snapshot includes are those before u, u's own, and then later ones. So
-  -- what it reads where u wrote is what u wrote or a later write.
+  -- where u wrote, it reads the value of u or of a later write.
   pub reads :
       (range : Range) → Contains t.reads range → (key : List ℕ) → IsBytes key → IsTrue (holds range key)
       → (rest : List Write) × (holding key (up_to t.snapshot (writes (take i ps)))

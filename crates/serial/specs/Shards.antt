@@ -1,4 +1,4 @@
--- Several resolvers: the keys are split into shards, and each shard has a resolver of its own, which judges what the transactions
+-- Several resolvers: the keys are split into shards, and each shard has its own resolver, which judges what the transactions
 -- read and write there. A transaction is committed only if every one of them says so.
 use Rattle.std.specs.Prelude.{
   ◌≡◌,
@@ -97,6 +97,6 @@ pub record AreByShards (window : ℤ) (points : List (List ℕ)) (each : List (L
   pub clips :
       (m : ℕ) (shard : Shard) (own : List Processed) → slice_get (shards points) m ≡ Some shard → slice_get each m ≡ Some own
       → AllZip (λ p c. IsBatchClip shard p.batch c.batch) ps own
-  -- A transaction is committed only if every shard says so. A proxy may reject it for reasons of its own, though every shard has
+  -- A transaction is committed only if every shard says so. A proxy may reject it for other reasons, though every shard has
   -- committed it.
   pub verdicts : (i j : ℕ) → SaysCommitted i j ps → All (SaysCommitted i j) each

@@ -1,7 +1,7 @@
 //! Why verdicts matter: each committed transaction may be run at its place in the commit order, and all of them one at a time.
 //!
 //! `specs/Commits.antt`, `specs/Stores.antt`, `specs/Serial.antt`, `specs/Replies.antt` and `specs/Shards.antt`, to be read in this
-//! order, say so of any list of processed batches, and what replies tell a proxy of it. The laws prove it of every chain, which is what
+//! order, say so of any list of processed batches, and what replies say to a proxy about it. The laws prove it of every chain, which is what
 //! the resolver promises to process.
 //!
 //! A transaction is a plan that changes no key outside its write ranges. Index look-ups, atomic additions and versionstamps are plans.

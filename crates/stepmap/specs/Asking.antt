@@ -7,7 +7,7 @@ use Rattle.keys.specs.declared.range.Range.{Range}
 use Rattle.stepmap.specs.Boundary.{Boundary, value_at}
 use Rattle.stepmap.specs.declared.key_bound.KeyBound.{KeyBound}
 
--- what is asked is a range and a version: the function is above the version at some key of the range
+-- a question is a range and a version: whether the function is above the version at some key of the range
 abbrev pub Exceeds : List Boundary → Range × ℤ → Type 0
 Exceeds bs q = (key : List ℕ) × IsBytes key × Holds q.0 key × (q.1 <ℤ value_at bs key)
 

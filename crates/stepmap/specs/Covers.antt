@@ -1,4 +1,4 @@
--- How a step function stands for the writes that it remembers.
+-- How a step function represents the writes that it remembers.
 use Rattle.std.specs.Prelude.{ℕ, ℤ, ◌≤ℤ◌, ◌<ℤ◌, ◌↔◌, List, Any}
 use Rattle.keys.specs.Key.{IsBytes}
 use Rattle.keys.specs.Range.{Holds}

@@ -1,4 +1,4 @@
--- What a filter tells beside a step map, and who is asked instead where it tells nothing. This project's own.
+-- What a filter says beside a step map, and who is asked instead if it says nothing. This project's own.
 use Rattle.std.specs.Prelude.{◌≡◌, ℕ, ℤ, ◌+◌, ◌≤◌, ◌≤ℤ◌, ◌<ℤ◌, if◌then◌else◌, Bool, true, false, IsTrue, List, [], ◌∷◌, length, take, drop, Some, slice_get}
 use Rattle.std.specs.List.{AllZip}
 use Rattle.filter.specs.Filter.{FilterState, bound}
@@ -25,7 +25,7 @@ left_of [] marks = []
 left_of (q ∷ queries) [] = []
 left_of (q ∷ queries) (mark ∷ marks) = if mark then q ∷ left_of queries marks else left_of queries marks
 
--- the answers that were told, in place of the marks, in order
+-- the answers instead of the marks, in order
 abbrev pub with_told : List Bool → List Bool → List Bool
 with_told [] told = []
 with_told (false ∷ marks) told = false ∷ with_told marks told

@@ -1,4 +1,4 @@
--- Where a key stands beside a bound through boundaries. This project's own.
+-- The position of a key relative to a bound through boundaries. This project's own.
 use Rattle.std.specs.Prelude.{◌≡◌, Some, ℕ, Bool, not, true, false, refl, if◌then◌else◌, List, option_map, unwrap_or}
 use Rattle.arena.specs.Arena.{Arena, key_at}
 use mathlib.Core.Path.{sym, ap, subst}

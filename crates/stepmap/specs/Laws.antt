@@ -53,7 +53,7 @@ FewBoundaries =
     (bs : List Boundary) (ws : List Write) (edge : ℤ) → AreBoundaries bs → Ends bs ws edge →
     length bs ≤ 1 + 2 * live_count edge ws
 
--- ranges written at or above the edge count along, but for empty ones
+-- ranges written at or above the edge count too, except empty ones
 abbrev pub CountedAlong : Type 0
 CountedAlong =
     (edge version : ℤ) (ws : List Write) (ranges : List Range) → edge ≤ℤ version →
@@ -64,7 +64,7 @@ abbrev pub UpToLater : Type 0
 UpToLater = (version later : ℤ) (bs : List Boundary) → version ≤ℤ later → AreUpTo version bs
     → AreUpTo later bs
 
--- so many of the ranges are written at the version, one after the other, and the others are ready
+-- the first n ranges are written at the version, in sequence, and the others are ready
 pub record IsWriting (ranges : List Range) (version : ℤ) (done : ℕ) (before now : Steps) : Type 0 where
   pub steps : AreSteps now
   pub ready : now.ready ≡ map lengths (drop done ranges)
@@ -98,7 +98,7 @@ pub record IsWritten (ranges : List Range) (version : ℤ) (before now : Steps) 
       (ws : List Write) (edge : ℤ) → edge ≤ℤ version → Ends before.boundaries ws edge →
       Ends now.boundaries (ws ++ at_version version ranges) edge
 
--- ranges that were made ready are written one after the other
+-- ranges that were made ready are written in sequence
 pub record WritesInTurn (united : List Range) (version : ℤ) : Type 0 where
   -- none is written yet
   pub start :

@@ -4,7 +4,7 @@ use Rattle.stepmap.specs.Boundary.{Boundary}
 use Rattle.stepmap.specs.StepMap.{Steps}
 use Rattle.stepmap.specs.Sweeping.{unexpired}
 
--- so many ranges can be written: the boundaries, and two for each range, are within the limit
+-- n ranges can be written: the boundaries, and two for each range, are within the limit
 abbrev pub HasRoomFor : ℕ → Steps → Type 0
 HasRoomFor ranges m = length m.boundaries + 2 * ranges ≤ m.limit
 
@@ -13,11 +13,11 @@ abbrev pub unexpired_all : ℤ → List Boundary → List Boundary
 unexpired_all edge [] = []
 unexpired_all edge (b ∷ bs) = b ∷ unexpired edge b.version bs
 
--- the step map after a whole round of the sweep, from the front
+-- the step map after a complete round of the sweep, from the front
 abbrev pub after_round : Steps → Steps
 after_round m = record m { boundaries = unexpired_all m.edge m.boundaries; round = None }
 
--- the step map after room was made for so many ranges: by a whole round, unless there is room for them already
+-- the step map after room was made for n ranges: by a complete round, unless there is room for them already
 abbrev pub made_room : ℕ → Steps → Steps
 made_room ranges m = if nat_le (length m.boundaries + 2 * ranges) m.limit then m else after_round m
 

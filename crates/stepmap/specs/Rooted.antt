@@ -1,4 +1,4 @@
--- Where boundaries come from: the begins and ends of ranges written not too long ago, so that there are few.
+-- Boundaries come from the begins and ends of ranges written not too long ago, so they are few.
 use Rattle.std.specs.Prelude.{◌≡◌, ◌≢◌, ℕ, ℤ, negsuc, ◌≤ℤ◌, ◌⊎◌, List, [], ◌∷◌, All, Any, IfSome}
 use Rattle.std.specs.Int.{int_max}
 use Rattle.keys.specs.Range.{IsEmpty}
@@ -25,5 +25,5 @@ AreRooted ws edge before (b ∷ bs) =
 
 pub record Rooted (m : Steps) (ws : List Write) : Type 0 where
   pub each : AreRooted ws m.edge (negsuc 0) m.boundaries
-  -- what the round under way has passed is written at or above the edge with which it began
+  -- the boundaries that the round under way has passed are written at or above the edge with which it began
   pub passed : IfSome m.round (λ round. Ends (below round.cursor m.boundaries) ws round.edge)

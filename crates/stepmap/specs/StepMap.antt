@@ -22,7 +22,7 @@ use Rattle.keys.specs.declared.range.Range.{Range}
 use Rattle.stepmap.specs.declared.step_map.TheConstants.{MAX_LIMIT}
 use Rattle.stepmap.specs.Boundary.{Boundary, AreBoundaries}
 
--- a round of the sweep that is under way: the key at which it goes on, and the edge with which it began
+-- a round of the sweep that is under way: the key at which it continues, and the edge with which it began
 pub record Round : Type 0 where
   pub cursor : List ℕ
   pub edge : ℤ
@@ -31,7 +31,7 @@ pub record Round : Type 0 where
 pub record Steps : Type 0 where
   -- in the order of their keys
   pub boundaries : List Boundary
-  -- below it, the versions of the step function tell nothing
+  -- below it, the versions of the step function say nothing
   pub edge : ℤ
   -- the lengths of the begins and ends of the ranges that may be written without taking memory, in order
   pub ready : List (ℕ × ℕ)
@@ -53,7 +53,7 @@ new_map limit = record {
   limit = limit;
 }
 
--- a round goes on at a key of some length, and began with an edge that isn't above the map's
+-- a round continues at a key of some length, and began with an edge that isn't above the map's
 pub record IsRound (edge : ℤ) (round : Round) : Type 0 where
   pub key : IsKey round.cursor
   pub later : round.cursor ≢ []

@@ -1,4 +1,4 @@
--- The sweep takes away boundaries that tell nothing at or above the edge, some at a time. This project's own.
+-- The sweep removes boundaries that say nothing at or above the edge, some at a time. This project's own.
 use Rattle.std.specs.Prelude.{
   ℕ,
   ℤ,
@@ -53,16 +53,16 @@ left_from cursor bs = filter (is_left cursor) bs
 abbrev pub passed_to : List ℕ → List Boundary → List Boundary
 passed_to cursor bs = filter (λ b. not (is_left cursor b)) bs
 
--- how many the round under way has still to look at, or a whole round where none is
+-- how many the round under way has still to look at, or a complete round if none is under way
 abbrev pub rest : Steps → ℕ
 rest m = length (left_from (cursor_of m.round) m.boundaries)
 
--- the round goes on at the first that is left; where none is left, it has ended
+-- the round continues at the first that is left; if none is left, it has ended
 abbrev pub round_at : ℤ → List Boundary → Option Round
 round_at edge [] = None
 round_at edge (b ∷ bs) = Some (record { cursor = b.key; edge = edge })
 
--- of those passed and those left, what a sweep leaves that looks at so many
+-- of those passed and those left, the boundaries that a sweep leaves that looks at n
 abbrev pub swept : ℤ → ℕ → List Boundary → List Boundary → List Boundary
 swept edge count passed left =
     passed ++ (unexpired edge (last_version (negsuc 0) passed) (take count left) ++ drop count left)
@@ -71,7 +71,7 @@ swept edge count passed left =
 abbrev pub at_front : Steps → Steps
 at_front m = record m { round = None }
 
--- the step map after a sweep that looks at so many
+-- the step map after a sweep that looks at n boundaries
 abbrev pub after_sweep : ℕ → Steps → Steps
 after_sweep count m =
     let left = left_from (cursor_of m.round) m.boundaries in

@@ -34,7 +34,7 @@ pub struct Boundaries<const N: usize> {
     pub wanted: Vec<usize>,
     pub keys: Arena<()>,
     pub tree: Tree<N>,
-    // Where the tree puts the entries that it takes out: empty between calls. It lies here since a new one for each write would be
+    // The tree puts the entries that it removes here: empty between calls. It is a field since a new one for each write would be
     // cleared each time.
     pub taken: ArrayVec<Entry, N>,
     ghost none_taken: { taken.items ≡ [] },

@@ -1,4 +1,4 @@
-//! The bounds that a filter tells of several queries at once.
+//! A filter's bounds of several queries at once.
 //!
 //! The hashes of their keys are gathered first, and the cells read then: so the memory of all these cells is waited for at once.
 
@@ -43,7 +43,7 @@ pub fn bounds_at(filter: &Filter, hashes: &[u32]) -> ArrayVec<i64, SIDE>
     bounds
 }
 
-/// Returns the bound so many times.
+/// Returns the bound n times.
 pub fn repeated(bound: i64, count: usize) -> ArrayVec<i64, SIDE>
     requires few { count ≤ SIDE }
     ensures each { All (λ b. b ≡ bound) result.items }

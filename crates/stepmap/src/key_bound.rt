@@ -98,7 +98,7 @@ fn first_four(head: u64) -> u32
     (head >> 32) as u32
 }
 
-// Returns the first bytes, so many or all.
+// Returns the first n bytes, or all.
 fn first(bytes: &[u8], count: usize) -> &[u8]
     ensures first { result.now ≡ take count bytes.now }
 {

@@ -56,7 +56,7 @@ impl KeyLengths {
     }
 }
 
-// Puts the lengths one by one, the begin's before the end's, in place of what the list has.
+// Replaces the list by the lengths, each range's begin before its end.
 pub(crate) fn put_each_length(
     each: &mut Vec<usize>,
     lengths: &[KeyLengths],
@@ -71,7 +71,7 @@ pub(crate) fn put_each_length(
     Ok(())
 }
 
-// Keeps these lengths in place of those that there are.
+// Replaces the kept lengths by these.
 pub(crate) fn keep(
     kept: &mut VecDeque<KeyLengths>,
     lengths: &[KeyLengths],

@@ -1,5 +1,5 @@
 //! Laws of step maps and lists of writes, each the contract of a function that does nothing. The layer above cites
-//! these, and needs no lemma of its own about boundaries.
+//! these, and needs no lemmas about boundaries.
 
 ghost use Rattle.stepmap.specs.Laws.{TellsHits, GreatestTells};
 ghost use Rattle.stepmap.specs.Laws.{FewBoundaries, CountedAlong};
@@ -17,7 +17,7 @@ pub fn counts()
     ensures along { CountedAlong }
 {}
 
-/// Ranges in order and apart, whose lengths were prepared together, may be written one after the other; then all of them
+/// Ranges in order and apart, whose lengths were prepared together, may be written in sequence; then all of them
 /// are written.
 pub fn writing()
     ensures in_turn { ApartWriteInTurn }

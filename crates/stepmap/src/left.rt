@@ -2,7 +2,7 @@
 ghost use Rattle.std.specs.Prelude.{◌≡◌, ◌≤◌, ◌++◌, length, take, drop, count_by};
 ghost use Rattle.stepmap.specs.Filtering.{with_told};
 
-// Puts the answers that were told in place of the marks from this index on, in order.
+// Replaces the marks from this index on by the answers, in order.
 pub fn put_told(marks: &mut [bool], from: usize, told: &[bool])
     requires within { from ≤ length marks.old }
     requires each { count_by (λ mark. mark) (drop from marks.old) ≤ length told.now }

@@ -2,8 +2,8 @@
 //!
 //! A conflict set asks whether it exceeds a snapshot at some key of a read range, and writes into it the ranges that
 //! a batch commits. It keeps boundaries, each with the version from its key on, up to the next one. Below the edge a
-//! version tells nothing; a sweep, some boundaries at a time, removes those that tell nothing at or above it. There
-//! are never more boundaries than the limit: what would not fit is refused before it is written. Where many ranges are asked
+//! version says nothing; a sweep, some boundaries at a time, removes those that say nothing at or above it. There
+//! are never more boundaries than the limit: a write that would not fit is refused before anything is written. If many ranges are asked
 //! for at once, a filter answers of most single keys that they weren't written lately, without a look at the boundaries.
 //!
 //! The layer above may use the contracts of [`StepMap`], which see it as the list of its boundaries, its edge, its

@@ -14,7 +14,7 @@ use tree::Question;
 // What a tree of an arena's keys is asked.
 pub type BoundQuestion<'a> = Question<KeyBound<'a>, KeyBound<'a>>;
 
-// Returns what a tree of this arena's keys is asked for the query, whose range isn't empty. It has a hash if that holds one key alone.
+// Returns the question to a tree of this arena's keys for the query, whose range isn't empty. It has a hash if that holds one key alone.
 pub fn question<'a>(keys: &'a Arena<()>, query: RangeQuery<'a>) -> BoundQuestion<'a>
     requires filled { ¬ IsEmpty query.range }
     requires hash { IsHashOf query.range query.hash }
@@ -24,7 +24,7 @@ pub fn question<'a>(keys: &'a Arena<()>, query: RangeQuery<'a>) -> BoundQuestion
     let begin = query.range.begin();
     let end = query.range.end();
     let is_single = query.hash.is_some();
-    // A key and the one right after it begin alike to the end of the former.
+    // A key is a prefix of the one right after it.
     let targets_prefix_len = if is_single {
         begin.len()
     } else {
@@ -66,7 +66,7 @@ pub fn no_question(keys: &Arena<()>) -> BoundQuestion<'_> {
     }
 }
 
-// Puts what a tree of this arena's keys is asked for each of the queries at these places, whose ranges aren't empty, in place of
+// Puts the question to a tree of this arena's keys for each of the queries at these places, whose ranges aren't empty, instead of
 // the first questions.
 pub fn put_questions<'a, L: QueryList>(
     keys: &'a Arena<()>,

@@ -1,4 +1,4 @@
-//! Single keys, which the filter tells of.
+//! Single keys, of which the filter has bounds.
 ghost use Rattle.std.specs.Prelude.{◌≡◌, ℕ, ◌≤ℤ◌, List, take};
 ghost use Rattle.filter.specs.Filter.{bound};
 ghost use Rattle.keys.specs.Range.{Holds};

@@ -43,12 +43,12 @@ const FAN_OUT: usize = 128;
 pub enum SweepEnd {
     /// No boundary is left to look at: the next sweep begins a round at the front.
     Round,
-    /// Some are left: the next sweep goes on at the first of these.
+    /// Some are left: the next sweep continues at the first of these.
     Stopped,
 }
 
 /// A step function from keys to versions, which remembers committed writes, with an edge: a version below the edge
-/// tells nothing. Contracts see its boundaries in key order, the empty key first; there are at most as many as the
+/// says nothing. Contracts see its boundaries in key order, the empty key first; there are at most as many as the
 /// limit.
 #[derive(Debug, Drop)]
 pub struct StepMap {
@@ -159,9 +159,9 @@ impl StepMap {
         self.boundaries.len()
     }
 
-    /// Takes all the memory that writing ranges with keys of these lengths needs, in place of what was taken before. Such
-    /// ranges can then be written, in this order. Where the boundaries, and two for each range, exceed the limit, it
-    /// sweeps a whole round from the front first.
+    /// Takes all the memory that writing ranges with keys of these lengths needs, instead of any taken before. Such
+    /// ranges can then be written, in this order. If the boundaries, and two for each range, exceed the limit, it
+    /// sweeps a complete round from the front first.
     ///
     /// Returns `Full` where they still exceed it, before any memory is taken, and `Memory` where a growth is refused
     /// or an arena would have more chunks than slots can name. After either no range is ready; the function says the same as
@@ -196,7 +196,7 @@ impl StepMap {
     }
 
     /// Notes that a key of this hash, as `keys::key_hash` returns it, is going to be written at the version. The function stays
-    /// as it is, and no answer is another one. Where many keys are written, the hashes of all of them come first, so that the
+    /// as it is, and no answer changes. If many keys are written, the hashes of all of them come first, so that the
     /// memory which the filter has for them is waited for at once. It takes no memory.
     pub fn note_key(&mut self, hash: u32, version: i64)
         ensures same { self.new ≡ self.old }
@@ -242,7 +242,7 @@ impl StepMap {
         self.edge = edge;
     }
 
-    /// Looks at the next `count` boundaries of the round, or at all that are left, and removes those that tell nothing
+    /// Looks at the next `count` boundaries of the round, or at all remaining ones, and removes those that say nothing
     /// at or above the edge. The boundary at the empty key is never looked at. It takes no memory.
     pub fn sweep(&mut self, count: usize) -> SweepEnd
         ensures map { self.new ≡ after_sweep count self.old }

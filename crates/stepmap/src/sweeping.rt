@@ -23,7 +23,7 @@ pub struct Looked {
 }
 
 impl<const N: usize> Boundaries<N> {
-    // Looks at so many boundaries from the cursor on, or at all that are left, and takes out each whose version and
+    // Looks at `count` boundaries from the cursor on, or at all remaining ones, and removes each whose version and
     // predecessor's version are below `edge`. That at the empty key is never looked at. The cursor is then at the first
     // one left, or empty.
     pub fn sweep(&mut self, cursor: &mut Vec<u8>, count: usize, edge: i64)

@@ -19,9 +19,9 @@ pub record CanRemoveExpired (is_below : ℕ → Bool) (bytes : KeyBytes) (count 
   pub first : length (items_below is_below tree.items) ≡ 1 → edge ≤ℤ before
   pub none_taken : taken ≡ []
 
--- A run of items was looked at that begins with the last one below the bound. Those that tell nothing at or above the edge are
+-- A run of items was looked at that begins with the last one below the bound. Those that say nothing at or above the edge are
 -- gone: each whose version and predecessor's version are below it. `before` is the version of the item before the run, and `next`
--- the key of the first item behind all of these.
+-- the key of the first item after all of these.
 pub record RemovesExpired (is_below : ℕ → Bool) (count : ℕ) (edge before : ℤ) (removal : Removal) (run : List Item) (next : Option ℕ)
     (was now : List Item) : Type 0 where
   pub front : List Item

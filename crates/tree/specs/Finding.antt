@@ -10,7 +10,7 @@ use Rattle.tree.specs.Path.{IsPartitioned, index_in}
 abbrev pub HasHead : KeyBytes → List ℕ → Option ℕ → KeyHeads → Type 0
 HasHead bytes target head key_heads = IfSome head (λ d. IsTargetHead bytes key_heads target d)
 
--- That, where the first key and the target are known to begin with so many bytes in common. It is missing only where the first key
+-- The same, if the first key and the target are known to have that many bytes in common. It is missing only if the first key
 -- may be empty, or where they don't begin as all keys do.
 pub record IsHeadFor (bytes : KeyBytes) (target : List ℕ) (known : ℕ) (from_head : Option ℕ) (key_heads : KeyHeads)
     : Type 0 where
@@ -30,7 +30,7 @@ module _ {N : ℕ} where
     pub can_find : CanFind bytes is_below node
     pub known : IsCommonPrefixAt bytes is_below target common_prefix_len (entries_of node) 0
 
-  -- likewise with the head of the target, as those bytes tell it
+  -- the same with the head of the target that those bytes give
   pub record CanStepBy (bytes : KeyBytes) (is_below : ℕ → Bool) (target : List ℕ) (node : Node N) (common_prefix_len : Option ℕ)
       (from_head : Option ℕ) : Type 0 where
     pub can_step : CanStep bytes is_below target node common_prefix_len

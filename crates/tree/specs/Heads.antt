@@ -22,7 +22,7 @@ pub record Begins (bytes : KeyBytes) (beginning : List ℕ) (key : ℕ) : Type 0
   pub are_bytes : IsBytes text
   pub begins : (text ≡ []) ⊎ (take (length beginning) text ≡ beginning)
 
--- the head of what stands in a key behind so many bytes: its first four bytes as a number, the upper half of a key head
+-- the head of a key after its first n bytes: the next four bytes as a number, the upper half of a key head
 abbrev pub head_behind : ℕ → List ℕ → ℕ
 head_behind prefix_len text = head_of (drop prefix_len text) / 4294967296
 
@@ -30,20 +30,20 @@ head_behind prefix_len text = head_of (drop prefix_len text) / 4294967296
 abbrev pub head_at : KeyBytes → ℕ → ℕ → ℕ
 head_at bytes prefix_len key = head_behind prefix_len (unwrap_or (bytes key) [])
 
--- what a node knows: its keys, with how many bytes all of them but an empty one begin, and the head of each behind these
+-- what a node knows: its keys, the length of the common prefix of all of them except an empty one, and the head of each after it
 pub record KeyHeads : Type 0 where
   pub keys : List ℕ
   pub prefix_len : ℕ
   pub heads : List ℕ
 
--- what it knows is right
+-- its knowledge is right
 pub record AreHeads (bytes : KeyBytes) (key_heads : KeyHeads) : Type 0 where
   pub beginning : List ℕ
   pub prefix_len : length beginning ≡ key_heads.prefix_len
   pub begins : All (Begins bytes beginning) key_heads.keys
   pub heads : key_heads.heads ≡ map (head_at bytes key_heads.prefix_len) key_heads.keys
 
--- what each node knows is right
+-- each node's knowledge is right
 abbrev pub AllAreHeads : KeyBytes → (ℕ → Option KeyHeads) → Type 0
 AllAreHeads bytes all_heads = (s : ℕ) → IfSome (all_heads s) (AreHeads bytes)
 
@@ -52,15 +52,15 @@ pub record IsBelowInOrder (text target : List ℕ) (is_below : Bool) : Type 0 wh
   pub before : IsBefore text target → is_below ≡ true
   pub behind : IsBefore target text → is_below ≡ false
 
--- The two begin alike as far as so many bytes, or to the end of the first one.
+-- The two agree on the first n bytes, or up to the end of the first one.
 abbrev pub HaveCommonPrefix : ℕ → List ℕ → List ℕ → Type 0
 HaveCommonPrefix common_prefix_len text target = (count : ℕ) → count ≤ length text → count ≤ common_prefix_len → take count text ≡ take count target
 
--- They begin alike just as far.
+-- Their common prefix has just this length.
 abbrev pub IsCommonPrefixLen : ℕ → List ℕ → List ℕ → Type 0
 IsCommonPrefixLen common_prefix_len text target = (count : ℕ) → count ≤ length text → (count ≤ common_prefix_len) ↔ (take count text ≡ take count target)
 
--- What is known of a key: how far it and the target begin alike, or that it isn't below the bound.
+-- What is known of a key: the length of its common prefix with the target, or that it isn't below the bound.
 abbrev pub IsCommonPrefix : KeyBytes → (ℕ → Bool) → List ℕ → Option ℕ → ℕ → Type 0
 IsCommonPrefix bytes is_below target known key =
     MatchOption known (is_below key ≡ false)

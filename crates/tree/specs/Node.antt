@@ -22,12 +22,12 @@ node_heads node = node.heads
 abbrev pub key_heads_of : {N : ℕ} → Node N → KeyHeads
 key_heads_of node = record { keys = keys_of (entries_of node); prefix_len = node.prefix_len; heads = take node.len (node_heads node) }
 
--- A changed node, or a part of it, has these heads, behind as many bytes as before.
+-- A changed node, or a part of it, has these heads, after as many bytes as before.
 pub record HasHeads {N : ℕ} (old new : Node N) (heads : List ℕ) : Type 0 where
   pub prefix_len : (key_heads_of new).prefix_len ≡ (key_heads_of old).prefix_len
   pub heads_are : (key_heads_of new).heads ≡ heads
 
--- Two neighbours have the heads that both had, in turn, behind as many bytes as before. The left one has as many as entries.
+-- Two neighbours have the heads that both had, in turn, after as many bytes as before. The left one has as many as entries.
 pub record ShareHeads {N : ℕ} (old_left old_right left right : Node N) : Type 0 where
   pub prefix_len : (key_heads_of left).prefix_len ≡ (key_heads_of old_left).prefix_len
   pub right_prefix_len : (key_heads_of right).prefix_len ≡ (key_heads_of old_right).prefix_len

@@ -9,7 +9,7 @@ use Rattle.tree.specs.Item.{Item}
 use Rattle.tree.specs.Path.{IsPartitioned, items_below, behind, between, first_key}
 use Rattle.tree.specs.Tree.{Items, IsLast, ended_by, tree_heads}
 
--- Items once written over: the first of the new ones comes in place of those from one bound to another. A second one has the
+-- Items once written over: the first of the new ones replaces those from one bound to another. A second one has the
 -- version given, or that of the last item before the other bound, unless the run is ended already.
 abbrev pub IsOverwritten : (ℕ → Bool) → (ℕ → Bool) → Item → ℕ → Option ℤ → Bool → List Item → List Item → Type 0
 IsOverwritten from to first second given ended was now =
@@ -17,7 +17,7 @@ IsOverwritten from to first second given ended was now =
     → now ≡ items_below from was
     ++ (first ∷ ended_by ended (record { key = second; version = unwrap_or given last.version }) ++ behind to was)
 
--- how many items come in place of the run
+-- how many items replace the run
 abbrev pub put_of : Written → ℕ
 put_of (Partly last) = 0
 put_of (Whole true) = 1

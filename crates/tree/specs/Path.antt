@@ -61,7 +61,7 @@ module _ {N : ℕ} where
       flat_map (λ e. items_in nodes height e.child) (take (index_in is_below entries) entries)
       ++ before_leaf nodes height (child_in is_below entries) is_below
 
-  -- the items behind the leaf's
+  -- the items after the leaf's
   abbrev pub behind_leaf : Arena (Node N) → ℕ → ℕ → (ℕ → Bool) → List Item
   behind_leaf nodes zero slot is_below = []
   behind_leaf nodes (suc height) slot is_below =

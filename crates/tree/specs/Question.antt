@@ -24,8 +24,8 @@ pub record IsAsked {N : ℕ} (nodes : Arena (Node N)) (least height slot : ℕ) 
 abbrev pub Exceeds : (ℕ → Bool) → (ℕ → Bool) → ℤ → List Item → Type 0
 Exceeds p q v items = Any (λ x. v <ℤ x.version) (from_last p (Some q) items)
 
--- What is told of some items, if anything is: whether they exceed a version. That holds whatever stands before them, and behind them.
--- Where `clear` holds, what stands behind them doesn't come before the second bound.
+-- The answer for some items, if there is one: whether they exceed a version. It holds whatever items come before and after them.
+-- If `clear` holds, no later item comes before the second bound.
 abbrev pub IsTold : (ℕ → Bool) → (ℕ → Bool) → ℤ → Bool → List Item → Option Bool → Type 0
 IsTold p q v clear items result =
     (before after : List Item) → (IsTrue clear → All (λ x. q x.key ≡ false) after)
@@ -38,7 +38,7 @@ pub record IsNear {N : ℕ} (nodes : Arena (Node N)) (bytes : KeyBytes) (p : ℕ
   pub some : 1 ≤ length (entries_at nodes near.leaf)
   pub known : IsCommonPrefixAt bytes p target (Some near.common_prefix_len) (entries_at nodes near.leaf) 0
 
--- A leaf of a subtree, whose items are partitioned twice. What is told of them is told of the subtree's.
+-- A leaf of a subtree, whose items are partitioned twice. The answer for them is the answer for the subtree's.
 pub record IsFor {N : ℕ} (nodes : Arena (Node N)) (height slot : ℕ) (bytes : KeyBytes) (p q : ℕ → Bool) (target : List ℕ)
     (v : ℤ) (clear : Bool) (near : Near) : Type 0 where
   pub near_is : IsNear nodes bytes p target near

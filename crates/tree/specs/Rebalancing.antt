@@ -13,7 +13,7 @@ use Rattle.tree.specs.Subtree.{entries_at, slots_in, IsSubtree}
 use Rattle.tree.specs.Tree.{least_of}
 
 module _ {N : ℕ} where
-  -- The node at a slot, which is too full for entries in place of those from one index up to another, and so is split. It may be
+  -- The node at a slot, which is too full for the entries that replace those from one index up to another, and so is split. It may be
   -- known that their keys begin as all others do, with their heads.
   pub record CanSplit (bytes : KeyBytes) (nodes : Arena (Node N)) (slot from to : ℕ) (new : List Entry) (heads : List ℕ)
       (have_prefix : Bool) : Type 0 where
@@ -68,12 +68,12 @@ module _ {N : ℕ} where
     pub family : (height : ℕ) × IsFamilyAt nodes (least_of N) height slot index (index + 1)
     pub headed : AllAreHeads bytes (all_heads_of nodes)
 
-  -- likewise where that child has enough entries
+  -- the same if that child has enough entries
   pub record CanRaise (bytes : KeyBytes) (nodes : Arena (Node N)) (slot index : ℕ) : Type 0 where
     pub rebalance : CanRebalance bytes nodes slot index
     pub filled : least_of N ≤ length (entries_at nodes (child_at (entries_at nodes slot) index))
 
-  -- the node at a slot, of which the child at an index and the one behind it are merged, or share their entries evenly
+  -- the node at a slot, of which the child at an index and the next one are merged, or share their entries evenly
   pub record CanMerge (bytes : KeyBytes) (nodes : Arena (Node N)) (slot index : ℕ) : Type 0 where
     pub fan_out : 4 ≤ N
     pub live : IsLive nodes slot

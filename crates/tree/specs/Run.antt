@@ -16,7 +16,7 @@ use Rattle.tree.specs.Subtree.{entries_at, items_in}
 use Rattle.tree.specs.Tree.{least_of}
 
 module _ {N : ℕ} where
-  -- Where the run from one bound to another stands among the entries of a leaf, and the heads of their targets.
+  -- The position of the run from one bound to another among the entries of a leaf, and the heads of their targets.
   pub record IsRun (from_bytes to_bytes : KeyBytes) (from to : ℕ → Bool) (from_target to_target : List ℕ) (leaf : Node N) (run : Run)
       : Type 0 where
     pub begin : IsLowerBound from leaf run.begin
@@ -44,7 +44,7 @@ module _ {N : ℕ} where
     pub first_bound : IsPartitioned (λ e. from e.key) (entries_of leaf)
     pub second_bound : CanFind bytes to leaf
 
-  -- A run that stands between two entries of a leaf, which keeps enough entries and has room for two more. The first entry behind it
+  -- A run between two entries of a leaf, which keeps enough entries and has room for two more. The first entry after it
   -- tells whether an item has the key of the second new one. No version is given for that one, so it has that of the last entry before
   -- the second bound.
   pub record IsFoundRun (from_bytes to_bytes : KeyBytes) (from to past : ℕ → Bool) (from_target to_target : List ℕ) (given : Option ℤ)
@@ -57,7 +57,7 @@ module _ {N : ℕ} where
     pub ended : (e : Entry) → slice_get (entries_of leaf) run.end ≡ Some e → run.ended ≡ past e.key
     pub given_none : given ≡ None
 
-  -- A leaf in which the next write may go on.
+  -- A leaf in which the next write may continue.
   pub record CanWriteInLeaf (from to : ℕ → Bool) (bytes : KeyBytes) (nodes : Arena (Node N)) (slot : ℕ) (taken : List Entry) : Type 0 where
     pub fan_out : 4 ≤ N
     pub few : N ≤ 65536
@@ -70,7 +70,7 @@ module _ {N : ℕ} where
     pub second_bound : IsPartitioned (λ x. to x.key) (items_in nodes 0 slot)
     pub none_taken : taken ≡ []
 
-  -- A leaf in which a run was written over, between two of its items, where no version is given for the second new one. It still has
+  -- A leaf in which a run was written over, between two of its items, if no version is given for the second new one. It still has
   -- enough entries.
   pub record IsWrittenInLeaf (from to past : ℕ → Bool) (first : Item) (second : ℕ) (given : Option ℤ) (ended : Bool) (bytes : KeyBytes)
       (run : List Item) (old new : Arena (Node N)) (slot : ℕ) : Type 0 where

@@ -1,4 +1,4 @@
--- Entries that come in place of others of a node, and two nodes that share entries. This project's own.
+-- Entries that replace others of a node, and two nodes that share entries. This project's own.
 use Rattle.std.specs.Prelude.{◌≡◌, ◌≤◌, ◌*◌, ℕ, Bool, List, length, IsTrue}
 use Rattle.std.specs.List.{All}
 use Rattle.tree.specs.declared.entry.Entry.{Entry}
@@ -12,7 +12,7 @@ pub record AreHalfFull (most : ℕ) (first second : List Entry) : Type 0 where
   pub right : most ≤ 2 * length second
 
 module _ {N : ℕ} where
-  -- Entries that may come in place of those of a node from one index up to another. It may be said that their keys begin as all
+  -- Entries that may replace those of a node from one index up to another. It may be said that their keys begin as all
   -- others do, and that these are their heads.
   pub record CanSplice (bytes : KeyBytes) (node : Node N) (from to : ℕ) (new : List Entry) (heads : List ℕ) (have_prefix : Bool)
       : Type 0 where

@@ -22,7 +22,7 @@ module _ {N : ℕ} where
   slots_in nodes zero slot = slot ∷ []
   slots_in nodes (suc height) slot = slot ∷ flat_map (λ e. slots_in nodes height e.child) (entries_at nodes slot)
 
-  -- The node of an entry's child has at least so many entries. The entry has the first key and the greatest version of the
+  -- The node of an entry's child has at least n entries. The entry has the first key and the greatest version of the
   -- child's subtree.
   pub record IsChild (nodes : Arena (Node N)) (least height : ℕ) (IsBelow : ℕ → Type 0) (e : Entry) : Type 0 where
     pub filled : least ≤ length (entries_at nodes e.child)

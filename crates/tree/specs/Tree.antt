@@ -82,6 +82,6 @@ pub record IsTree {N : ℕ} (nodes : Arena (Node N)) (root height len room : ℕ
   pub counted : len ≡ length (items_in nodes height root)
   pub some : 1 ≤ len
   pub within : len ≤ room
-  -- Nodes for so many items, and for one change more. Other than the root, each node has so many entries that it takes the place
+  -- Nodes for n items, and for one change more. Other than the root, each node has enough entries that it takes the place
   -- of `least_of N - 1` items.
   pub reserved : room + (least_of N - 1) * way ≤ (least_of N - 1) * (map.len nodes.records + spare_of nodes 0)

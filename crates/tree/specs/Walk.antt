@@ -34,7 +34,7 @@ abbrev pub IsFoundAmong : (ℕ → Bool) → List Item → List Item → Type 0
 IsFoundAmong is_below before items = (before ≡ []) ⊎ Any (λ x. is_below x.key ≡ true) items
 
 -- Items of which those of one leaf were changed: the leaf that has the last item below the bound, or else the first one. What is
--- given of the leaf's is a relation of four: whether no item stands before them, the key of the first item behind them, what they
+-- given of the leaf's is a relation of four: whether no item comes before them, the key of the first item after them, what they
 -- were, and what they are.
 pub record IsChangedWithin (is_below : ℕ → Bool) (Gives : Bool → Option ℕ → List Item → List Item → Type 0) (is_first : Bool)
     (next : Option ℕ) (was now : List Item) : Type 0 where
@@ -118,7 +118,7 @@ module _ {N : ℕ} where
     pub some : 1 ≤ length (entries_at nodes root)
     pub room : height + 1 < spare_of nodes 0
 
-  -- A tree once it was changed, and the leaf of it that the next write may go on in, if there is one. So many nodes are live and spare
+  -- A tree after a change, and the leaf of it in which the next write may continue, if there is one. As many nodes are live and spare
   -- as before.
   pub record IsNewTree (bytes : KeyBytes) (old new : Arena (Node N)) (root height : ℕ) (raised : Option RaisedLeaf) : Type 0 where
     pub rooted : IsRooted new root height

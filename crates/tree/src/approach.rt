@@ -1,4 +1,4 @@
-//! The way of a question: down a tree to the leaf that answers it, or to a subtree that tells the answer.
+//! The way of a question: down a tree to the leaf that answers it, or to a subtree that decides the answer.
 
 ghost use Rattle.std.specs.Prelude.{◌≡◌, ◌≤◌, ◌<◌, ◌+◌, true, false, length, slice_get, Some, IsTrue};
 ghost use Rattle.tree.specs.Finding.{HasHead, IsSearched};
@@ -23,16 +23,16 @@ pub struct Near {
     pub leaf: Slot,
     /// How many bytes the first key of the leaf and the target of the first bound begin with in common.
     pub common_prefix_len: usize,
-    /// Tells that the items behind the leaf don't come before the second bound.
+    /// Says that the items after the leaf don't come before the second bound.
     pub clear: bool,
 }
 
-/// Where the way of a question leads.
+/// The end of the way of a question.
 #[derive(Clone, Copy, Debug, Default)]
 pub enum Approach {
     /// To a leaf, whose memory hasn't been read.
     Leaf(Near),
-    /// To a subtree that tells that no version is above the question's.
+    /// To a subtree which shows that no version is above the question's.
     Clear,
     /// Nowhere: the question goes down by both bounds.
     #[default]
@@ -40,7 +40,7 @@ pub enum Approach {
 }
 
 // Goes down a subtree to the leaf that answers a question. `common_prefix_len` is how many bytes the first key of the subtree and
-// the target of the first bound begin with in common. `clear` tells that the items behind the subtree don't come before the second
+// the target of the first bound begin with in common. `clear` says that the items after the subtree don't come before the second
 // bound.
 fn descend<P: Bound, Q: Bound, const N: usize>(
     nodes: &Arena<Node<N>>,
@@ -69,7 +69,7 @@ fn descend<P: Bound, Q: Bound, const N: usize>(
     let from_head = node.head_for(&question.from, common_prefix_len);
     let step = node.step_by(&question.from, common_prefix_len, from_head);
     let entry = entries[step.index];
-    // Above the lowest inner node the entry behind is looked at only where the subtree tells the answer.
+    // Above the lowest inner node the next entry is looked at only if the subtree decides the answer.
     let look = height == 1 || entry.version <= question.version;
     let clear = is_clear(
         node,
@@ -100,10 +100,10 @@ fn descend<P: Bound, Q: Bound, const N: usize>(
     )
 }
 
-// Returns whether the items behind the child at an index, that of the last entry below the first bound, don't come before the second
+// Returns whether the items after the child at an index, that of the last entry below the first bound, don't come before the second
 // bound. `common_prefix_len` is how many bytes the first key of the node and the target of the first bound begin with in common, and
-// `from_head` is the head of that target, if it is known to begin as all keys do. `clear` tells of the items behind the node's what
-// this tells of those behind the child. Unless `look` is set, the entry behind isn't looked at, and may stand before the second
+// `from_head` is the head of that target, if it is known to begin as all keys do. `clear` says of the items after the node's what
+// this says of those after the child. Unless `look` is set, the next entry isn't looked at, and may be before the second
 // bound.
 fn is_clear<P: Bound, Q: Bound, const N: usize>(
     node: &Node<N>,

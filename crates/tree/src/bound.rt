@@ -9,7 +9,7 @@ use arena::Slot;
 /// A bound in the order of keys. Items are below it, or they aren't; those below it come first.
 ///
 /// A bound knows the bytes of keys and its target, the bytes that it lies at. An item whose key comes before the target is below
-/// the bound, and one whose key comes behind it isn't.
+/// the bound, and one whose key comes after it isn't.
 pub trait Bound {
     // Whether an item of this key is below the bound.
     ghost below: { Self → ℕ → Bool };
@@ -24,12 +24,12 @@ pub trait Bound {
     fn is_below(&self, key: Slot) -> bool
         ensures is_below { result ≡ below self.now key };
 
-    /// Returns the head of the target: the next four bytes behind so many, as a number.
+    /// Returns the head of the target: the four bytes after the first n, as a number.
     fn head(&self, prefix_len: usize) -> u32
         ensures head { result ≡ head_behind prefix_len (target self.now) }
         ensures are_bytes { IsBytes (target self.now) };
 
-    /// Returns the head of a key: the next four bytes behind so many, as a number.
+    /// Returns the head of a key: the four bytes after the first n, as a number.
     fn head_of(&self, key: Slot, prefix_len: usize) -> u32
         ensures head { (text : List ℕ) → bytes self.now key ≡ Some text → result ≡ head_behind prefix_len text };
 
@@ -44,20 +44,20 @@ pub trait Bound {
         ensures within { (a b : List ℕ) → bytes self.now one ≡ Some a → bytes self.now other ≡ Some b
             → (result ≤ length a) × (result ≤ length b) };
 
-    /// Returns how many bytes a key and the target begin with in common.
+    /// Returns the length of the common prefix of the target and a key.
     fn common_prefix_len_with(&self, key: Slot) -> usize
         ensures common { (text : List ℕ) → bytes self.now key ≡ Some text → IsCommonPrefixLen result text (target self.now) };
 
-    /// Returns whether a key and the target have the same first bytes, as far as so many.
+    /// Returns whether the target and a key agree on the first n bytes.
     fn begins_as(&self, key: Slot, count: usize) -> bool
         ensures same { (text : List ℕ) → bytes self.now key ≡ Some text
             → IsTrue result ↔ (take count text ≡ take count (target self.now)) };
 
-    /// Returns how many bytes a key and the target begin with in common, or none if an item of this key isn't below the bound.
+    /// Returns the length of the common prefix of the target and a key, or none if an item of this key isn't below the bound.
     fn common_prefix_len_below(&self, key: Slot) -> Option<usize>
         ensures known { IsCommonPrefix (bytes self.now) (below self.now) (target self.now) result key };
 
-    // A key that comes before the target is below the bound, and one behind it isn't.
+    // A key that comes before the target is below the bound, and one after it isn't.
     ghost order: { (bound : Self) (key : ℕ) (text : List ℕ) → bytes bound key ≡ Some text
         → IsBelowInOrder text (target bound) (below bound key) };
 }

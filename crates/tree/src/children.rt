@@ -15,7 +15,7 @@ use crate::walk::{Outcome, RaisedLeaf};
 use arena::{Arena, Slot};
 
 /// Makes the entry at an index right in the node at a slot, whose child was split, and puts one for the child's right
-/// neighbour behind it. Returns the slot of the node's own right neighbour where it is split, too.
+/// neighbour after it. Returns the slot of the node's own right neighbour if it is split, too.
 pub fn insert_child<P: Bound, const N: usize>(
     nodes: &mut Arena<Node<N>>,
     slot: Slot,
@@ -55,7 +55,7 @@ pub fn insert_child<P: Bound, const N: usize>(
     None
 }
 
-/// Puts entries in place of those of a node from one index up to another, which is split for it. Returns the slot of its right
+/// Replaces the entries of a node from one index up to another, which splits it. Returns the slot of its right
 /// neighbour. The heads are set as by `splice_with_heads`.
 pub fn split<P: Bound, const N: usize>(
     nodes: &mut Arena<Node<N>>,

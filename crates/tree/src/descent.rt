@@ -14,13 +14,13 @@ use crate::entry::key_at;
 use crate::node::Node;
 use arena::{Arena, Slot};
 
-/// Where a search has come to.
+/// The position of a search.
 #[derive(Clone, Copy, Debug)]
 pub struct Reached {
     pub leaf: Slot,
     /// How many bytes the first key of the leaf and the target begin with in common, or none if that key isn't below the bound.
     pub common_prefix_len: Option<usize>,
-    /// The key of the first item behind the leaf.
+    /// The key of the first item after the leaf.
     pub behind: Option<Slot>,
 }
 
@@ -41,7 +41,7 @@ pub fn common_prefix_len_at<P: Bound, const N: usize>(
 
 /// Finds the leaf that has the last item below the bound, or else the first leaf. `common_prefix_len` is how many bytes the first
 /// key of the subtree and the target begin with in common, or none if that key isn't below the bound. `behind` is the key of the
-/// first item behind the subtree.
+/// first item after the subtree.
 pub fn find<P: Bound, const N: usize>(
     nodes: &Arena<Node<N>>,
     slot: Slot,

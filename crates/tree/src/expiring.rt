@@ -1,4 +1,4 @@
-//! The removal of expired items: those that tell nothing any more.
+//! The removal of expired items, which say nothing any more.
 
 ghost use Rattle.std.specs.Prelude.{◌≡◌, ◌≢◌, ◌-◌, ◌≤◌, ◌<◌, ◌++◌, ◌↔◌, [], take, drop, length, map, IsTrue};
 ghost use Rattle.tree.specs.Item.{item_of, version_of};
@@ -87,8 +87,8 @@ impl<'a, P: Bound, const N: usize> LeafChange<N> for Expiring<'a, P> {
     ghost part = { λ t before items behind wanted. wanted };
 }
 
-// Looks at the entries of a leaf from one index up to another, and returns what a removal tells of them. `behind` is the key of the
-// item behind the leaf.
+// Looks at the entries of a leaf from one index up to another, and returns the result of a removal. `behind` is the key of the
+// item after the leaf.
 fn look_at(entries: &[Entry], from: usize, to: usize, behind: Option<Slot>) -> Removal
     requires some { from < to }
     requires within { to ≤ length entries.now }

@@ -15,7 +15,7 @@ use crate::node::Node;
 use arena::{Arena, Slot};
 
 /// Returns the greatest of a version, which may be missing, and those of the items before the second bound, of those before the first
-/// one the last alone. Where the first bound is missing, no item is before it; where the second one is, all are. Subtrees that have
+/// one the last alone. If the first bound is missing, no item is before it; if the second one is, all are. Subtrees that have
 /// none above it are passed over.
 pub fn greatest<'a, P: Bound, Q: Bound, const N: usize>(
     nodes: &Arena<Node<N>>,

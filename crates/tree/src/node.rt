@@ -21,7 +21,7 @@ pub struct Node<const N: usize> {
     len: usize,
     // How many bytes all keys but an empty one begin with in common, or fewer.
     prefix_len: u16,
-    // The head of each key, behind these. Behind the heads of the keys stands the greatest number, so that a search need not look
+    // The head of each key, after these bytes. The greatest number follows the heads of the keys, so that a search need not look
     // at the length.
     heads: [u32; N],
     entries: [Entry; N],
@@ -107,8 +107,8 @@ impl<const N: usize> Node<N> {
         self.move_tail(to, from);
     }
 
-    // Moves the entries from an index on, with their heads, so that the first of them stands at another index. The node ends
-    // behind the last one.
+    // Moves the entries from an index on, with their heads, so that the first of them is at another index. The node ends
+    // after the last one.
     fn move_tail(&mut self, from: usize, to: usize)
         requires within { from ≤ length (entries_of self.old) }
         requires room { to + (length (entries_of self.old) - from) ≤ N }
@@ -119,7 +119,7 @@ impl<const N: usize> Node<N> {
         ensures heads { take self.new.len self.new.heads ≡ take self.new.len (copy_within self.old.heads from self.old.len to) }
     {
         let end = self.len;
-        // What stands behind the last entry is moved along, so that the loops have whole turns.
+        // The slots after the last entry are moved too, so that the loops have full turns.
         let moved = whole_turns(end - from, N - from.max(to));
         move_within(&mut self.entries, from, from + moved, to);
         move_within(&mut self.heads, from, from + moved, to);
@@ -130,7 +130,7 @@ impl<const N: usize> Node<N> {
         }
     }
 
-    /// Puts these entries, with their heads, in place of those from one index up to another.
+    /// Replaces the entries from one index up to another by these, with their heads.
     pub fn splice(&mut self, from: usize, to: usize, new: &[Entry], heads: &[u32])
         requires ordered { from ≤ to }
         requires within { to ≤ length (entries_of self.old) }
@@ -148,7 +148,7 @@ impl<const N: usize> Node<N> {
         copy_few(heads, &mut own[from..end]);
     }
 
-    // Puts entries of another node, with their heads, behind these.
+    // Appends entries of another node, with their heads.
     fn append(&mut self, more: &[Entry], heads: &[u32])
         requires same_len { length heads.now ≡ length more.now }
         requires room { length (entries_of self.old) + length more.now ≤ N }

@@ -24,7 +24,7 @@ pub enum Written {
 }
 
 impl Written {
-    /// Returns how many items come in place of the run.
+    /// Returns how many items replace the run.
     pub fn put(self) -> usize
         ensures put { result ≡ put_of self }
     {
@@ -45,9 +45,9 @@ pub struct Overwrite<'a, P: Bound, Q: Bound, R: Bound> {
     pub past: &'a R,
     /// How many bytes the targets of the first two bounds begin with in common, or fewer.
     pub targets_prefix_len: usize,
-    /// The entry that comes in place of the run.
+    /// The entry that replaces the run.
     pub first: Entry,
-    /// The key of the entry behind it.
+    /// The key of the entry after it.
     pub second: Slot,
     /// The version of that entry. If it is missing, that of the last item before the second bound is taken.
     pub last: Option<i64>,
@@ -86,7 +86,7 @@ impl<'a, 'b, P: Bound, Q: Bound, R: Bound, const N: usize> LeafChange<N>
         self.new.to
     }
 
-    // The next write may come to any leaf behind this one.
+    // The next write may come to any later leaf.
     fn goes_along(&self) -> bool {
         false
     }

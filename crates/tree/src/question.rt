@@ -17,7 +17,7 @@ pub struct Question<P: Bound, Q: Bound> {
     pub to: Q,
     /// How many bytes the targets of the two bounds begin with in common, or fewer.
     pub targets_prefix_len: usize,
-    /// Tells that each item below the second bound is below the first one, too, so that the last of these alone tells the answer.
+    /// Says that each item below the second bound is below the first one, too, so that the last of these alone decides the answer.
     /// It may be false although it is so.
     pub is_single: bool,
     pub version: i64,

@@ -21,7 +21,7 @@ use crate::root::Root;
 use arena::Arena;
 use arrayvec::ArrayVec;
 
-/// Where a question leads, and what the first look at the leaf gives.
+/// The end of a question's way, and the result of the first look at the leaf.
 #[derive(Clone, Copy, Debug, Default)]
 pub struct Look {
     pub approach: Approach,
@@ -49,7 +49,7 @@ fn look_at<P: Bound, const N: usize>(nodes: &Arena<Node<N>>, approach: &Approach
     }
 }
 
-// Answers a question if the leaf tells the answer. `from_head` is what the first look at the leaf gave.
+// Answers a question if the leaf decides it. `from_head` is the result of the first look at the leaf.
 fn leaf_told<P: Bound, Q: Bound, const N: usize>(
     nodes: &Arena<Node<N>>,
     near: Near,

@@ -1,4 +1,4 @@
-//! Neighbours that are merged, or share their entries evenly, where one of them has too few.
+//! Neighbours that are merged, or share their entries evenly, if one of them has too few.
 
 ghost use Rattle.std.specs.Prelude.{◌≡◌, ◌≤◌, ◌<◌, ◌+◌, ◌++◌, ◌∷◌, ℕ, [], length};
 ghost use Rattle.arena.specs.Arena.{IsLive};
@@ -39,7 +39,7 @@ pub fn entry_for<const N: usize>(nodes: &Arena<Node<N>>, child: Slot) -> Entry
     }
 }
 
-/// Merges the children at an index and behind it of the node at a slot, or shares their entries evenly where there are too many
+/// Merges the child at an index of the node at a slot and the next child, or shares their entries evenly if there are too many
 /// for one node.
 pub fn merge_or_redistribute<P: Bound, const N: usize>(
     nodes: &mut Arena<Node<N>>,
@@ -86,7 +86,7 @@ fn merge<P: Bound, const N: usize>(nodes: &mut Arena<Node<N>>, first: Slot, seco
     nodes.release(second);
 }
 
-// Moves entries between two nodes so that they have as many, but for one.
+// Moves entries between two nodes so that their numbers differ by at most one.
 fn redistribute<P: Bound, const N: usize>(
     nodes: &mut Arena<Node<N>>,
     first: Slot,

@@ -1,5 +1,5 @@
 //! A write into the leaf of the write before it: the writes of a batch come in the order of their keys, those of one leaf one after the
-//! other, so that one walk leads to it, and those that go on there need no other.
+//! other, so that one walk leads to it, and those that continue there need no other.
 
 ghost use Rattle.std.specs.Prelude.{◌≡◌, MatchOption, IfSome, map};
 ghost use Rattle.tree.specs.Item.{item_of};
@@ -16,7 +16,7 @@ use arena::Arena;
 use arrayvec::ArrayVec;
 
 /// Writes over a run in the leaf of the write before, which had the same version, so that no entry above has to be changed. Returns
-/// whether an item had the key of the second new one. Where the run isn't sure to stand there, or the leaf would get too many entries
+/// whether an item had the key of the second new one. If the run isn't sure to be there, or the leaf would get too many entries
 /// or too few, it changes nothing, and returns none.
 pub fn write_in_leaf<P: Bound, Q: Bound, R: Bound, const N: usize>(
     nodes: &mut Arena<Node<N>>,

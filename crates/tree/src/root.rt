@@ -26,7 +26,7 @@ use crate::way::Way;
 use arena::{Arena, Slot};
 use arrayvec::ArrayVec;
 
-/// Where a tree begins.
+/// The root of a tree.
 #[derive(Clone, Copy, Debug)]
 pub struct Root {
     pub slot: Slot,
@@ -72,7 +72,7 @@ pub fn last_and_next<P: Bound, const N: usize>(
 }
 
 /// Changes a leaf of a tree, and puts the entries that are taken out into `taken`. A root that is split gets one above
-/// it, and one with a single child gives its place to the child. Returns the leaf if the next write may go on there.
+/// it, and one with a single child gives its place to the child. Returns the leaf if the next write may continue there.
 pub fn change<C: LeafChange<N>, const N: usize>(
     nodes: &mut Arena<Node<N>>,
     root: &mut Root,
@@ -106,7 +106,7 @@ pub fn change<C: LeafChange<N>, const N: usize>(
     }
 }
 
-/// Writes over a run of a tree, and puts the entries that are taken out into `taken`: in the leaf of the last write, if it goes on
+/// Writes over a run of a tree, and puts the removed entries into `taken`: in the leaf of the last write, if it continues
 /// there, or else by a walk. `raised` is that leaf, if there is one.
 pub fn overwrite<P: Bound, Q: Bound, R: Bound, const N: usize>(
     nodes: &mut Arena<Node<N>>,

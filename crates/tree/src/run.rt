@@ -17,7 +17,7 @@ use crate::tree::item;
 use arena::{Arena, Slot};
 use arrayvec::ArrayVec;
 
-/// Where a run stands among the entries of a leaf.
+/// The position of a run among the entries of a leaf.
 #[derive(Clone, Copy, Debug)]
 pub struct Run {
     /// How many entries are below the first bound.
@@ -42,7 +42,7 @@ pub fn put_taken<const N: usize>(taken: &mut ArrayVec<Entry, N>, run: &[Entry])
     }
 }
 
-/// Puts the new entries in place of the run. `last` is the version of the last entry before the second bound. Returns the slot of the
+/// Replaces the run by the new entries. `last` is the version of the last entry before the second bound. Returns the slot of the
 /// leaf's right neighbour where there is no room for all, so that it is split.
 #[inline(always)]
 pub fn write_run<P: Bound, Q: Bound, R: Bound, const N: usize>(

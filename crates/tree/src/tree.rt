@@ -42,7 +42,7 @@ pub struct Tree<const N: usize> {
     // for how many items nodes are reserved
     room: usize,
     way: Way,
-    // the leaf of the last write, if the next one may go on there
+    // the leaf of the last write, if the next one may continue there
     raised: Option<RaisedLeaf>,
 }
 
@@ -98,7 +98,7 @@ impl<const N: usize> Tree<N> {
         })
     }
 
-    /// Takes the memory for so many items, those that the tree has among them. None is given back.
+    /// Takes the memory for `count` items, those of the tree included. None is given back.
     pub fn reserve(&mut self, room: usize) -> Result<(), ArenaError>
         ensures room { OnOk result (room ≤ self.new.room) }
         ensures room_stays { self.old.room ≤ self.new.room }
@@ -171,8 +171,8 @@ impl<const N: usize> Tree<N> {
         greatest(&self.nodes, slot, height, Some(from), Some(to), None).unwrap()
     }
 
-    /// Puts an item in place of those from one bound to another. Puts a second one behind it, with the version of the last item
-    /// before the other bound where none is given, unless an item stands between that bound and a third one. Where more than one
+    /// Replaces the items from one bound to another by an item. Adds a second one after it, with the version of the last item
+    /// before the other bound if none is given, unless an item is between that bound and a third one. If more than one
     /// leaf has those items and the one before them, it only takes out those that the last of these leaves has. Puts the entries
     /// that are taken out into `taken`.
     pub fn overwrite<P: Bound, Q: Bound, R: Bound>(

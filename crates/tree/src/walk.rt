@@ -19,7 +19,7 @@ use arrayvec::ArrayVec;
 pub struct Place {
     /// How many bytes its first key and the target begin with in common, or none if that key isn't below the bound.
     pub common_prefix_len: Option<usize>,
-    /// The key of the first item behind it.
+    /// The key of the first item after it.
     pub behind: Option<Slot>,
     /// Whether no item stands before it.
     pub is_first: bool,
@@ -30,7 +30,7 @@ pub struct Place {
 pub struct RaisedLeaf {
     pub slot: Slot,
     pub version: i64,
-    /// Where the item came in. Other items may have moved there since.
+    /// The index at which the item came in. Other items may have moved there since.
     pub index: usize,
 }
 
@@ -62,7 +62,7 @@ impl Outcome {
 
 /// A change of one leaf: the one that has the last item below a bound, or else the first leaf.
 pub trait LeafChange<const N: usize> {
-    /// By what the leaf is found.
+    /// The bound by which the leaf is found.
     type LeafBound: Bound;
 
     // the bound by which the leaf is found
@@ -72,14 +72,14 @@ pub trait LeafChange<const N: usize> {
     ghost wants: { Self → List Item → Type 0 };
 
     // What the change makes of them: itself before and after, the items that it takes out, whether no item stands before the
-    // leaf's, the key of the first item behind them, what they were, and what they are.
+    // leaf's, the key of the first item after them, the items before, and the items now.
     ghost gives: { Self → Self → List Item → Bool → Option ℕ → List Item → List Item → Type 0 };
 
     /// Returns the bound by which the leaf is found.
     fn leaf_bound(&self) -> &Self::LeafBound
         ensures leaf_bound { result.now ≡ bound_of self.now };
 
-    /// Returns whether the next change is likely to come to the leaf behind this one, so that its memory is read ahead.
+    /// Returns whether the next change is likely to come to the next leaf, so that its memory is read ahead.
     fn goes_along(&self) -> bool;
 
     /// Changes the leaf where it lies, and puts the entries that it takes out into `taken`.

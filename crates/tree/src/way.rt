@@ -17,7 +17,7 @@ const HEIGHTS: usize = 64;
 #[derive(Clone, Copy, Debug)]
 pub struct Way {
     indices: [usize; HEIGHTS],
-    // What was read ahead of leaves. It says nothing, and is kept so that the reading isn't left out.
+    // What was read ahead of leaves. It says nothing, and is kept so that the compiler doesn't omit the read.
     read: usize,
 }
 

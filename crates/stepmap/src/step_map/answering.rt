@@ -56,7 +56,7 @@ impl StepMap {
         Ok(places)
     }
 
-    // Marks the next queries likewise, at least one and up to `SIDE`, as far as there is room for their places, and adds the places.
+    // Marks the next queries the same way, at least one and up to `SIDE`, as far as there is room for their places, and adds the places.
     fn mark_next<L: QueryList>(
         &self,
         queries: &L,
@@ -111,7 +111,7 @@ impl StepMap {
     }
 
     // Returns whether the query at the index is to be looked up: its range isn't empty, and this bound of it leaves it open. The bound
-    // tells only of single keys, and only from the edge on.
+    // has bounds of single keys only, and only from the edge on.
     fn is_open<L: QueryList>(&self, queries: &L, index: usize, bound: i64) -> bool
         requires bound { IsSomeAnd (slice_get (L.queries queries.now) index) (λ q. IsBound self.now q.0 bound) }
         ensures filled { IsTrue result → IsSomeAnd (slice_get (L.queries queries.now) index) (λ q. ¬ IsEmpty q.0) }

@@ -1,4 +1,4 @@
-//! The room for writes: a whole round is swept where there is none, and memory is taken.
+//! The room for writes: a complete round is swept if there is none, and memory is taken.
 
 ghost use Rattle.std.specs.Prelude.{◌≡◌, ℕ, ◌+◌, ◌*◌, ◌<◌, ◌≤◌, nat_le, List, [], length, OnOk, OnErr};
 ghost use Rattle.arena.specs.Arena.{HasRoomFor as HasSlotsFor};
@@ -19,7 +19,7 @@ use std::collections::VecDeque;
 const EARLY_CELLS: usize = 65_536;
 
 impl StepMap {
-    // Returns whether the boundaries, and two for each of so many ranges, are within the limit.
+    // Returns whether the boundaries, and two for each of `count` ranges, are within the limit.
     fn has_room_for(&self, ranges: usize) -> bool
         ensures room { result ≡ nat_le (length self.now.boundaries + 2 * ranges) self.now.limit }
         ensures steps { AreSteps self.now }
@@ -27,7 +27,7 @@ impl StepMap {
         ranges <= (self.limit - self.boundaries.len()) / 2
     }
 
-    // Returns whether there is room for so many ranges. Where there is none it sweeps a whole round first.
+    // Returns whether there is room for `count` ranges. If there is none, it sweeps a complete round first.
     pub(super) fn make_room(&mut self, ranges: usize) -> bool
         ensures map { self.new ≡ made_room ranges self.old }
         ensures room { result ≡ nat_le (length self.new.boundaries + 2 * ranges) self.new.limit }
@@ -40,7 +40,7 @@ impl StepMap {
         self.has_room_for(ranges)
     }
 
-    // Sweeps a whole round from the front, wherever the cursor is; the next sweep begins at the front.
+    // Sweeps a complete round from the front, wherever the cursor is; the next sweep begins at the front.
     fn sweep_round(&mut self)
         ensures map { self.new ≡ after_round self.old }
     {
@@ -57,7 +57,7 @@ impl StepMap {
         self.cursor.clear();
     }
 
-    // Takes the memory that writing ranges with keys of these lengths needs, in place of what was taken before.
+    // Takes the memory that writing ranges with keys of these lengths needs, instead of any taken before.
     pub(super) fn reserve(&mut self, lengths: &[KeyLengths]) -> Result<(), AllocError>
         requires room { HasRoomFor (length lengths.now) self.old }
         ensures ok { OnOk result (self.new ≡ record self.old { ready = lengths.now }) }
@@ -97,7 +97,7 @@ fn take_memory(
     boundaries.reserve(lengths)
 }
 
-// Returns how many cells the filter is to have for so many boundaries, at least: one for three of them, and one for each where these
+// Returns the least number of cells that the filter should have for n boundaries: one for three of them, and one for each where these
 // are few. A single key that is written makes two boundaries.
 fn cells_for(boundaries: usize) -> usize {
     (boundaries / 3).max(boundaries.min(EARLY_CELLS))

@@ -1,4 +1,4 @@
-//! The heads of a node's keys, behind the prefix that all of them have in common: how they are computed and kept.
+//! The heads of a node's keys, after the prefix that all of them have in common: how they are computed and kept.
 
 ghost use Rattle.std.specs.Prelude.{◌≡◌, ◌≢◌, ◌<◌, ◌≤◌, ◌+◌, ◌-◌, ◌*◌, ◌++◌, ℕ, List, [], length, take, drop, slice_index, slice_set, Some, IfSome, IsTrue};
 ghost use Rattle.std.specs.Int.{w32, to_be_bytes};
@@ -13,13 +13,13 @@ use crate::entry::Entry;
 use arena::Slot;
 use keys::same_bytes;
 
-// Where the first and the last head begin with so many bytes in common, heads behind more bytes tell more.
+// If the first and the last head have this many bytes in common, heads after a longer prefix say more.
 const NARROW: usize = 2;
 
-// Where one key is empty, fewer bytes than this with which the others begin in common don't count.
+// If one key is empty, a common prefix of the others shorter than this doesn't count.
 const FEW: u16 = 2;
 
-// Of as many or more, so many don't count then: a target may differ from the other keys there.
+// Of a longer one, this many bytes don't count then: a target may differ from the other keys there.
 const UNSURE: u16 = 1;
 
 impl<const N: usize> Node<N> {
@@ -43,7 +43,7 @@ impl<const N: usize> Node<N> {
         }
     }
 
-    // Returns how many bytes all keys but an empty one begin with in common, but no more than fit. Where the first key is
+    // Returns the length of the common prefix of all keys except an empty one, but no more than fits. If the first key is
     // empty it is one byte less, or 0.
     fn beginning<P: Bound>(&self, bound: &P) -> u16
         requires known { All (IsKnown (P.bytes bound.now)) (keys_of (entries_of self.now)) }
@@ -83,7 +83,7 @@ impl<const N: usize> Node<N> {
         self.heads[index] = bound.head_of(entry.key, self.prefix_len());
     }
 
-    /// Puts these entries in place of those from one index up to another. `have_prefix` tells that their keys begin as all others do, and
+    /// Replaces the entries from one index up to another by these. `have_prefix` says that their keys begin as all others do, and
     /// that these are their heads. Else all heads are computed anew.
     pub fn splice_with_heads<P: Bound>(
         &mut self,
@@ -105,7 +105,7 @@ impl<const N: usize> Node<N> {
         }
     }
 
-    /// Puts these entries in place of those from one index up to another, where there is no room for all. The entries of the second
+    /// Replaces the entries from one index up to another by these, if there is no room for all. The entries of the second
     /// half are returned. The heads are set as by `splice_with_heads`.
     pub fn splice_apart<P: Bound>(
         &mut self,
@@ -142,7 +142,7 @@ impl<const N: usize> Node<N> {
         right
     }
 
-    /// Puts the entries of another node before the one at an index, with their heads where all keys begin alike, or else all heads
+    /// Puts the entries of another node before the one at an index, with their heads if all keys have the prefix, or else all heads
     /// are computed anew.
     pub fn insert_with_heads<P: Bound>(&mut self, index: usize, other: &Node<N>, bound: &P)
         requires within { index ≤ length (entries_of self.old) }
@@ -180,7 +180,7 @@ impl<const N: usize> Node<N> {
         taken
     }
 
-    /// Computes the heads anew where heads behind more bytes tell more.
+    /// Computes the heads anew if heads after a longer prefix say more.
     pub fn lengthen_prefix<P: Bound>(&mut self, bound: &P)
         requires headed { AreHeads (P.bytes bound.now) (key_heads_of self.old) }
         ensures entries { entries_of self.new ≡ entries_of self.old }
@@ -207,7 +207,7 @@ impl<const N: usize> Node<N> {
         None
     }
 
-    // Returns whether a key begins as all keys do. Where there is no key it doesn't.
+    // Returns whether a key begins as all keys do; false if there is no key.
     fn begins<P: Bound>(&self, key: Slot, bound: &P) -> bool
         requires headed { AreHeads (P.bytes bound.now) (key_heads_of self.now) }
         ensures has_prefix { IsTrue result → (text : List ℕ) → P.bytes bound.now key ≡ Some text
@@ -219,7 +219,7 @@ impl<const N: usize> Node<N> {
         }
     }
 
-    // Returns whether the first and the last head begin with so many bytes in common that heads behind more bytes tell more.
+    // Returns whether the first and the last head have enough bytes in common that heads after a longer prefix say more.
     fn is_narrow(&self) -> bool {
         match (self.heads.first(), self.heads[..self.len].last()) {
             (Some(first), Some(last)) => same_head_bytes(*first, *last) >= NARROW,

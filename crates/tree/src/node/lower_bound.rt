@@ -74,7 +74,7 @@ impl<const N: usize> Node<N> {
         self.len()
     }
 
-    /// Returns the head of the target behind the bytes that all keys begin with, if it begins with them, too. The first key and the
+    /// Returns the head of the target after the prefix of all keys, if it has that prefix, too. The first key and the
     /// target begin with `common_prefix_len` bytes in common, at least, unless that key is empty.
     #[inline(always)]
     pub fn head_for<P: Bound>(&self, bound: &P, common_prefix_len: usize) -> Option<u32>
@@ -95,7 +95,7 @@ impl<const N: usize> Node<N> {
         Some(bound.head(self.prefix_len()))
     }
 
-    /// Returns the head as `head_for` does. `has_prefix` tells that the target begins as all keys do, and may be false although it
+    /// Returns the head as `head_for` does. `has_prefix` says that the target begins as all keys do, and may be false although it
     /// does.
     #[inline(always)]
     pub fn head_given<P: Bound>(
@@ -117,7 +117,7 @@ impl<const N: usize> Node<N> {
         self.head_for(bound, common_prefix_len)
     }
 
-    /// Returns whether the target begins as the key at an index does, as far as all keys begin alike. It may be false where that key
+    /// Returns whether the target has the common prefix, as the key at an index has it. It may be false where that key
     /// may be empty, and is where there is none.
     pub fn has_prefix_of<P: Bound>(&self, index: usize, bound: &P) -> bool
         requires headed { AreHeads (P.bytes bound.now) (key_heads_of self.now) }
@@ -151,7 +151,7 @@ impl<const N: usize> Node<N> {
         }
     }
 
-    /// Returns how many of the entries are below the bound, of which at least so many are.
+    /// Returns how many of the entries are below the bound, of which at least the first n are.
     #[inline(always)]
     pub fn lower_bound_from<P: Bound>(&self, from: usize, bound: &P, head: Option<u32>) -> usize
         requires can_find { CanFind (P.bytes bound.now) (P.below bound.now) self.now }
@@ -170,7 +170,7 @@ impl<const N: usize> Node<N> {
     }
 
     // Returns the index of the first entry, from this index on, whose head isn't below this one, and that of the
-    // first one behind it whose head is above it. So the entries that have this head stand between these two.
+    // first one after it whose head is above it. So the entries with this head are between these two.
     fn tied(&self, from: usize, head: u32) -> (usize, usize)
         requires from { from ≤ length (entries_of self.now) }
         ensures tied { AreTied self.now head from result.0 result.1 }
@@ -187,7 +187,7 @@ impl<const N: usize> Node<N> {
         (first, end)
     }
 
-    /// Returns how many of the entries are below the bound, of which at most so many are. It looks at these one by one, from the
+    /// Returns how many of the entries are below the bound, at most the first n. It looks at these one by one, from the
     /// last one on.
     #[inline(always)]
     pub fn lower_bound_back<P: Bound>(&self, to: usize, bound: &P, head: Option<u32>) -> usize
@@ -205,7 +205,7 @@ impl<const N: usize> Node<N> {
     }
 }
 
-// Returns an index behind a head that is below this one, or 0. Where the heads are in order and blocks hold all of them, it is
+// Returns an index after a head that is below this one, or 0. If the heads are in order and blocks hold all of them, it is
 // how many are below. It looks at the first head of each block, and then at one block, each time at all of them, and is written
 // without a branch that depends on a head.
 #[inline(always)]

@@ -1,4 +1,4 @@
-//! A step down from a node: to which child the search goes on, and what is known of its first key.
+//! A step down from a node: to which child the search continues, and what is known of its first key.
 
 ghost use Rattle.std.specs.Prelude.{◌≡◌, ◌<◌, ◌+◌, ◌-◌, length, get_or, slice_get, None, Some, IsTrue};
 ghost use Rattle.tree.specs.Finding.{CanStep, CanStepBy, IsHeadFor, IsStep};
@@ -10,7 +10,7 @@ use super::heads::same_head_bytes;
 use crate::bound::Bound;
 use crate::entry::Entry;
 
-/// Where a search goes on in a node.
+/// The step of a search down from a node.
 #[derive(Clone, Copy, Debug)]
 pub struct Step {
     /// The index of the last entry below the bound, or of the first one.
@@ -89,7 +89,7 @@ impl<const N: usize> Node<N> {
         }
     }
 
-    // Returns whether a head falls behind that of the entry at an index, and before the next one, if there is one.
+    // Returns whether a head is above that of the entry at an index, and below the next one, if there is one.
     fn falls_behind(&self, index: usize, head: u32) -> bool
         ensures within { IsTrue result → index < length (entries_of self.now) }
         ensures behind { IsTrue result → get_or (key_heads_of self.now).heads index 0 < head }
