@@ -1,10 +1,13 @@
 //! The arena.
 
-ghost use Rattle.std.specs.Prelude.{◌≡◌, ◌≢◌, ℕ, ◌+◌, ◌<◌, ◌≤◌, ◌==◌, ◌↔◌, length, Some, None, IsOk, IfOk, IfSome, OnOk, OnErr, IsOkUnless, Any, All, if◌then◌else◌};
+ghost use Rattle.std.specs.Prelude.{◌≡◌, ◌≢◌, ℕ, ◌+◌, ◌<◌, ◌≤◌, ◌==◌, ◌↔◌, length, Some, None};
+ghost use Rattle.std.specs.Prelude.{IsOk, IfOk, IfSome, OnOk, OnErr, IsOkUnless, Any, All};
+ghost use Rattle.std.specs.Prelude.{if◌then◌else◌};
 ghost use Rattle.std.specs.Option.{is_some};
 ghost use Rattle.std.specs.Borrow.{sem};
 ghost use Rattle.std.specs.FinMap as map;
-ghost use Rattle.arena.specs.Arena.{size_of, slots_of, wanted_of, record_at, header_at, key_at, spare_of, with_header, IsLive, HasRoomFor};
+ghost use Rattle.arena.specs.Arena.{size_of, slots_of, wanted_of, record_at, header_at, key_at};
+ghost use Rattle.arena.specs.Arena.{spare_of, with_header, IsLive, HasRoomFor};
 ghost use Rattle.arena.specs.declared.size.TheConstants.{MAX_LENGTH, SIZES};
 
 use crate::ahead::read_ahead;
@@ -17,19 +20,21 @@ use std::alloc::{Allocator, Global};
 use std::fmt;
 use std::marker::Model;
 
-/// Records of a header and key bytes, each in a slot of one of ten sizes. A released slot is given again.
+/// Records of a header and key bytes, each in a slot of one of ten sizes. A released slot is given
+/// again.
 ///
-/// The key of a slot may have as many bytes as its size tells: 32, 64, 128, and so on to 16,384. A record takes
-/// a slot of the least size that its key fits. Memory is taken in chunks of 16,384 key bytes, each cut into slots
-/// of one size, and is kept until the arena is dropped. Contracts see the records as a finite map from slots, and
-/// for each size the number of slots that are spare.
+/// The key of a slot may have as many bytes as its size tells: 32, 64, 128, and so on to 16,384. A
+/// record takes a slot of the least size that its key fits. Memory is taken in chunks of 16,384 key
+/// bytes, each cut into slots of one size, and is kept until the arena is dropped. Contracts see
+/// the records as a finite map from slots, and for each size the number of slots that are spare.
 #[derive(Drop)]
 pub struct Arena<H: Copy, A: Allocator + Copy = Global> {
     alloc: A,
     chunks: Vec<Chunk<H, A>, A>,
     spares: Spares<A>,
     live: usize,
-    // What was read ahead of spare slots. It says nothing, and is kept so that the compiler doesn't omit the read.
+    // What was read ahead of spare slots. It says nothing, and is kept so that the compiler doesn't
+    // omit the read.
     read: u16,
 }
 
@@ -42,7 +47,10 @@ impl<H: Copy, A: Allocator + Copy> Model for Arena<H, A> {
 
     ghost coded = { arena_code H.code };
 
-    ghost view = { λ a. record { records = records_of a.chunks.items; spare = counts_of a.spares } };
+    ghost view = { λ a. record {
+      records = records_of a.chunks.items;
+      spare = counts_of a.spares;
+    } };
 
     ghost invariant = { λ a. IsKept a.chunks.items a.spares a.live };
 }
@@ -64,21 +72,26 @@ impl<H: Copy, A: Allocator + Copy> Arena<H, A> {
         }
     }
 
-    /// Takes the memory that records with keys of these lengths need, and none for a size of which enough slots are
-    /// spare. No chunk is taken beyond the one that makes the slots of a size enough.
+    /// Takes the memory that records with keys of these lengths need, and none for a size of which
+    /// enough slots are spare. No chunk is taken beyond the one that makes the slots of a size
+    /// enough.
     pub fn reserve(&mut self, lengths: &[usize]) -> Result<(), ArenaError>
         ensures room { OnOk result (HasRoomFor (spare_of self.new) lengths.now) }
         ensures records { self.new.records ≡ self.old.records }
         ensures spare_stays { (size : ℕ) → spare_of self.old size ≤ spare_of self.new size }
         ensures no_more { (size : ℕ) → wanted_of lengths.now size ≤ spare_of self.old size
             → spare_of self.new size ≡ spare_of self.old size }
-        ensures most { (size : ℕ) → size < SIZES → spare_of self.old size < wanted_of lengths.now size
+        ensures most { (size : ℕ) → size < SIZES
+            → spare_of self.old size < wanted_of lengths.now size
             → spare_of self.new size < wanted_of lengths.now size + slots_of size }
 
-        // It is refused `TooLong` before any memory is taken, and `Memory` only where some is wanted.
-        ensures too_long { (result ≡ Err ArenaError.TooLong) ↔ Any (λ n. MAX_LENGTH < n) lengths.now }
+        // It is refused `TooLong` before any memory is taken, and `Memory` only where some is
+        // wanted.
+        ensures too_long { (result ≡ Err ArenaError.TooLong)
+            ↔ Any (λ n. MAX_LENGTH < n) lengths.now }
         ensures unchanged { result ≡ Err ArenaError.TooLong → self.new ≡ self.old }
-        ensures enough { All (λ n. n ≤ MAX_LENGTH) lengths.now → HasRoomFor (spare_of self.old) lengths.now → IsOk result }
+        ensures enough { All (λ n. n ≤ MAX_LENGTH) lengths.now
+            → HasRoomFor (spare_of self.old) lengths.now → IsOk result }
     {
         let wanted = count_sizes(lengths)?;
         for size in 0..SIZES {
@@ -87,14 +100,16 @@ impl<H: Copy, A: Allocator + Copy> Arena<H, A> {
         Ok(())
     }
 
-    /// Takes the memory that `count` records with keys of this length need, and none if enough slots are spare. No chunk
-    /// is taken beyond the one that makes them enough.
+    /// Takes the memory that `count` records with keys of this length need, and none if enough
+    /// slots are spare. No chunk is taken beyond the one that makes them enough.
     pub fn reserve_slots(&mut self, length: usize, count: usize) -> Result<(), ArenaError>
         requires fits { length ≤ MAX_LENGTH }
         ensures room { OnOk result (count ≤ spare_of self.new (size_of length)) }
         ensures records { self.new.records ≡ self.old.records }
-        ensures spare_stays { spare_of self.old (size_of length) ≤ spare_of self.new (size_of length) }
-        ensures other_sizes { (size : ℕ) → size ≢ size_of length → spare_of self.new size ≡ spare_of self.old size }
+        ensures spare_stays { spare_of self.old (size_of length)
+            ≤ spare_of self.new (size_of length) }
+        ensures other_sizes { (size : ℕ) → size ≢ size_of length
+            → spare_of self.new size ≡ spare_of self.old size }
         ensures no_more { count ≤ spare_of self.old (size_of length)
             → spare_of self.new (size_of length) ≡ spare_of self.old (size_of length) }
         ensures most { spare_of self.old (size_of length) < count
@@ -107,7 +122,8 @@ impl<H: Copy, A: Allocator + Copy> Arena<H, A> {
         self.fill_up(size_of(length), count)
     }
 
-    /// Adds a record, in a slot that was not live. It takes no memory where a slot of the key's size is spare.
+    /// Adds a record, in a slot that was not live. It takes no memory where a slot of the key's
+    /// size is spare.
     pub fn place(&mut self, header: H, key: &[u8]) -> Result<Slot, ArenaError>
         ensures was_free { IfOk result (λ slot. record_at self.old slot ≡ None) }
         ensures placed { IfOk result (λ slot. self.new.records
@@ -118,13 +134,16 @@ impl<H: Copy, A: Allocator + Copy> Arena<H, A> {
             → record_at self.new other ≡ record_at self.old other) }
 
         // It uses one spare slot, of a new chunk where none was spare.
-        ensures spare { OnOk result (let size = size_of (length key.now) in spare_of self.new size + 1
+        ensures spare { OnOk result (let size = size_of (length key.now) in spare_of self.new size
+            + 1
             ≡ (if spare_of self.old size == 0 then slots_of size else spare_of self.old size)) }
         ensures other_sizes { OnOk result ((size : ℕ) → size ≢ size_of (length key.now)
             → spare_of self.new size ≡ spare_of self.old size) }
 
-        // It is refused `TooLong` for a longer key alone, and `Memory` only where no slot of the size is spare.
-        ensures enough { length key.now ≤ MAX_LENGTH → 0 < spare_of self.old (size_of (length key.now))
+        // It is refused `TooLong` for a longer key alone, and `Memory` only where no slot of the
+        // size is spare.
+        ensures enough { length key.now ≤ MAX_LENGTH
+            → 0 < spare_of self.old (size_of (length key.now))
             → IsOk result }
         ensures too_long { (result ≡ Err ArenaError.TooLong) ↔ (MAX_LENGTH < length key.now) }
         ensures unchanged { OnErr result (self.new ≡ self.old) }
@@ -185,10 +204,13 @@ impl<H: Copy, A: Allocator + Copy> Arena<H, A> {
     pub fn release(&mut self, slot: Slot)
         requires live { IsLive self.old slot }
         ensures released { self.new.records ≡ map.remove self.old.records slot }
-        ensures others { (other : ℕ) → other ≢ slot → record_at self.new other ≡ record_at self.old other }
-        ensures spare { IfSome (key_at self.old slot) (λ key. spare_of self.new (size_of (length key))
+        ensures others { (other : ℕ) → other ≢ slot
+            → record_at self.new other ≡ record_at self.old other }
+        ensures spare { IfSome (key_at self.old slot)
+            (λ key. spare_of self.new (size_of (length key))
             ≡ spare_of self.old (size_of (length key)) + 1) }
-        ensures other_sizes { IfSome (key_at self.old slot) (λ key. (size : ℕ) → size ≢ size_of (length key)
+        ensures other_sizes { IfSome (key_at self.old slot) (λ key. (size : ℕ)
+            → size ≢ size_of (length key)
             → spare_of self.new size ≡ spare_of self.old size) }
     {
         let chunk = &mut self.chunks[slot.chunk()];
@@ -224,8 +246,10 @@ impl<H: Copy, A: Allocator + Copy> Arena<H, A> {
         ensures spare_stays { spare_of self.old size ≤ spare_of self.new size }
         ensures other_sizes { (s : ℕ) → s ≢ size → spare_of self.new s ≡ spare_of self.old s }
         ensures enough { wanted ≤ spare_of self.old size → IsOk result }
-        ensures no_more { wanted ≤ spare_of self.old size → spare_of self.new size ≡ spare_of self.old size }
-        ensures most { spare_of self.old size < wanted → spare_of self.new size < wanted + slots_of size }
+        ensures no_more { wanted ≤ spare_of self.old size
+            → spare_of self.new size ≡ spare_of self.old size }
+        ensures most { spare_of self.old size < wanted
+            → spare_of self.new size < wanted + slots_of size }
         ensures memory { IsOkUnless result ArenaError.Memory }
     {
         while self.spares.count(size) < wanted {
@@ -256,7 +280,8 @@ impl<H: Copy, A: Allocator + Copy> Arena<H, A> {
     fn grow(&mut self, size: usize) -> Result<(), ArenaError>
         requires size { size < SIZES }
         ensures records { self.new.records ≡ self.old.records }
-        ensures spare { OnOk result (spare_of self.new size ≡ spare_of self.old size + slots_of size) }
+        ensures spare { OnOk result (spare_of self.new size
+            ≡ spare_of self.old size + slots_of size) }
         ensures more { OnOk result (spare_of self.old size < spare_of self.new size) }
         ensures other_sizes { (s : ℕ) → s ≢ size → spare_of self.new s ≡ spare_of self.old s }
         ensures unchanged { OnErr result (self.new ≡ self.old) }

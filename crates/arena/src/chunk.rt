@@ -1,7 +1,9 @@
-//! A chunk: slots of one size, whose lengths and headers are filled in as the slots are used, and whose key bytes are
-//! filled with zeros when the first key that isn't empty is written.
+//! A chunk: slots of one size, whose lengths and headers are filled in as the slots are used, and
+//! whose key bytes are filled with zeros when the first key that isn't empty is written.
 
-ghost use Rattle.std.specs.Prelude.{◌≡◌, ℕ, ◌+◌, ◌-◌, ◌*◌, ◌<◌, ◌≤◌, length, take, drop, slice_index, slice_set, vec_capacity, Some, IsSome, IfOk, option_map};
+ghost use Rattle.std.specs.Prelude.{◌≡◌, ℕ, ◌+◌, ◌-◌, ◌*◌, ◌<◌, ◌≤◌, length, take, drop};
+ghost use Rattle.std.specs.Prelude.{slice_index, slice_set, vec_capacity, Some, IsSome, IfOk};
+ghost use Rattle.std.specs.Prelude.{option_map};
 ghost use Rattle.std.specs.Option.{is_some};
 ghost use Rattle.std.specs.Borrow.{sem};
 ghost use Rattle.arena.specs.Arena.{sizes, slots_of};
@@ -20,12 +22,13 @@ const _: () = prove!(FREE == 65_535);
 /// Slots of one size, their headers beside each other, and their key bytes beside each other.
 #[derive(Drop)]
 pub(crate) struct Chunk<H, A: Allocator> {
-    // The length of each live slot's key, or `FREE`. There is room for one for each slot. The slots after the last
-    // length are free, and their memory is not touched yet.
+    // The length of each live slot's key, or `FREE`. There is room for one for each slot. The slots
+    // after the last length are free, and their memory is not touched yet.
     lengths: Vec<u16, A>,
     // The header of each slot that has a length. That of a free slot says nothing.
     headers: Vec<H, A>,
-    // The key bytes of all slots: none as long as every key is empty, so that their memory is not touched before.
+    // The key bytes of all slots: none as long as every key is empty, so that their memory is not
+    // touched before.
     bytes: Vec<u8, A>,
     size: usize,
     width: usize,
@@ -43,7 +46,8 @@ impl<H, A: Allocator> Model for Chunk<H, A> {
       cells = cells_of (with_free (slots_of c.size) (entries_of c.lengths.items c.headers.items)) c.width c.bytes.items;
     } };
 
-    ghost invariant = { λ c. IsChunk c.lengths.items c.headers.items (vec_capacity c.lengths) (vec_capacity c.headers)
+    ghost invariant = { λ c. IsChunk c.lengths.items c.headers.items (vec_capacity c.lengths)
+        (vec_capacity c.headers)
         (vec_capacity c.bytes) c.size c.width c.bytes.items };
 }
 
@@ -66,8 +70,8 @@ fn make_bytes<A: Allocator>(bytes: &mut Vec<u8, A>)
     }
 }
 
-/// Writes the key over the bytes from an index on, and makes the bytes before where there are none. An empty key writes
-/// and makes nothing.
+/// Writes the key over the bytes from an index on, and makes the bytes before where there are none.
+/// An empty key writes and makes nothing.
 fn write_key<A: Allocator>(bytes: &mut Vec<u8, A>, from: usize, key: &[u8])
     requires room { CHUNK_BYTES ≤ vec_capacity bytes.old }
     requires within { from + length key.now ≤ length (made_bytes bytes.old.items) }
@@ -80,8 +84,8 @@ fn write_key<A: Allocator>(bytes: &mut Vec<u8, A>, from: usize, key: &[u8])
     }
 }
 
-/// Adds lengths and headers, if there are fewer, up to those at an index. Their slots are free, so that a copy of any
-/// header does.
+/// Adds lengths and headers, if there are fewer, up to those at an index. Their slots are free, so
+/// that a copy of any header does.
 fn add_free<H: Copy, A: Allocator>(
     lengths: &mut Vec<u16, A>,
     headers: &mut Vec<H, A>,
@@ -131,7 +135,8 @@ impl<H, A: Allocator> Chunk<H, A> {
     /// Returns a reference to the header of a live slot.
     pub(crate) fn header(&self, index: usize) -> &H
         requires live { IsSome (held_at self.now.cells index) }
-        ensures header { option_map (λ r. r.header) (held_at self.now.cells index) ≡ Some result.now }
+        ensures header { option_map (λ r. r.header) (held_at self.now.cells index)
+            ≡ Some result.now }
     {
         &self.headers[index]
     }
@@ -192,7 +197,8 @@ impl<H, A: Allocator> Chunk<H, A> {
     pub(crate) fn header_mut(&mut self, index: usize) -> &mut H
         requires live { IsSome (held_at self.old.cells index) }
         ensures* lends { sem 𝓛 (lends_header H.row A.row A.Allocator self.entry index result) }
-        ensures value { option_map (λ r. r.header) (held_at self.old.cells index) ≡ Some result.now }
+        ensures value { option_map (λ r. r.header) (held_at self.old.cells index)
+            ≡ Some result.now }
     {
         &mut self.headers[index]
     }

@@ -1,6 +1,7 @@
 //! The sizes of slots, and which of them a key takes.
 
-ghost use Rattle.std.specs.Prelude.{◌≡◌, ℕ, ◌*◌, ◌<◌, ◌≤◌, slice_index, All, Any, IfErr, IfOk, OnOk, OnErr};
+ghost use Rattle.std.specs.Prelude.{◌≡◌, ℕ, ◌*◌, ◌<◌, ◌≤◌, slice_index, All, Any, IfErr, IfOk};
+ghost use Rattle.std.specs.Prelude.{OnOk, OnErr};
 ghost use Rattle.arena.specs.Arena.{sizes, size_of, slots_of, wanted_of};
 ghost use Rattle.arena.specs.declared.slot.TheConstants.{CHUNK_SLOTS};
 

@@ -14,7 +14,8 @@ pub(crate) const MAX_CHUNKS: usize = 8_388_608;
 
 const _: () = prove!(MAX_CHUNKS == 8_388_608);
 
-/// The location of a record: a chunk and an index in it, in 4 bytes. The chunk knows the size of its slots.
+/// The location of a record: a chunk and an index in it, in 4 bytes. The chunk knows the size of
+/// its slots.
 ///
 /// A slot names a record of the arena that gave it, from then until its release.
 #[derive(Clone, Copy, Debug, Default, PartialEq, Eq, Hash)]

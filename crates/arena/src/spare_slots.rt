@@ -8,8 +8,8 @@ use crate::slot::Slot;
 use std::alloc::{AllocError, Allocator};
 use std::marker::Model;
 
-/// The spare slots of one size, of which the last is given first. There is room for all slots of the size, so that
-/// one that is released is added without memory.
+/// The spare slots of one size, of which the last is given first. There is room for all slots of
+/// the size, so that one that is released is added without memory.
 #[derive(Drop)]
 pub(crate) struct SpareSlots<A: Allocator> {
     slots: Vec<Slot, A>,
@@ -45,7 +45,8 @@ impl<A: Allocator> SpareSlots<A> {
         self.slots.len()
     }
 
-    /// Adds the slots of the chunk with this number, and makes room for them. The first slot of the chunk is given first.
+    /// Adds the slots of the chunk with this number, and makes room for them. The first slot of the
+    /// chunk is given first.
     pub(crate) fn add(&mut self, number: usize, count: usize) -> Result<(), AllocError>
         requires number { number < MAX_CHUNKS }
         requires count { count ≤ CHUNK_SLOTS }

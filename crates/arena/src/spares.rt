@@ -1,6 +1,7 @@
 //! The spare slots of all sizes.
 
-ghost use Rattle.std.specs.Prelude.{◌≡◌, ◌*◌, ◌<◌, ◌≤◌, length, replicate, slice_set, IfOk, OnOk, OnErr};
+ghost use Rattle.std.specs.Prelude.{◌≡◌, ◌*◌, ◌<◌, ◌≤◌, length, replicate, slice_set, IfOk, OnOk};
+ghost use Rattle.std.specs.Prelude.{OnErr};
 ghost use Rattle.arena.specs.Spares.{none, spare_at, with_chunk, with_slot};
 ghost use Rattle.arena.specs.declared.size.TheConstants.{SIZES};
 ghost use Rattle.arena.specs.declared.slot.TheConstants.{CHUNK_SLOTS, MAX_CHUNKS};
@@ -51,7 +52,8 @@ impl<A: Allocator + Copy> Spares<A> {
         }
     }
 
-    /// Adds the slots of the chunk with this number, which are of the size, and makes room for them.
+    /// Adds the slots of the chunk with this number, which are of the size, and makes room for
+    /// them.
     pub(crate) fn add(
         &mut self,
         alloc: A,
@@ -64,7 +66,8 @@ impl<A: Allocator + Copy> Spares<A> {
         requires count { count ≤ CHUNK_SLOTS }
         requires total { (spare_at self.old size).total ≤ CHUNK_SLOTS * number }
         ensures added { OnOk result (self.new
-            ≡ slice_set self.old size (with_chunk (spare_at self.old size) (number * CHUNK_SLOTS) count)) }
+            ≡ slice_set self.old size (with_chunk (spare_at self.old size) (number * CHUNK_SLOTS)
+            count)) }
         ensures unchanged { OnErr result (self.new ≡ self.old) }
     {
         if self.lists.is_empty() {
@@ -90,7 +93,8 @@ impl<A: Allocator + Copy> Spares<A> {
         requires size { size < SIZES }
         requires some { 0 < length (spare_at self.old size).slots }
         ensures count { length self.new ≡ length self.old }
-        ensures taken { self.old ≡ slice_set self.new size (with_slot (spare_at self.new size) result) }
+        ensures taken { self.old ≡ slice_set self.new size
+            (with_slot (spare_at self.new size) result) }
     {
         let list = &mut self.lists[size];
         list.take()

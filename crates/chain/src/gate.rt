@@ -1,6 +1,7 @@
 //! The batches that wait for their previous version.
 
-ghost use Rattle.std.specs.Prelude.{◌≡◌, ◌+◌, ◌<◌, ◌≤◌, ◌≤ℤ◌, ◌↔◌, [], ◌∷◌, ◌++◌, length, remove, slice_index_or, IfSome, IfNone, OnOk, OnErr, IfErr, IsErrAnd};
+ghost use Rattle.std.specs.Prelude.{◌≡◌, ◌+◌, ◌<◌, ◌≤◌, ◌≤ℤ◌, ◌↔◌, [], ◌∷◌, ◌++◌, length, remove};
+ghost use Rattle.std.specs.Prelude.{slice_index_or, IfSome, IfNone, OnOk, OnErr, IfErr, IsErrAnd};
 ghost use Rattle.std.specs.Option.{option_map};
 ghost use Rattle.keyspace.specs.Leaving.{Held, least_first, next_due};
 
@@ -15,8 +16,9 @@ pub const MAX_HELD: usize = 1_024;
 
 const _: () = prove!(MAX_HELD == 1_024);
 
-/// The batches that wait for their previous version, at most [`MAX_HELD`], each with the proxy that sent it, in order of
-/// arrival. In `Resolver.actor.cpp` of FoundationDB 7.1 such a batch waits for the resolver's version to rise.
+/// The batches that wait for their previous version, at most [`MAX_HELD`], each with the proxy that
+/// sent it, in order of arrival. In `Resolver.actor.cpp` of FoundationDB 7.1 such a batch waits for
+/// the resolver's version to rise.
 #[derive(Debug, Drop)]
 pub struct Gate {
     held: VecDeque<(usize, Batch)>,
@@ -54,13 +56,14 @@ impl Gate {
 
     /// Holds the batch as the latest arrival.
     ///
-    /// An error hands the batch back and leaves the gate as it was: `GateFull` if the gate already holds [`MAX_HELD`]
-    /// batches, `Memory` if memory is refused.
+    /// An error hands the batch back and leaves the gate as it was: `GateFull` if the gate already
+    /// holds [`MAX_HELD`] batches, `Memory` if memory is refused.
     pub fn hold(&mut self, proxy: usize, batch: Batch) -> Result<(), (ChainError, Batch)>
         ensures ok { OnOk result (self.new ≡ self.old ++ (proxy, batch) ∷ []) }
 
         // The only refusal beside this one is `Memory`.
-        ensures full { IsErrAnd result (λ e. e.0 ≡ ChainError.GateFull) ↔ (length self.old ≡ MAX_HELD) }
+        ensures full { IsErrAnd result (λ e. e.0 ≡ ChainError.GateFull)
+            ↔ (length self.old ≡ MAX_HELD) }
         ensures unchanged { OnErr result (self.new ≡ self.old) }
         ensures handed_back { IfErr result (λ e. e.1 ≡ batch) }
     {
@@ -73,9 +76,9 @@ impl Gate {
         }
     }
 
-    /// Removes and returns the batch that leaves next at this version, or returns `None` if none is due. Of the batches
-    /// whose previous version is at most `version`, the one with the least leaves first, among equals the earliest
-    /// arrival. This order is the project's own.
+    /// Removes and returns the batch that leaves next at this version, or returns `None` if none is
+    /// due. Of the batches whose previous version is at most `version`, the one with the least
+    /// leaves first, among equals the earliest arrival. This order is the project's own.
     pub fn next_for(&mut self, version: i64) -> Option<(usize, Batch)>
         ensures next { next_due version self.old ≡ option_map (λ h. (h, self.new)) result }
         ensures unchanged { IfNone result (self.new ≡ self.old) }
@@ -91,7 +94,8 @@ impl Gate {
         self.held.remove(index)
     }
 
-    /// Removes and returns the earliest arrival, whatever its previous version, or returns `None` if the gate is empty.
+    /// Removes and returns the earliest arrival, whatever its previous version, or returns `None`
+    /// if the gate is empty.
     pub fn first(&mut self) -> Option<(usize, Batch)>
         ensures first { IfSome result (λ h. self.old ≡ h ∷ self.new) }
         ensures none { IfNone result (self.old ≡ []) }
@@ -106,7 +110,8 @@ fn index_of_least(held: &VecDeque<(usize, Batch)>) -> Option<usize>
     ensures none { IfNone result (least_first held.now.items ≡ None) }
     ensures inside { IfSome result (λ i. i < length held.now.items) }
     ensures least { IfSome result (λ i. (d : Held)
-        → least_first held.now.items ≡ Some (slice_index_or held.now.items i d, remove held.now.items i)) }
+        → least_first held.now.items ≡ Some
+        (slice_index_or held.now.items i d, remove held.now.items i)) }
 {
     if held.is_empty() {
         return None;

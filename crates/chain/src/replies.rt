@@ -1,6 +1,8 @@
 //! The replies that a proxy may ask for again.
 
-ghost use Rattle.std.specs.Prelude.{◌≡◌, ℕ, ℤ, ◌&&◌, ◌==◌, not, int_le, if◌then◌else◌, option_copied, IfNone, IfSome, IsSome, IsTrue, IsOkUnless, OnErr, OnOk};
+ghost use Rattle.std.specs.Prelude.{◌≡◌, ℕ, ℤ, ◌&&◌, ◌==◌, not, int_le, if◌then◌else◌};
+ghost use Rattle.std.specs.Prelude.{option_copied, IfNone, IfSome, IsSome, IsTrue, IsOkUnless};
+ghost use Rattle.std.specs.Prelude.{OnErr, OnOk};
 ghost use Rattle.std.specs.Ordering.{int_eq};
 ghost use Rattle.std.specs.BTreeMap as tree;
 ghost use Rattle.std.specs.FinMap as map;
@@ -12,8 +14,9 @@ use std::alloc::Global;
 use std::collections::BTreeMap;
 use std::marker::Model;
 
-/// The replies that a proxy may ask for again, by proxy and version: `outstandingBatches` of each proxy in
-/// `Resolver.actor.cpp` of FoundationDB 7.1. When a reply is given up is this project's own rule.
+/// The replies that a proxy may ask for again, by proxy and version: `outstandingBatches` of each
+/// proxy in `Resolver.actor.cpp` of FoundationDB 7.1. When a reply is given up is this project's
+/// own rule.
 #[derive(Debug, Drop)]
 pub struct Replies {
     kept: BTreeMap<(usize, i64), Reply>,
@@ -45,14 +48,16 @@ impl Replies {
         }
     }
 
-    /// Keeps the reply for the proxy, under the reply's version. The proxy has no reply of that version yet.
+    /// Keeps the reply for the proxy, under the reply's version. The proxy has no reply of that
+    /// version yet.
     ///
     /// The only error is `Memory`, after which the store is as it was.
     pub fn put(&mut self, proxy: usize, reply: Reply) -> Result<(), ChainError>
         requires absent { reply_of self.old proxy reply.version ≡ None }
         ensures ok { OnOk result (self.new ≡ map.insert self.old (proxy, reply.version) reply) }
         ensures kept { OnOk result ((p : ℕ) (v : ℤ) → reply_of self.new p v
-            ≡ (if (proxy == p) && int_eq reply.version v then Some reply else reply_of self.old p v)) }
+            ≡ (if (proxy == p) && int_eq reply.version v then Some reply else reply_of self.old p
+            v)) }
         ensures memory { IsOkUnless result ChainError.Memory }
         ensures unchanged { OnErr result (self.new ≡ self.old) }
     {
@@ -62,10 +67,11 @@ impl Replies {
         }
     }
 
-    /// Removes the proxy's replies up to this version, inclusive. Takes no memory, and time in proportion to the replies
-    /// that it removes.
+    /// Removes the proxy's replies up to this version, inclusive. Takes no memory, and time in
+    /// proportion to the replies that it removes.
     pub fn forget_to(&mut self, proxy: usize, version: i64)
-        ensures forgotten { self.new ≡ map.retain_keys self.old (λ key. not (is_up_to proxy version key)) }
+        ensures forgotten { self.new ≡ map.retain_keys self.old
+            (λ key. not (is_up_to proxy version key)) }
         ensures kept { (p : ℕ) (v : ℤ) → reply_of self.new p v
             ≡ (if (proxy == p) && int_le v version then None else reply_of self.old p v) }
     {

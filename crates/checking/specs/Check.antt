@@ -26,12 +26,12 @@ abbrev pub count_at : {X : Type 0} → List (List X) → ℕ → ℕ
 count_at lists place = length (slice_index_or lists place [])
 
 -- Memory is taken for the proxy of this number: a reply to it is expected or recorded, or it is the last one, behind which the last
--- line is told.
+-- line is printed.
 abbrev pub TakesMemory : List (List Reply) → List (List Reply) → ℕ → Type 0
 TakesMemory expected recorded proxy =
     (1 ≤ count_at expected proxy) ⊎ ((1 ≤ count_at recorded proxy) ⊎ (proxy + 1 ≡ length expected))
 
--- the whole text
+-- the complete text
 abbrev pub check_text : ℕ → List (List Reply) → List (List Reply) → List ℕ
 check_text batches expected recorded =
     lines_from 0 expected recorded ++ last_line batches (count_differences expected recorded)

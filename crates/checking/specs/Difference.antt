@@ -44,7 +44,7 @@ entry_differences version index (e ∷ es) (f ∷ fs) =
     else record { version = version; kind = Transaction index e f } ∷ entry_differences version (index + 1) es fs
 entry_differences version index _ _ = []
 
--- the differences between two replies to one batch: where they have so many verdicts both, those of the transactions
+-- the differences between two replies to one batch: if they have equally many verdicts, those of the transactions
 abbrev pub reply_differences : Reply → Reply → List Difference
 reply_differences e f =
     if length e.entries == length f.entries then entry_differences e.version 0 e.entries f.entries

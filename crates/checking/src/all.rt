@@ -1,6 +1,7 @@
 //! A check of all proxies.
 
-ghost use Rattle.std.specs.Prelude.{◌≡◌, ◌+◌, ◌<◌, ◌≤◌, ◌++◌, IfErr, IfOk, IfSome, IsSome, length, map, vec_items, vec_len};
+ghost use Rattle.std.specs.Prelude.{◌≡◌, ◌+◌, ◌<◌, ◌≤◌, ◌++◌, IfErr, IfOk, IfSome, IsSome, length};
+ghost use Rattle.std.specs.Prelude.{map, vec_items, vec_len};
 ghost use Rattle.checking.specs.Check.{TakesMemory, check_text, count_differences, last_line};
 ghost use Rattle.checking.specs.Difference.{differences};
 ghost use Rattle.checking.specs.Text.{difference_lines};
@@ -20,10 +21,11 @@ pub struct Checked {
     pub differences: usize,
 }
 
-/// Compares the replies that are expected with those that were recorded, each of the two by proxy, and tells of so many batches.
+/// Compares the replies that are expected with those that were recorded, each of the two by proxy,
+/// and reports on n batches.
 ///
-/// An error, which says that memory was refused, is the number of the proxy whose differences could not be told, or that of the last
-/// proxy where it is the last line.
+/// An error, which says that memory was refused, is the number of the proxy whose differences could
+/// not be reported, or that of the last proxy where it is the last line.
 pub fn check_all(
     alloc: Global,
     batches: usize,
@@ -37,7 +39,8 @@ pub fn check_all(
     ensures differences { IfOk result (λ checked. checked.differences
         ≡ count_differences (map vec_items expected.items) (map vec_items recorded.items)) }
     ensures proxy { IfErr result (λ proxy. proxy < vec_len expected) }
-    ensures takes { IfErr result (TakesMemory (map vec_items expected.items) (map vec_items recorded.items)) }
+    ensures takes { IfErr result (TakesMemory (map vec_items expected.items)
+        (map vec_items recorded.items)) }
 {
     let last = expected.len() - 1;
     let mut checked = Checked {

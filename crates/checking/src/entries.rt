@@ -1,13 +1,14 @@
 //! The differences between two replies to one batch.
 
 ghost use Rattle.std.specs.Prelude.{◌≡◌, ◌++◌, OnOk, length};
-ghost use Rattle.checking.specs.Difference.{entry_differences, is_same, is_same_verdict, reply_differences};
+ghost use Rattle.checking.specs.Difference.{entry_differences, is_same, is_same_verdict};
+ghost use Rattle.checking.specs.Difference.{reply_differences};
 
 use crate::difference::{Difference, DifferenceKind};
 use keyspace::{Entry, Reply, Verdict};
 use std::alloc::{AllocError, Global};
 
-/// Puts the differences between the replies behind the others.
+/// Appends the differences between the replies.
 pub fn compare_replies(
     alloc: Global,
     expected: &Reply,
@@ -15,7 +16,8 @@ pub fn compare_replies(
     differences: &mut Vec<Difference>,
 ) -> Result<(), AllocError>
     ensures differences { OnOk result
-        (differences.new.items ≡ differences.old.items ++ reply_differences expected.now found.now) }
+        (differences.new.items ≡ differences.old.items
+        ++ reply_differences expected.now found.now) }
 {
     let version = expected.version;
     let (expected, found) = (expected.entries.as_slice(), found.entries.as_slice());
@@ -39,7 +41,8 @@ fn compare_entries(
 ) -> Result<(), AllocError>
     requires alike { length expected.now ≡ length found.now }
     ensures differences { OnOk result
-        (differences.new.items ≡ differences.old.items ++ entry_differences version 0 expected.now found.now) }
+        (differences.new.items ≡ differences.old.items
+        ++ entry_differences version 0 expected.now found.now) }
 {
     for (index, entry) in expected.iter().enumerate() {
         if !is_same(entry, &found[index]) {

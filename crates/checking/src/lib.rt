@@ -1,11 +1,13 @@
 //! Compares the replies of two resolvers to the batches of one proxy.
 //!
-//! The answers of the resolver at hand say which replies are expected, and the replies that another resolver gave are recorded.
-//! [`compare`] returns how these differ, in order of versions, and [`write_differences`] writes a line for each. [`check_all`] does
-//! both for all proxies. [`sort_by_version`] is the order by version that both stand in.
+//! The answers of this resolver say which replies are expected, and the replies of another resolver
+//! are recorded. [`compare`] returns how these differ, in order of versions, and
+//! [`write_differences`] writes a line for each. [`check_all`] does both for all proxies.
+//! [`sort_by_version`] is the order by version that both have.
 //!
-//! `specs/InOrder.antt` says what that order is, `specs/Difference.antt` what a difference is, `specs/Text.antt` how it is told,
-//! and `specs/Check.antt` what is told of all proxies. A law of [`laws`] says where there is no difference.
+//! `specs/InOrder.antt` defines that order, `specs/Difference.antt` differences, `specs/Text.antt`
+//! their text, and `specs/Check.antt` the text about all proxies. A law of [`laws`] says when there
+//! is no difference.
 #![tactic(auto)]
 
 mod all;

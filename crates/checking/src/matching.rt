@@ -3,7 +3,8 @@
 ghost use Rattle.std.specs.Prelude.{◌≡◌, ◌++◌, List, int_lt, length, map, IfOk, IsOk, OnOk};
 ghost use Rattle.std.specs.List.{take_while};
 ghost use Rattle.checking.specs.InOrder.{NoneBefore, Rise};
-ghost use Rattle.checking.specs.Difference.{differences, first_of, matched, matched_with, unexpected, version_of_reply};
+ghost use Rattle.checking.specs.Difference.{differences, first_of, matched, matched_with};
+ghost use Rattle.checking.specs.Difference.{unexpected, version_of_reply};
 ghost use Rattle.checking.specs.declared.difference.Difference.{Difference as DifferenceValue};
 ghost use Rattle.keyspace.specs.declared.reply.Reply.{Reply as ReplyValue};
 
@@ -13,8 +14,8 @@ use crate::order::sort_by_version;
 use keyspace::Reply;
 use std::alloc::{AllocError, Global};
 
-/// Returns the differences between the replies that are expected and those that were recorded, in order of versions, what is
-/// unexpected last. Each of the two is sorted by version.
+/// Returns the differences between the replies that are expected and those that were recorded, in
+/// order of versions, what is unexpected last. Each of the two is sorted by version.
 ///
 /// Takes time of the order of a sort, and no memory where there are no replies.
 pub fn compare(
@@ -22,7 +23,8 @@ pub fn compare(
     expected: &mut [Reply],
     recorded: &mut [Reply],
 ) -> Result<Vec<Difference>, AllocError>
-    ensures differences { IfOk result (λ found. found.items ≡ differences expected.old recorded.old) }
+    ensures differences { IfOk result (λ found. found.items
+        ≡ differences expected.old recorded.old) }
     ensures none { length expected.old ≡ 0 → length recorded.old ≡ 0 → IsOk result }
 {
     sort_by_version(alloc, expected)?;
@@ -56,7 +58,8 @@ fn match_sorted(
 
 // Returns how many replies at the front have a lesser version than this one.
 fn count_before(reply: &Reply, replies: &[Reply]) -> usize
-    ensures before { result ≡ length (take_while (λ other. int_lt other.version reply.now.version) replies.now) }
+    ensures before { result ≡ length
+        (take_while (λ other. int_lt other.version reply.now.version) replies.now) }
 {
     replies
         .iter()
@@ -64,7 +67,8 @@ fn count_before(reply: &Reply, replies: &[Reply]) -> usize
         .count()
 }
 
-// Compares the reply with the first of the recorded ones, if that is of its version, and returns the others.
+// Compares the reply with the first of the recorded ones, if that is of its version, and returns
+// the others.
 fn match_first<'a>(
     alloc: Global,
     reply: &Reply,
@@ -75,7 +79,8 @@ fn match_first<'a>(
     requires rise { Rise version_of_reply recorded.now }
     ensures matched { IfOk result (λ rest. (go_on : List ReplyValue → List DifferenceValue)
         → differences.new.items ++ go_on rest.now
-        ≡ differences.old.items ++ matched_with reply.now recorded.now go_on (first_of reply.now.version recorded.now)) }
+        ≡ differences.old.items ++ matched_with reply.now recorded.now go_on
+        (first_of reply.now.version recorded.now)) }
     ensures rises { IfOk result (λ rest. Rise version_of_reply rest.now) }
 {
     match recorded.split_first() {
@@ -90,12 +95,13 @@ fn match_first<'a>(
     }
 }
 
-// Puts an unexpected reply behind the others for each of these.
+// Appends an unexpected reply for each of these.
 fn push_unexpected(
     replies: &[Reply],
     unexpected_ones: &mut Vec<Difference>,
 ) -> Result<(), AllocError>
-    ensures pushed { OnOk result (unexpected_ones.new.items ≡ unexpected_ones.old.items ++ map unexpected replies.now) }
+    ensures pushed { OnOk result (unexpected_ones.new.items
+        ≡ unexpected_ones.old.items ++ map unexpected replies.now) }
     ensures none { length replies.now ≡ 0 → IsOk result }
 {
     for reply in replies {

@@ -24,8 +24,9 @@ impl Versioned for Reply {
     }
 }
 
-/// Sorts items by version, those of one version in the order in which they stand. Takes no memory for up to 20 items. After an
-/// error, which says that memory was refused, their order is unspecified.
+/// Sorts items by version, those of one version in the order in which they stand. Takes no memory
+/// for up to 20 items. After an error, which says that memory was refused, their order is
+/// unspecified.
 pub fn sort_by_version<T: Versioned>(alloc: Global, items: &mut [T]) -> Result<(), AllocError>
     ensures sorted { OnOk result (items.new ≡ in_order_by T.version_told items.old) }
     ensures rises { OnOk result (Rise T.version_told items.new) }

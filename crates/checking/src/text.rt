@@ -2,7 +2,8 @@
 
 ghost use Rattle.std.specs.Prelude.{◌≡◌, IsOk, OnOk, codes, length};
 ghost use Rattle.std.specs.Io.KnownBytes.{Appends};
-ghost use Rattle.checking.specs.Text.{difference_line, difference_lines, entry_text, kind_text, place_names, places_text, verdict_name, verdicts_text};
+ghost use Rattle.checking.specs.Text.{difference_line, difference_lines, entry_text, kind_text};
+ghost use Rattle.checking.specs.Text.{place_names, places_text, verdict_name, verdicts_text};
 
 use crate::difference::{Difference, DifferenceKind};
 use crate::entries::is_same_verdict;
@@ -37,7 +38,8 @@ fn write_difference<W: Write>(out: &mut W, proxy: usize, difference: &Difference
 }
 
 fn write_kind<W: Write>(out: &mut W, kind: &DifferenceKind) -> io::Result<()>
-    ensures text { OnOk result (Appends (W.contents out.old) (W.contents out.new) (kind_text kind.now)) }
+    ensures text { OnOk result (Appends (W.contents out.old) (W.contents out.new)
+        (kind_text kind.now)) }
 {
     match kind {
         DifferenceKind::Missing => out.write_all(b"missing"),
@@ -68,7 +70,8 @@ fn write_entries<W: Write>(out: &mut W, expected: &Entry, found: &Entry) -> io::
 }
 
 fn write_verdicts<W: Write>(out: &mut W, expected: Verdict, found: Verdict) -> io::Result<()>
-    ensures text { OnOk result (Appends (W.contents out.old) (W.contents out.new) (verdicts_text expected found)) }
+    ensures text { OnOk result (Appends (W.contents out.old) (W.contents out.new)
+        (verdicts_text expected found)) }
 {
     out.write_all(b"expected ")?;
     out.write_all(name_of(expected))?;

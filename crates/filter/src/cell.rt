@@ -1,4 +1,5 @@
-//! A cell of the filter: the version of one key, and what bounds those of the others that fall into it.
+//! A cell of the filter: the version of one key, and what bounds those of the others that fall into
+//! it.
 
 ghost use Rattle.std.specs.Prelude.{◌≡◌, ◌≤ℤ◌, ◌%◌, ◌^◌, ℕ, IsTrue, negsuc};
 ghost use Rattle.std.specs.Int.{int_max};
@@ -6,8 +7,9 @@ ghost use Rattle.filter.specs.Cell.{bound_of, empty_cell, is_marked, newest_of};
 
 /// What is known of the keys that fall into a cell.
 ///
-/// Of one key the cell has the hash: that of the newest version. Of the others it has one bound, and marks, one for each remainder
-/// of a hash by 32. A key whose hash isn't that one, and whose mark isn't set, was never written.
+/// Of one key the cell has the hash: that of the newest version. Of the others it has one bound,
+/// and marks, one for each remainder of a hash by 32. A key whose hash isn't that one, and whose
+/// mark isn't set, was never written.
 #[derive(Clone, Copy, Debug)]
 pub struct Cell {
     /// The newest version of the keys of one hash.
@@ -33,7 +35,8 @@ impl Cell {
         }
     }
 
-    /// Returns the bound of the keys of a hash: no version that was written for one of them is above it.
+    /// Returns the bound of the keys of a hash: no version that was written for one of them is
+    /// above it.
     pub fn bound(&self, hash: u32) -> i64
         ensures bound { result ≡ bound_of self.now hash }
     {
@@ -49,7 +52,8 @@ impl Cell {
     /// Notes that a key of the hash is written at the version.
     pub fn write(&mut self, hash: u32, version: i64)
         ensures written { version ≤ℤ bound_of self.new hash }
-        ensures raised { (other : ℕ) → bound_of self.old other ≤ℤ int_max (negsuc 0) (bound_of self.new other) }
+        ensures raised { (other : ℕ) → bound_of self.old other
+            ≤ℤ int_max (negsuc 0) (bound_of self.new other) }
         ensures newest { newest_of self.new ≡ int_max version (newest_of self.old) }
     {
         if self.hash == hash {
@@ -69,7 +73,8 @@ impl Cell {
         ensures hash { self.new.hash ≡ self.old.hash }
         ensures others { self.new.others ≡ int_max version self.old.others }
         ensures marked { IsTrue (is_marked self.new hash) }
-        ensures kept { (other : ℕ) → IsTrue (is_marked self.old other) → IsTrue (is_marked self.new other) }
+        ensures kept { (other : ℕ) → IsTrue (is_marked self.old other)
+            → IsTrue (is_marked self.new other) }
     {
         self.others = self.others.max(version);
         self.marks |= mark_of(hash);

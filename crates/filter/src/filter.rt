@@ -1,6 +1,7 @@
 //! The filter: cells, each of which has the bounds of the keys that fall into it. Bounds only rise.
 
-ghost use Rattle.std.specs.Prelude.{◌≡◌, ℕ, ◌≤◌, ◌*◌, ◌<◌, ◌≤ℤ◌, ◌<ℤ◌, ◌↔◌, negsuc, List, length, take, IfOk, OnOk, IsTrue, min};
+ghost use Rattle.std.specs.Prelude.{◌≡◌, ℕ, ◌≤◌, ◌*◌, ◌<◌, ◌≤ℤ◌, ◌<ℤ◌, ◌↔◌, negsuc, List, length};
+ghost use Rattle.std.specs.Prelude.{take, IfOk, OnOk, IsTrue, min};
 ghost use Rattle.std.specs.Int.{int_max};
 ghost use Rattle.filter.specs.Filter.{bound, bound_in, cell_at, each_twice};
 ghost use Rattle.keys.specs.Hash.{hash_of};
@@ -21,8 +22,8 @@ const FIRST_CELLS: usize = 256;
 // Two to the power of 32: how many hashes there are.
 const HALF: u64 = 0x1_0000_0000;
 
-/// A filter of writes: cells, and the versions of the newest range and the newest key. Contracts see these, and speak of the bounds
-/// of keys.
+/// A filter of writes: cells, and the versions of the newest range and the newest key. Contracts
+/// see these, and speak of the bounds of keys.
 #[derive(Debug, Drop)]
 pub struct Filter {
     cells: Vec<Cell>,
@@ -38,10 +39,15 @@ impl Model for Filter {
 
     ghost Value = { FilterState };
 
-    ghost view = { λ f. record { cells = f.cells.items; newest_range = f.newest_range; newest_key = f.newest_key } };
+    ghost view = { λ f. record {
+      cells = f.cells.items;
+      newest_range = f.newest_range;
+      newest_key = f.newest_key;
+    } };
 
     ghost invariant = { λ f. (0 < length f.cells.items) × (length f.cells.items ≤ 2 * MAX_CELLS)
-        × ((index : ℕ) → newest_of (get_or f.cells.items index empty_cell) ≤ℤ f.newest_key) × (negsuc 0 ≤ℤ f.newest_range) };
+        × ((index : ℕ) → newest_of (get_or f.cells.items index empty_cell) ≤ℤ f.newest_key)
+        × (negsuc 0 ≤ℤ f.newest_range) };
 }
 
 impl Filter {
@@ -81,20 +87,23 @@ impl Filter {
         self.newest_range
     }
 
-    /// Returns whether the newest key is newer than the newest range. If it isn't, no bound says more than the version of
-    /// that range.
+    /// Returns whether the newest key is newer than the newest range. If it isn't, no bound says
+    /// more than the version of that range.
     pub fn is_useful(&self) -> bool
         ensures useful { IsTrue result ↔ (self.now.newest_range <ℤ self.now.newest_key) }
-        ensures range { ¬ IsTrue result → (key : List ℕ) → bound self.now key ≡ self.now.newest_range }
+        ensures range { ¬ IsTrue result → (key : List ℕ)
+            → bound self.now key ≡ self.now.newest_range }
     {
         self.newest_range < self.newest_key
     }
 
-    /// Notes that a key of this hash, as [`key_hash`] returns it, is written at the version. It takes no memory.
+    /// Notes that a key of this hash, as [`key_hash`] returns it, is written at the version. It
+    /// takes no memory.
     pub fn write_key(&mut self, hash: u32, version: i64)
         ensures written { (key : List ℕ) → hash ≡ hash_of key → version ≤ℤ bound self.new key }
         ensures raised { (other : List ℕ) → bound self.old other ≤ℤ bound self.new other }
-        ensures no_higher { (other : List ℕ) → bound self.new other ≤ℤ int_max self.new.newest_key (bound self.old other) }
+        ensures no_higher { (other : List ℕ)
+            → bound self.new other ≤ℤ int_max self.new.newest_key (bound self.old other) }
         ensures range { self.new.newest_range ≡ self.old.newest_range }
         ensures newest { self.new.newest_key ≡ int_max version self.old.newest_key }
     {
@@ -105,19 +114,20 @@ impl Filter {
         self.newest_key = self.newest_key.max(version);
     }
 
-    /// Notes that a range is written at the version, whichever keys it holds: the bound of each key rises to it. It takes no
-    /// memory.
+    /// Notes that a range is written at the version, whichever keys it holds: the bound of each key
+    /// rises to it. It takes no memory.
     pub fn write_range(&mut self, version: i64)
-        ensures written { (key : List ℕ) → bound self.new key ≡ int_max version (bound self.old key) }
+        ensures written { (key : List ℕ)
+            → bound self.new key ≡ int_max version (bound self.old key) }
         ensures range { self.new.newest_range ≡ int_max version self.old.newest_range }
         ensures newest { self.new.newest_key ≡ self.old.newest_key }
     {
         self.newest_range = self.newest_range.max(version);
     }
 
-    /// Doubles the cells while there are fewer than `count`, and fewer than [`MAX_CELLS`], if the filter is useful. More
-    /// cells tell apart more of the keys that are written from then on. Returns an error if memory is refused. Each bound
-    /// stays as it is, also then.
+    /// Doubles the cells while there are fewer than `count`, and fewer than [`MAX_CELLS`], if the
+    /// filter is useful. More cells tell apart more of the keys that are written from then on.
+    /// Returns an error if memory is refused. Each bound stays as it is, also then.
     pub fn reserve(&mut self, count: usize) -> Result<(), AllocError>
         ensures same { (key : List ℕ) → bound self.new key ≡ bound self.old key }
         ensures range { self.new.newest_range ≡ self.old.newest_range }
@@ -160,8 +170,8 @@ impl Filter {
     }
 }
 
-// Makes two cells of each of the first ones, in order and in place. It goes from the last of them to the first, so that what it
-// reads is as it was.
+// Makes two cells of each of the first ones, in order and in place. It goes from the last of them
+// to the first, so that what it reads is as it was.
 fn spread(cells: &mut [Cell], count: usize)
     requires room { length cells.old ≡ 2 * count }
     ensures twice { cells.new ≡ each_twice (take count cells.old) }

@@ -6,8 +6,8 @@ ghost use Rattle.keys.specs.Hash.{IsHashOf};
 use crate::range_ref::RangeRef;
 use std::marker::Model;
 
-/// A range with borrowed keys, and the hash of the key that it holds alone, if it holds just one: so nobody has to hash that again.
-/// Contracts see it as the range.
+/// A range with borrowed keys, and the hash of the key that it holds alone, if it holds just one:
+/// so nobody has to hash that again. Contracts see it as the range.
 // It isn't `Copy`, which the language doesn't have yet on a struct with a lifetime and a model.
 #[derive(Debug, Drop)]
 pub struct HashedRange<'a> {

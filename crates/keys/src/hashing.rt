@@ -17,8 +17,9 @@ const _: () = prove!(FACTOR == 0xBF58_476D_1CE4_E5B9);
 // Two to the power of 32: a number of 64 bits divided by it is its high half.
 const HALF: u64 = 0x1_0000_0000;
 
-/// Returns a number of 32 bits made of the length of the key and of five times eight of its bytes, which begin at its first,
-/// last and middle ones and halfway between these. Up to 38 bytes all of a key tells. It takes no loop.
+/// Returns a number of 32 bits made of the length of the key and of five times eight of its bytes,
+/// which begin at its first, last and middle ones and halfway between these. Up to 38 bytes all of
+/// a key tells. It takes no loop.
 pub fn key_hash(key: &[u8]) -> u32
     ensures hash { result ≡ hash_of key.now }
 {
@@ -26,8 +27,9 @@ pub fn key_hash(key: &[u8]) -> u32
     (mixture(key) / HALF) as u32
 }
 
-/// Returns for each of the ranges, in order, what [`RangeRef::single_hash`](crate::RangeRef::single_hash) returns for it, or an
-/// error if memory is refused. If no range is a single key, it returns none at all and takes no memory.
+/// Returns for each of the ranges, in order, what
+/// [`RangeRef::single_hash`](crate::RangeRef::single_hash) returns for it, or an error if memory is
+/// refused. If no range is a single key, it returns none at all and takes no memory.
 pub fn single_hashes<L: RangeList>(
     alloc: Global,
     ranges: &L,

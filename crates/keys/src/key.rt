@@ -1,6 +1,7 @@
 //! Keys: byte strings of a limited length.
 
-ghost use Rattle.std.specs.Prelude.{◌≡◌, ◌≤◌, ◌<◌, ◌==◌, ◌↔◌, IfOk, IsErrOf, IsOkUnless, length, take, vec_len};
+ghost use Rattle.std.specs.Prelude.{◌≡◌, ◌≤◌, ◌<◌, ◌==◌, ◌↔◌, IfOk, IsErrOf, IsOkUnless, length};
+ghost use Rattle.std.specs.Prelude.{take, vec_len};
 ghost use Rattle.std.proofs.Common.{rules};
 ghost use Rattle.std.specs.Cmp.{partial_order_from_own_ties};
 ghost use Rattle.std.specs.Cmp.Rules.{comparing};
@@ -16,14 +17,15 @@ use std::alloc::{AllocError, Global};
 use std::cmp::Ordering;
 use std::marker::Model;
 
-/// The greatest length of a range's begin or end, in bytes. A FoundationDB key has at most 10,000 bytes, and the key right
-/// after a longest one has one more. That a range may end with such a key is this project's own limit.
+/// The greatest length of a range's begin or end, in bytes. A FoundationDB key has at most 10,000
+/// bytes, and the key right after a longest one has one more. That a range may end with such a key
+/// is this project's own limit.
 pub const MAX_KEY_LENGTH: usize = 10_001;
 
 const _: () = prove!(MAX_KEY_LENGTH == 10_001);
 
-/// A byte string of at most [`MAX_KEY_LENGTH`] bytes. Keys are compared byte by byte; a proper prefix comes first. Short keys
-/// take no memory beside their own.
+/// A byte string of at most [`MAX_KEY_LENGTH`] bytes. Keys are compared byte by byte; a proper
+/// prefix comes first. Short keys take no memory beside their own.
 #[derive(Debug, Drop)]
 pub struct Key {
     bytes: Bytes,
@@ -51,7 +53,8 @@ impl Key {
         }
     }
 
-    /// Creates a key of these bytes, or returns [`KeyError::KeyLength`] if they are more than [`MAX_KEY_LENGTH`].
+    /// Creates a key of these bytes, or returns [`KeyError::KeyLength`] if they are more than
+    /// [`MAX_KEY_LENGTH`].
     pub fn checked(bytes: Vec<u8>) -> Result<Self, KeyError>
         ensures bytes { IfOk result (λ key. key ≡ bytes.items) }
         ensures key_length { IsErrOf result KeyError.KeyLength ↔ (MAX_KEY_LENGTH < vec_len bytes) }
@@ -71,8 +74,8 @@ impl Key {
         Key::front(alloc, bytes, bytes.len())
     }
 
-    /// Creates a key of a copy of the first `count` bytes, or returns an error if memory is refused. This is faster than
-    /// [`Key::copied`] where more bytes follow.
+    /// Creates a key of a copy of the first `count` bytes, or returns an error if memory is
+    /// refused. This is faster than [`Key::copied`] where more bytes follow.
     pub fn front(alloc: Global, bytes: &[u8], count: usize) -> Result<Self, AllocError>
         requires short { count ≤ MAX_KEY_LENGTH }
         requires within { count ≤ length bytes.now }
@@ -130,7 +133,8 @@ impl Ord for Key {
 impl PartialOrd for Key {
     ghost partial_cmp = { as_partial_cmp (slice_cmp nat_cmp) };
 
-    ghost laws = { partial_order_from_own_ties (Prim.search (comparing, rules)) (Prim.search (comparing, rules)) };
+    ghost laws = { partial_order_from_own_ties (Prim.search (comparing, rules))
+        (Prim.search (comparing, rules)) };
 
     fn partial_cmp(&self, other: &Key) -> Option<Ordering> {
         Some(self.cmp(other))

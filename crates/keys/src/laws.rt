@@ -1,10 +1,11 @@
 //! Laws about keys and ranges. Each is the contract of a function with an empty body.
 
 ghost use Rattle.keys.specs.declared.range.Range.{Range};
-ghost use Rattle.keys.specs.Laws.{KeyHeadsTellOrder, RestsTellOrder, MeetByEnds, RunsTellMeeting, EmptyHasNoGap, RunsAreWithin};
+ghost use Rattle.keys.specs.Laws.{KeyHeadsTellOrder, RestsTellOrder, MeetByEnds, RunsTellMeeting};
+ghost use Rattle.keys.specs.Laws.{EmptyHasNoGap, RunsAreWithin};
 
-/// The key with the lesser head comes first. Keys with the same head have the same first eight bytes, where missing
-/// ones count as zeros.
+/// The key with the lesser head comes first. Keys with the same head have the same first eight
+/// bytes, where missing ones count as zeros.
 pub fn key_heads()
     ensures order { KeyHeadsTellOrder }
 {}
@@ -19,8 +20,8 @@ pub fn meeting()
     ensures by_ends { (a b : Range) → MeetByEnds a b }
 {}
 
-/// Ranges overlap exactly if their runs have a gap in common, where the keys have the begins of those ranges that
-/// aren't empty.
+/// Ranges overlap exactly if their runs have a gap in common, where the keys have the begins of
+/// those ranges that aren't empty.
 pub fn runs()
     ensures meeting { RunsTellMeeting }
     ensures empty { EmptyHasNoGap }

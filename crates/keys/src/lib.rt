@@ -1,17 +1,19 @@
 //! Keys and half-open ranges of keys.
 //!
-//! A [`Key`] is a byte string of limited length, a [`Range`] has two of them, and a [`RangeRef`] borrows these. Keys are
-//! compared byte by byte, a proper prefix first.
+//! A [`Key`] is a byte string of limited length, a [`Range`] has two of them, and a [`RangeRef`]
+//! borrows these. Keys are compared byte by byte, a proper prefix first.
 //!
-//! [`Ranks`] orders ranges by their begins and says which of the gaps between these each of them covers, wherever the ranges lie
-//! ([`RangeList`]).
+//! [`Ranks`] orders ranges by their begins and says which of the gaps between these each of them
+//! covers, wherever the ranges lie ([`RangeList`]).
 //!
-//! [`key_head`] and [`common_prefix_len`] distinguish keys quickly: by the first eight bytes, and by the length of the common prefix.
-//! [`key_hash`], [`RangeRef::single_hash`] and [`HashedRange`] are for a filter of keys.
+//! [`key_head`] and [`common_prefix_len`] distinguish keys quickly: by the first eight bytes, and
+//! by the length of the common prefix. [`key_hash`], [`RangeRef::single_hash`] and [`HashedRange`]
+//! are for a filter of keys.
 //!
 //! `specs/` defines, in reading order, keys and their order (`Key`), heads of keys (`Head`), and
-//! when a range holds a key and when two ranges meet (`Range`). `Laws` ties these together, and the functions of [`laws`]
-//! prove it. The crates above may use the contracts of the types and functions here, and these laws.
+//! when a range holds a key and when two ranges meet (`Range`). `Laws` ties these together, and the
+//! functions of [`laws`] prove it. The crates above may use the contracts of the types and
+//! functions here, and these laws.
 #![tactic(auto)]
 
 mod bytes;

@@ -7,8 +7,8 @@ ghost use Rattle.keys.specs.Key.{IsBytes};
 
 /// Returns the first eight bytes as one big-endian number. Missing bytes count as zeros.
 ///
-/// The key with the lesser head comes first. Keys with the same head have the same first eight bytes, where missing
-/// ones count as zeros. [`crate::laws::key_heads`] states both.
+/// The key with the lesser head comes first. Keys with the same head have the same first eight
+/// bytes, where missing ones count as zeros. [`crate::laws::key_heads`] states both.
 pub fn key_head(bytes: &[u8]) -> u64
     ensures key_head { result ≡ head_of bytes.now }
 {
@@ -18,7 +18,8 @@ pub fn key_head(bytes: &[u8]) -> u64
     short_head(bytes)
 }
 
-/// Returns the head of the bytes of a key after the first n: that of no byte if the key ends before.
+/// Returns the head of the bytes of a key after the first n: that of no byte if the key ends
+/// before.
 ///
 /// If fewer than eight bytes follow, it is found in the last eight of the key, if it has eight.
 pub fn head_behind(key: &[u8], prefix_len: usize) -> u64
@@ -47,8 +48,8 @@ fn short_head(bytes: &[u8]) -> u64
 
 /// Returns how many bytes both begin with.
 ///
-/// Behind these the next bytes differ, or one of the keys ends. So they tell which key comes first, as
-/// [`crate::laws::beginnings`] states.
+/// Behind these the next bytes differ, or one of the keys ends. So they tell which key comes first,
+/// as [`crate::laws::beginnings`] states.
 pub fn common_prefix_len(a: &[u8], b: &[u8]) -> usize
     ensures within { (result ≤ length a.now) × (result ≤ length b.now) }
     ensures same { take result a.now ≡ take result b.now }
@@ -77,7 +78,8 @@ fn common_in_word(a: &[u8], b: &[u8]) -> usize
 pub fn same_bytes(a: u64, b: u64) -> usize
     ensures within { result ≤ 8 }
     ensures same { take result (to_be_bytes w64 a) ≡ take result (to_be_bytes w64 b) }
-    ensures differ { result < 8 → slice_index (to_be_bytes w64 a) result ≢ slice_index (to_be_bytes w64 b) result }
+    ensures differ { result < 8 → slice_index (to_be_bytes w64 a) result
+        ≢ slice_index (to_be_bytes w64 b) result }
 {
     (a ^ b).leading_zeros() as usize / 8
 }

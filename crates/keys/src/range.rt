@@ -32,7 +32,8 @@ impl Range {
         Range { begin, end }
     }
 
-    /// Creates the half-open range `[begin, end)`, or returns [`KeyError::Inverted`] if `begin` is after `end`.
+    /// Creates the half-open range `[begin, end)`, or returns [`KeyError::Inverted`] if `begin` is
+    /// after `end`.
     pub fn checked(begin: Key, end: Key) -> Result<Self, KeyError>
         ensures begin { IfOk result (λ range. range.begin ≡ begin) }
         ensures end { IfOk result (λ range. range.end ≡ end) }
@@ -66,7 +67,8 @@ impl Range {
         self.begin.as_bytes().cmp(key).is_le() && key.cmp(self.end.as_bytes()).is_lt()
     }
 
-    /// Returns `true` if the ranges overlap, which is to say that both hold some key. An empty range overlaps none.
+    /// Returns `true` if the ranges overlap, which is to say that both hold some key. An empty
+    /// range overlaps none.
     pub fn meets(&self, other: &Range) -> bool
         ensures meets { IsTrue result ↔ Meets self.now other.now }
         ensures by_ends { result ≡ ranges_meet self.now other.now }

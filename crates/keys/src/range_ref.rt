@@ -12,7 +12,8 @@ use crate::range::Range;
 use std::alloc::{AllocError, Global};
 use std::marker::Model;
 
-/// The half-open range `[begin, end)` with borrowed keys: `KeyRangeRef` of FoundationDB 7.1. Contracts see it as the range.
+/// The half-open range `[begin, end)` with borrowed keys: `KeyRangeRef` of FoundationDB 7.1.
+/// Contracts see it as the range.
 // It isn't `Copy`, which the language doesn't have yet on a struct with a lifetime and a model.
 #[derive(Debug, Drop)]
 pub struct RangeRef<'a> {
@@ -69,8 +70,8 @@ impl<'a> RangeRef<'a> {
         }
     }
 
-    /// Returns the hash of the key that the range holds alone, as [`key_hash`](crate::key_hash) does, or `None` if it holds none
-    /// or several.
+    /// Returns the hash of the key that the range holds alone, as [`key_hash`](crate::key_hash)
+    /// does, or `None` if it holds none or several.
     pub fn single_hash(&self) -> Option<u32>
         ensures hash { IsHashOf self.now result }
     {

@@ -2,8 +2,8 @@
 
 use crate::reply::Reply;
 
-/// What a proxy receives for a batch. FoundationDB 7.1 has the first alone, and sends nothing instead of the others,
-/// which are this project's own.
+/// What a proxy receives for a batch. FoundationDB 7.1 has the first alone, and sends nothing
+/// instead of the others, which are this project's own.
 #[derive(Debug, Drop)]
 pub enum Answer {
     /// The reply to the batch.

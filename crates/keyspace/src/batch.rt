@@ -1,6 +1,7 @@
 //! Batches: transactions from one commit proxy, with their versions.
 
-ghost use Rattle.std.specs.Prelude.{◌≡◌, ◌≤◌, ◌<◌, ◌≤ℤ◌, ◌<ℤ◌, ◌↔◌, pos, negsuc, length, vec_len, IfOk, IsErrOf, IsTrue};
+ghost use Rattle.std.specs.Prelude.{◌≡◌, ◌≤◌, ◌<◌, ◌≤ℤ◌, ◌<ℤ◌, ◌↔◌, pos, negsuc, length, vec_len};
+ghost use Rattle.std.specs.Prelude.{IfOk, IsErrOf, IsTrue};
 ghost use Rattle.keyspace.specs.Versions.{AreVersions};
 ghost use Rattle.keyspace.specs.declared.batch.TheConstants.{MAX_TXNS};
 
@@ -14,14 +15,16 @@ pub const MAX_TXNS: usize = 4_096;
 
 const _: () = prove!(MAX_TXNS == 4_096);
 
-/// A batch of transactions from one commit proxy: `ResolveTransactionBatchRequest` of FoundationDB 7.1.
+/// A batch of transactions from one commit proxy: `ResolveTransactionBatchRequest` of FoundationDB
+/// 7.1.
 #[derive(Debug, Drop)]
 pub struct Batch {
     /// The version of the previous batch on the chain, -1 or more and below `version`.
     pub previous: i64,
     /// The commit version of all its transactions, 0 or more.
     pub version: i64,
-    /// The proxy's last received version, -1 or more and below `version`. Replies up to this version have arrived.
+    /// The proxy's last received version, -1 or more and below `version`. Replies up to this
+    /// version have arrived.
     pub received: i64,
     /// The transactions, at most [`MAX_TXNS`], in the order in which they are judged.
     pub txns: Txns,
@@ -54,10 +57,11 @@ impl Batch {
         }
     }
 
-    /// Puts transactions together in this order, and creates a batch of them, or returns an error if it is outside its
-    /// limits. The versions are looked at first: [`LimitError::Version`] if one of them is outside its limits, else
-    /// [`LimitError::Count`] if there are more than [`MAX_TXNS`] transactions, else [`LimitError::Memory`] if memory is
-    /// refused or the keys have more than 4 GiB.
+    /// Puts transactions together in this order, and creates a batch of them, or returns an error
+    /// if it is outside its limits. The versions are looked at first: [`LimitError::Version`] if
+    /// one of them is outside its limits, else [`LimitError::Count`] if there are more than
+    /// [`MAX_TXNS`] transactions, else [`LimitError::Memory`] if memory is refused or the keys have
+    /// more than 4 GiB.
     pub fn checked(
         alloc: Global,
         previous: i64,
@@ -69,7 +73,8 @@ impl Batch {
         ensures version { IfOk result (λ batch. batch.version ≡ version) }
         ensures received { IfOk result (λ batch. batch.received ≡ received) }
         ensures txns { IfOk result (λ batch. batch.txns ≡ txns.items) }
-        ensures beyond_version { IsErrOf result LimitError.Version ↔ (¬ AreVersions previous version received) }
+        ensures beyond_version { IsErrOf result LimitError.Version
+            ↔ (¬ AreVersions previous version received) }
         ensures beyond_count { IsErrOf result LimitError.Count ↔
             AreVersions previous version received × (MAX_TXNS < vec_len txns) }
     {

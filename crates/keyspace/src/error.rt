@@ -12,8 +12,8 @@ pub enum LimitError {
     /// A version or a snapshot is outside its limits.
     #[error("version or snapshot is outside its limits")]
     Version,
-    /// There are more than [`MAX_TXNS`](crate::MAX_TXNS) transactions, or more than [`MAX_RANGES`](crate::MAX_RANGES)
-    /// ranges.
+    /// There are more than [`MAX_TXNS`](crate::MAX_TXNS) transactions, or more than
+    /// [`MAX_RANGES`](crate::MAX_RANGES) ranges.
     #[error("too many transactions or ranges")]
     Count,
     /// Memory was refused, or the keys of the transactions have more than 4 GiB.

@@ -1,15 +1,19 @@
-//! Transactions, batches and replies as plain data, over the keys and ranges of `keys`. Each type keeps its limits.
+//! Transactions, batches and replies as plain data, over the keys and ranges of `keys`. Each type
+//! keeps its limits.
 //!
-//! `specs/` holds the reference definitions, in reading order: all that has to be believed about verdicts and about the
-//! chain of versions, and last how the transactions of a batch are kept. The contracts of the crates above cite them. A crate
-//! above may use the contracts of the types here and the laws of [`laws`].
+//! `specs/` holds the reference definitions, in reading order: all that has to be believed about
+//! verdicts and about the chain of versions, and last how the transactions of a batch are kept. The
+//! contracts of the crates above cite them. A crate above may use the contracts of the types here
+//! and the laws of [`laws`].
 //!
-//! [`Txn::checked`] and [`Batch::checked`] take what comes from outside, and return a [`LimitError`] where it is beyond a limit.
-//! Callers that know it to be within the limits have [`Txn::new`] and [`Batch::new`].
+//! [`Txn::checked`] and [`Batch::checked`] take what comes from outside, and return a
+//! [`LimitError`] where it is beyond a limit. Callers that know it to be within the limits have
+//! [`Txn::new`] and [`Batch::new`].
 //!
-//! A batch keeps its transactions as [`Txns`]: one buffer with the bytes of all keys, a [`Span`] a range, and a [`Row`] a
-//! transaction. It lends them as [`TxnRef`], [`RangesRef`] and [`RangeRef`], so no key is copied once it is read. Their ranges
-//! are ranked ([`Ranks`]) when a batch is read, and not when batches are resolved in sequence.
+//! A batch keeps its transactions as [`Txns`]: one buffer with the bytes of all keys, a [`Span`] a
+//! range, and a [`Row`] a transaction. It lends them as [`TxnRef`], [`RangesRef`] and [`RangeRef`],
+//! so no key is copied once it is read. Their ranges are ranked ([`Ranks`]) when a batch is read,
+//! and not when batches are resolved in sequence.
 #![tactic(auto)]
 
 mod answer;
@@ -43,7 +47,8 @@ pub use txn_ref::TxnRef;
 pub use txns::Txns;
 
 /// The default window, in versions: how far back the resolver remembers committed writes. It is
-/// `MAX_WRITE_TRANSACTION_LIFE_VERSIONS` of FoundationDB 7.1, about five seconds of commit versions.
+/// `MAX_WRITE_TRANSACTION_LIFE_VERSIONS` of FoundationDB 7.1, about five seconds of commit
+/// versions.
 pub const WINDOW: i64 = 5_000_000;
 
 const _: () = prove!(WINDOW == 5_000_000);

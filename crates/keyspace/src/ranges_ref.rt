@@ -1,6 +1,7 @@
 //! Ranges whose keys lie in a buffer.
 
-ghost use Rattle.std.specs.Prelude.{◌≡◌, ◌↔◌, ◌+◌, ◌<◌, ◌≤◌, [], Some, IsTrue, All, length, map, slice_get, slice_range};
+ghost use Rattle.std.specs.Prelude.{◌≡◌, ◌↔◌, ◌+◌, ◌<◌, ◌≤◌, [], Some, IsTrue, All, length, map};
+ghost use Rattle.std.specs.Prelude.{slice_get, slice_range};
 ghost use Rattle.keyspace.specs.Fields.{range_fields, RangeHolds};
 ghost use Rattle.keyspace.specs.Tables.{range_told, LiesWithin};
 

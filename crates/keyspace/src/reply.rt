@@ -21,8 +21,8 @@ pub enum Verdict {
     Committed,
 }
 
-/// The places of a report: indices of read ranges in their transaction, strictly increasing, each below
-/// [`MAX_RANGES`](crate::MAX_RANGES).
+/// The places of a report: indices of read ranges in their transaction, strictly increasing, each
+/// below [`MAX_RANGES`](crate::MAX_RANGES).
 #[derive(Debug, Drop)]
 pub struct Places {
     items: Vec<u16>,
@@ -40,7 +40,8 @@ impl Model for Places {
 }
 
 impl Places {
-    /// Creates a list of places, without copying them. That they increase is this project's own form of a report.
+    /// Creates a list of places, without copying them. That they increase is this project's own
+    /// form of a report.
     pub fn new(items: Vec<u16>) -> Self
         requires places { ArePlaces items.items }
         ensures places { result ≡ items.items }

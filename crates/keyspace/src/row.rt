@@ -3,8 +3,8 @@
 ghost use Rattle.std.specs.Prelude.{ℕ, ◌<◌, length, take};
 ghost use Rattle.keyspace.specs.Tables.{AreRows};
 
-/// A transaction, as a row of the tables of its batch. The spans of its ranges follow those of the row before, those of its read
-/// ranges first.
+/// A transaction, as a row of the tables of its batch. The spans of its ranges follow those of the
+/// row before, those of its read ranges first.
 #[derive(Clone, Copy, Debug, PartialEq, Eq)]
 pub struct Row {
     /// The read version of the transaction.
@@ -17,7 +17,8 @@ pub struct Row {
     pub marked: bool,
 }
 
-/// Returns the index at which the spans of the row at an index begin: where those of the row before end.
+/// Returns the index at which the spans of the row at an index begin: where those of the row before
+/// end.
 pub fn first_span(rows: &[Row], index: usize) -> u32
     requires rows { (count : ℕ) × AreRows 0 rows.now count }
     requires within { index < length rows.now }

@@ -4,8 +4,8 @@ ghost use Rattle.std.specs.Prelude.{◌≡◌, ◌↔◌, [], IsTrue, length};
 
 use std::marker::Model;
 
-/// A sequence of items, which contracts see as a list. It is created from a `Vec` and converts back into one, without
-/// copying the items.
+/// A sequence of items, which contracts see as a list. It is created from a `Vec` and converts back
+/// into one, without copying the items.
 #[derive(Debug, Drop)]
 pub struct Sequence<T> {
     items: Vec<T>,

@@ -24,11 +24,13 @@ pub struct Tables {
 }
 
 impl Tables {
-    /// Copies the transactions into tables, or returns an error if memory is refused, or if their keys have more than 4 GiB.
+    /// Copies the transactions into tables, or returns an error if memory is refused, or if their
+    /// keys have more than 4 GiB.
     pub fn of(alloc: Global, txns: &[Txn]) -> Result<Self, AllocError>
         requires few { length txns.now ≤ MAX_TXNS }
         ensures tables { IfOk result (λ t. AreTables t.buffer.items t.spans.items t.rows.items) }
-        ensures told { IfOk result (λ t. txns_told t.buffer.items t.spans.items t.rows.items ≡ map txn_fields txns.now) }
+        ensures told { IfOk result (λ t. txns_told t.buffer.items t.spans.items t.rows.items
+            ≡ map txn_fields txns.now) }
         ensures count { IfOk result (λ t. vec_len t.rows ≡ length txns.now) }
     {
         let mut tables = Tables {
@@ -46,9 +48,12 @@ impl Tables {
     fn put(&mut self, txn: &Txn) -> Result<(), AllocError>
         requires tables { AreTables self.old.buffer.items self.old.spans.items self.old.rows.items }
         requires few { vec_len self.old.rows < MAX_TXNS }
-        ensures tables { OnOk result (AreTables self.new.buffer.items self.new.spans.items self.new.rows.items) }
-        ensures told { OnOk result (txns_told self.new.buffer.items self.new.spans.items self.new.rows.items
-            ≡ txns_told self.old.buffer.items self.old.spans.items self.old.rows.items ++ txn_fields txn.now ∷ []) }
+        ensures tables { OnOk result (AreTables self.new.buffer.items self.new.spans.items
+            self.new.rows.items) }
+        ensures told { OnOk result (txns_told self.new.buffer.items self.new.spans.items
+            self.new.rows.items
+            ≡ txns_told self.old.buffer.items self.old.spans.items self.old.rows.items
+            ++ txn_fields txn.now ∷ []) }
     {
         put_ranges(&mut self.buffer, &mut self.spans, txn.reads.as_slice())?;
         put_ranges(&mut self.buffer, &mut self.spans, txn.writes.as_slice())?;

@@ -1,13 +1,15 @@
 //! A transaction that is made by hand.
 
-ghost use Rattle.std.specs.Prelude.{◌≡◌, ◌≤◌, ◌<◌, ◌≤ℤ◌, ◌<ℤ◌, ◌↔◌, ◌⊎◌, pos, length, IfOk, IsErrOf};
+ghost use Rattle.std.specs.Prelude.{◌≡◌, ◌≤◌, ◌<◌, ◌≤ℤ◌, ◌<ℤ◌, ◌↔◌, ◌⊎◌, pos, length, IfOk};
+ghost use Rattle.std.specs.Prelude.{IsErrOf};
 ghost use Rattle.keyspace.specs.declared.txn.TheConstants.{MAX_RANGES};
 
 use crate::error::LimitError;
 use crate::sequence::Sequence;
 use keys::Range;
 
-/// The greatest number of read ranges of a transaction, and of write ranges: this project's own limit.
+/// The greatest number of read ranges of a transaction, and of write ranges: this project's own
+/// limit.
 pub const MAX_RANGES: usize = 1_024;
 
 const _: () = prove!(MAX_RANGES == 1_024);
@@ -47,9 +49,10 @@ impl Txn {
         }
     }
 
-    /// Creates a transaction, with its ranges in the order sent, or returns an error if it is outside its limits. The
-    /// snapshot is looked at first: [`LimitError::Version`] if it is negative, else [`LimitError::Count`] if there are more
-    /// than [`MAX_RANGES`] read ranges or write ranges.
+    /// Creates a transaction, with its ranges in the order sent, or returns an error if it is
+    /// outside its limits. The snapshot is looked at first: [`LimitError::Version`] if it is
+    /// negative, else [`LimitError::Count`] if there are more than [`MAX_RANGES`] read ranges or
+    /// write ranges.
     pub fn checked(
         snapshot: i64,
         marked: bool,

@@ -1,6 +1,7 @@
 //! The transactions of a batch, in one buffer with tables beside it.
 
-ghost use Rattle.std.specs.Prelude.{◌≡◌, ◌<◌, ◌≤◌, Some, length, vec_len, map, slice_get, IfOk, IsSomeAnd};
+ghost use Rattle.std.specs.Prelude.{◌≡◌, ◌<◌, ◌≤◌, Some, length, vec_len, map, slice_get, IfOk};
+ghost use Rattle.std.specs.Prelude.{IsSomeAnd};
 ghost use Rattle.keys.specs.Hash.{IsHashOf};
 ghost use Rattle.keys.specs.Ranks.{AreChosenInOrder, AreRanked};
 ghost use Rattle.keys.specs.declared.range.Range.{Range};
@@ -21,12 +22,14 @@ use keys::{HashedRange, Ranks, single_hashes};
 use std::alloc::{AllocError, Global};
 use std::marker::Model;
 
-/// The transactions of a batch, in the order in which they are judged. Contracts see the list of these.
+/// The transactions of a batch, in the order in which they are judged. Contracts see the list of
+/// these.
 ///
-/// They lie in one buffer with the bytes of all keys, a table of spans that says where each range lies in it, and a table
-/// with a row for each transaction. What doesn't depend on other batches is computed once, where the transactions are put
-/// together: the order of the write ranges by begins, which of the gaps between the begins of all ranges each range covers, and the
-/// hashes of single keys.
+/// They lie in one buffer with the bytes of all keys, a table of spans that says where each range
+/// lies in it, and a table with a row for each transaction. What doesn't depend on other batches is
+/// computed once, where the transactions are put together: the order of the write ranges by begins,
+/// which of the gaps between the begins of all ranges each range covers, and the hashes of single
+/// keys.
 #[derive(Debug, Drop)]
 pub struct Txns {
     buffer: Vec<u8>,
@@ -52,7 +55,8 @@ impl Model for Txns {
 
     ghost Value = { List Txn };
 
-    ghost view = { λ t. txns_with (txns_told t.buffer.items t.spans.items t.rows.items) t.tables.holds };
+    ghost view = { λ t. txns_with (txns_told t.buffer.items t.spans.items t.rows.items)
+        t.tables.holds };
 
     ghost invariant = { λ t.
         let txns = txns_with (txns_told t.buffer.items t.spans.items t.rows.items) t.tables.holds in
@@ -62,8 +66,8 @@ impl Model for Txns {
 }
 
 impl Txns {
-    /// Puts transactions together in this order, or returns an error if memory is refused, or if their keys have more than
-    /// 4 GiB.
+    /// Puts transactions together in this order, or returns an error if memory is refused, or if
+    /// their keys have more than 4 GiB.
     pub fn new(alloc: Global, txns: Vec<Txn>) -> Result<Self, AllocError>
         requires few { vec_len txns ≤ MAX_TXNS }
         ensures txns { IfOk result (λ kept. kept ≡ txns.items) }
@@ -72,7 +76,8 @@ impl Txns {
         Txns::from_tables(alloc, tables.buffer, tables.spans, tables.rows)
     }
 
-    /// Takes the transactions that the tables mean, without copying a key, or returns an error if memory is refused.
+    /// Takes the transactions that the tables mean, without copying a key, or returns an error if
+    /// memory is refused.
     pub fn from_tables(
         alloc: Global,
         buffer: Vec<u8>,
@@ -81,7 +86,8 @@ impl Txns {
     ) -> Result<Self, AllocError>
         requires tables { AreTables buffer.items spans.items rows.items }
         requires few { vec_len rows ≤ MAX_TXNS }
-        ensures fields { IfOk result (λ txns. map txn_fields txns ≡ txns_told buffer.items spans.items rows.items) }
+        ensures fields { IfOk result (λ txns. map txn_fields txns
+            ≡ txns_told buffer.items spans.items rows.items) }
     {
         let ranges = RangesRef::new(&buffer, &spans);
         let hashes = single_hashes(alloc, &ranges)?;
@@ -134,12 +140,14 @@ impl Txns {
     pub fn read_index(&self, index: usize, read: usize) -> u32
         requires within { IsSomeAnd (slice_get self.now index) (λ txn. read < length txn.reads) }
         ensures range { (txn : TxnValue) (range : Range) → slice_get self.now index ≡ Some txn
-            → slice_get txn.reads read ≡ Some range → slice_get (ranges_in self.now) result ≡ Some range }
+            → slice_get txn.reads read ≡ Some range
+            → slice_get (ranges_in self.now) result ≡ Some range }
     {
         first_span(&self.rows, index) + read as u32
     }
 
-    /// Returns the range at the index in [`Txns::ranges`], without copying its keys, and with its hash, without looking at them.
+    /// Returns the range at the index in [`Txns::ranges`], without copying its keys, and with its
+    /// hash, without looking at them.
     pub fn hashed_range(&self, index: usize) -> HashedRange<'_>
         requires within { index < length (ranges_in self.now) }
         ensures range { slice_get (ranges_in self.now) index ≡ Some result }
@@ -147,10 +155,11 @@ impl Txns {
         HashedRange::new(self.ranges().get(index), self.hash(index))
     }
 
-    /// Returns what [`RangeRef::single_hash`](keys::RangeRef::single_hash) returns for the range at the index in
-    /// [`Txns::ranges`], and looks at no key.
+    /// Returns what [`RangeRef::single_hash`](keys::RangeRef::single_hash) returns for the range at
+    /// the index in [`Txns::ranges`], and looks at no key.
     pub fn hash(&self, index: usize) -> Option<u32>
-        ensures hash { (range : Range) → slice_get (ranges_in self.now) index ≡ Some range → IsHashOf range result }
+        ensures hash { (range : Range) → slice_get (ranges_in self.now) index ≡ Some range
+            → IsHashOf range result }
     {
         match self.hashes.get(index) {
             Some(hash) => *hash,
@@ -158,24 +167,24 @@ impl Txns {
         }
     }
 
-    /// Returns the ranges of the transactions as one list: those of each transaction, its read ranges before its write
-    /// ranges.
+    /// Returns the ranges of the transactions as one list: those of each transaction, its read
+    /// ranges before its write ranges.
     pub fn ranges(&self) -> RangesRef<'_>
         ensures ranges { result ≡ ranges_in self.now }
     {
         RangesRef::new(&self.buffer, &self.spans)
     }
 
-    /// Returns which of the gaps between the begins of the ranges each of these covers. The index of a range is that in
-    /// [`Txns::ranges`].
+    /// Returns which of the gaps between the begins of the ranges each of these covers. The index
+    /// of a range is that in [`Txns::ranges`].
     pub fn ranks(&self) -> &Ranks
         ensures ranked { AreRanked (ranges_in self.now) result.now }
     {
         &self.ranks
     }
 
-    /// Returns the indices of the write ranges that aren't empty, in the order of their begins. The index of a range is that in
-    /// [`Txns::ranges`].
+    /// Returns the indices of the write ranges that aren't empty, in the order of their begins. The
+    /// index of a range is that in [`Txns::ranges`].
     pub fn write_order(&self) -> &[u32]
         ensures order { AreChosenInOrder (is_write_in self.now) (ranges_in self.now) result.now }
     {

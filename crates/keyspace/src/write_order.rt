@@ -7,17 +7,20 @@ ghost use Rattle.keyspace.specs.Tables.{AreRows};
 use crate::row::Row;
 use std::alloc::{AllocError, Global};
 
-/// Lists those of the indices that are of write ranges, in the order in which they are given, or returns an error if memory is
-/// refused. The indices are those of the ranges of the rows, in sequence.
+/// Lists those of the indices that are of write ranges, in the order in which they are given, or
+/// returns an error if memory is refused. The indices are those of the ranges of the rows, in
+/// sequence.
 pub fn list_writes(alloc: Global, mut order: Vec<u32>, rows: &[Row]) -> Result<Vec<u32>, AllocError>
     requires rows { (count : ℕ) × AreRows 0 rows.now count }
     requires within { All (λ index. index < length (marks_of_rows rows.now)) order.items }
-    ensures writes { IfOk result (λ writes. writes.items ≡ filter (is_write_of rows.now) order.items) }
+    ensures writes { IfOk result (λ writes. writes.items
+        ≡ filter (is_write_of rows.now) order.items) }
 {
     let marks = mark_writes(alloc, rows)?;
     let mut len = 0;
     for place in 0..order.len() {
-        // Each index is put down, and stays if it is a write range's: a branch on that would often be mispredicted.
+        // Each index is put down, and stays if it is a write range's: a branch on that would often
+        // be mispredicted.
         let index = order[place];
         order[len] = index;
         len += usize::from(marks[index as usize]);

@@ -5,45 +5,51 @@ ghost use Rattle.keyspace.specs.Processed.{Processed};
 ghost use Rattle.keyspace.specs.Chain.{IsChain};
 ghost use Rattle.keyspace.specs.Rows.{Limits};
 ghost use Rattle.serial.specs.Commits.{Current};
-ghost use Rattle.serial.specs.Serial.{EachIsIsolated, Serializable, InvariantsHold, EffectsAreSerializable, SnapshotsArePlaces, RealTime, IsSerializable, ChainsAreSerializable};
+ghost use Rattle.serial.specs.Serial.{EachIsIsolated, Serializable, InvariantsHold};
+ghost use Rattle.serial.specs.Serial.{EffectsAreSerializable, SnapshotsArePlaces, RealTime};
+ghost use Rattle.serial.specs.Serial.{IsSerializable, ChainsAreSerializable};
 ghost use Rattle.serial.specs.Replies.{AnswersTellVerdicts};
 ghost use Rattle.serial.specs.Shards.{OneShardEach, AreByShards};
 ghost use Rattle.serial.specs.Rows.{WorkedRows};
 
-/// Every write that a committed transaction of a chain could have missed is one that it has read: at each key of its read ranges,
-/// the writes before it are those that its snapshot includes.
+/// Every write that a committed transaction of a chain could have missed is one that it has read:
+/// at each key of its read ranges, the writes before it are those that its snapshot includes.
 pub fn reads_are_current()
     ensures current { (window : ℤ) (ps : List Processed) → IsChain window ps → Current ps }
 {}
 
-/// Each committed transaction of a chain reads current values and may be run at its place in the commit order, whatever the other
-/// transactions read.
+/// Each committed transaction of a chain reads current values and may be run at its place in the
+/// commit order, whatever the other transactions read.
 pub fn isolated()
     ensures isolated { (ps : List Processed) → Current ps → EachIsIsolated ps }
     ensures chains { (window : ℤ) (ps : List Processed) → IsChain window ps → EachIsIsolated ps }
 {}
 
-/// If the committed transactions of a chain read only what they declare, running them one at a time, in the order of commit, reads
-/// and leaves what was read and left as they were run. Functions of the read ranges are such transactions.
+/// If the committed transactions of a chain read only what they declare, running them one at a
+/// time, in the order of commit, reads and leaves what was read and left as they were run.
+/// Functions of the read ranges are such transactions.
 pub fn serializable()
     ensures serializable { (ps : List Processed) → Current ps → Serializable ps }
     ensures chains { (window : ℤ) (ps : List Processed) → IsChain window ps → Serializable ps }
-    ensures effects { (window : ℤ) (ps : List Processed) → IsChain window ps → EffectsAreSerializable ps }
+    ensures effects { (window : ℤ) (ps : List Processed) → IsChain window ps
+        → EffectsAreSerializable ps }
 {}
 
-/// If the committed transactions of a chain read only what they declare, an invariant that each of them preserves alone holds after
-/// any number of batches, as they were run.
+/// If the committed transactions of a chain read only what they declare, an invariant that each of
+/// them preserves alone holds after any number of batches, as they were run.
 pub fn invariants_hold()
     ensures invariants { (ps : List Processed) → Current ps → InvariantsHold ps }
 {}
 
-/// A snapshot is a place in the commit order of a chain, so transactions that only read are run there.
+/// A snapshot is a place in the commit order of a chain, so transactions that only read are run
+/// there.
 pub fn snapshots_are_places()
-    ensures places { (window : ℤ) (ps : List Processed) → IsChain window ps → SnapshotsArePlaces ps }
+    ensures places { (window : ℤ) (ps : List Processed) → IsChain window ps
+        → SnapshotsArePlaces ps }
 {}
 
-/// A committed transaction of a chain that reads below its own batch's version comes after each transaction that was committed when
-/// it read, and reads what that one wrote or a later write.
+/// A committed transaction of a chain that reads below its own batch's version comes after each
+/// transaction that was committed when it read, and reads what that one wrote or a later write.
 pub fn real_time()
     ensures follows { (window : ℤ) (ps : List Processed) → IsChain window ps → RealTime ps }
 {}
@@ -53,8 +59,8 @@ pub fn chains_are_serializable()
     ensures chains { ChainsAreSerializable }
 {}
 
-/// Each reply is that of one processed batch, which its proxy has sent, and the transactions that replies report as committed are the
-/// committed ones.
+/// Each reply is that of one processed batch, which its proxy has sent, and the transactions that
+/// replies report as committed are the committed ones.
 pub fn answers_tell_verdicts()
     ensures tell { AnswersTellVerdicts }
 {
@@ -66,22 +72,30 @@ pub fn one_shard_per_key()
     ensures one { OneShardEach }
 {}
 
-/// If each shard of the keys has its own resolver, and a transaction is committed only if every one of them says so, the laws hold of
-/// the verdicts that the clients received. Each shard remembers what it committed, which may be more than what all of them did.
+/// If each shard of the keys has its own resolver, and a transaction is committed only if every one
+/// of them says so, the laws hold of the verdicts that the clients received. Each shard remembers
+/// what it committed, which may be more than what all of them did.
 pub fn serializable_by_shards()
-    ensures current { (window : ℤ) (points : List (List ℕ)) (each : List (List Processed)) (ps : List Processed)
+    ensures current { (window : ℤ) (points : List (List ℕ)) (each : List (List Processed))
+        (ps : List Processed)
         → AreByShards window points each ps → Current ps }
-    ensures isolated { (window : ℤ) (points : List (List ℕ)) (each : List (List Processed)) (ps : List Processed)
+    ensures isolated { (window : ℤ) (points : List (List ℕ)) (each : List (List Processed))
+        (ps : List Processed)
         → AreByShards window points each ps → EachIsIsolated ps }
-    ensures serializable { (window : ℤ) (points : List (List ℕ)) (each : List (List Processed)) (ps : List Processed)
+    ensures serializable { (window : ℤ) (points : List (List ℕ)) (each : List (List Processed))
+        (ps : List Processed)
         → AreByShards window points each ps → Serializable ps }
-    ensures effects { (window : ℤ) (points : List (List ℕ)) (each : List (List Processed)) (ps : List Processed)
+    ensures effects { (window : ℤ) (points : List (List ℕ)) (each : List (List Processed))
+        (ps : List Processed)
         → AreByShards window points each ps → EffectsAreSerializable ps }
-    ensures places { (window : ℤ) (points : List (List ℕ)) (each : List (List Processed)) (ps : List Processed)
+    ensures places { (window : ℤ) (points : List (List ℕ)) (each : List (List Processed))
+        (ps : List Processed)
         → AreByShards window points each ps → SnapshotsArePlaces ps }
-    ensures follows { (window : ℤ) (points : List (List ℕ)) (each : List (List Processed)) (ps : List Processed)
+    ensures follows { (window : ℤ) (points : List (List ℕ)) (each : List (List Processed))
+        (ps : List Processed)
         → AreByShards window points each ps → RealTime ps }
-    ensures all { (window : ℤ) (points : List (List ℕ)) (each : List (List Processed)) (ps : List Processed)
+    ensures all { (window : ℤ) (points : List (List ℕ)) (each : List (List Processed))
+        (ps : List Processed)
         → AreByShards window points each ps → IsSerializable ps }
 {}
 

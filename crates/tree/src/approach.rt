@@ -1,6 +1,8 @@
-//! The way of a question: down a tree to the leaf that answers it, or to a subtree that decides the answer.
+//! The way of a question: down a tree to the leaf that answers it, or to a subtree that decides the
+//! answer.
 
-ghost use Rattle.std.specs.Prelude.{◌≡◌, ◌≤◌, ◌<◌, ◌+◌, true, false, length, slice_get, Some, IsTrue};
+ghost use Rattle.std.specs.Prelude.{◌≡◌, ◌≤◌, ◌<◌, ◌+◌, true, false, length, slice_get, Some};
+ghost use Rattle.std.specs.Prelude.{IsTrue};
 ghost use Rattle.tree.specs.Finding.{HasHead, IsSearched};
 ghost use Rattle.tree.specs.Heads.{IsCommonPrefixAt};
 ghost use Rattle.tree.specs.Node.{entries_of, key_heads_of};
@@ -21,7 +23,8 @@ use arena::{Arena, Slot};
 #[derive(Clone, Copy, Debug)]
 pub struct Near {
     pub leaf: Slot,
-    /// How many bytes the first key of the leaf and the target of the first bound begin with in common.
+    /// How many bytes the first key of the leaf and the target of the first bound begin with in
+    /// common.
     pub common_prefix_len: usize,
     /// Says that the items after the leaf don't come before the second bound.
     pub clear: bool,
@@ -39,9 +42,9 @@ pub enum Approach {
     Open,
 }
 
-// Goes down a subtree to the leaf that answers a question. `common_prefix_len` is how many bytes the first key of the subtree and
-// the target of the first bound begin with in common. `clear` says that the items after the subtree don't come before the second
-// bound.
+// Goes down a subtree to the leaf that answers a question. `common_prefix_len` is how many bytes
+// the first key of the subtree and the target of the first bound begin with in common. `clear` says
+// that the items after the subtree don't come before the second bound.
 fn descend<P: Bound, Q: Bound, const N: usize>(
     nodes: &Arena<Node<N>>,
     slot: Slot,
@@ -50,11 +53,14 @@ fn descend<P: Bound, Q: Bound, const N: usize>(
     common_prefix_len: usize,
     clear: bool,
 ) -> Approach
-    requires asked { IsAsked nodes.now (least_of N) height slot (P.bytes question.now.from) (P.below question.now.from)
+    requires asked { IsAsked nodes.now (least_of N) height slot (P.bytes question.now.from)
+        (P.below question.now.from)
         (Q.below question.now.to) }
-    requires known { IsCommonPrefixAt (P.bytes question.now.from) (P.below question.now.from) (P.target question.now.from) (Some common_prefix_len)
+    requires known { IsCommonPrefixAt (P.bytes question.now.from) (P.below question.now.from)
+        (P.target question.now.from) (Some common_prefix_len)
         (entries_at nodes.now slot) 0 }
-    ensures approach { IsApproach nodes.now height slot (P.bytes question.now.from) (P.below question.now.from)
+    ensures approach { IsApproach nodes.now height slot (P.bytes question.now.from)
+        (P.below question.now.from)
         (Q.below question.now.to) (P.target question.now.from) question.now.version clear result }
 {
     if height == 0 {
@@ -69,7 +75,8 @@ fn descend<P: Bound, Q: Bound, const N: usize>(
     let from_head = node.head_for(&question.from, common_prefix_len);
     let step = node.step_by(&question.from, common_prefix_len, from_head);
     let entry = entries[step.index];
-    // Above the lowest inner node the next entry is looked at only if the subtree decides the answer.
+    // Above the lowest inner node the next entry is looked at only if the subtree decides the
+    // answer.
     let look = height == 1 || entry.version <= question.version;
     let clear = is_clear(
         node,
@@ -100,11 +107,12 @@ fn descend<P: Bound, Q: Bound, const N: usize>(
     )
 }
 
-// Returns whether the items after the child at an index, that of the last entry below the first bound, don't come before the second
-// bound. `common_prefix_len` is how many bytes the first key of the node and the target of the first bound begin with in common, and
-// `from_head` is the head of that target, if it is known to begin as all keys do. `clear` says of the items after the node's what
-// this says of those after the child. Unless `look` is set, the next entry isn't looked at, and may be before the second
-// bound.
+// Returns whether the items after the child at an index, that of the last entry below the first
+// bound, don't come before the second bound. `common_prefix_len` is how many bytes the first key of
+// the node and the target of the first bound begin with in common, and `from_head` is the head of
+// that target, if it is known to begin as all keys do. `clear` says of the items after the node's
+// what this says of those after the child. Unless `look` is set, the next entry isn't looked at,
+// and may be before the second bound.
 fn is_clear<P: Bound, Q: Bound, const N: usize>(
     node: &Node<N>,
     index: usize,
@@ -114,11 +122,13 @@ fn is_clear<P: Bound, Q: Bound, const N: usize>(
     clear: bool,
     look: bool,
 ) -> bool
-    requires searched { IsSearched (P.bytes question.now.from) (P.below question.now.from) (P.target question.now.from) node.now
+    requires searched { IsSearched (P.bytes question.now.from) (P.below question.now.from)
+        (P.target question.now.from) node.now
         common_prefix_len from_head }
     requires within { index < length (entries_of node.now) }
     requires last_below { index ≡ index_in (P.below question.now.from) (entries_of node.now) }
-    ensures next { IsTrue result → (e : Entry) → slice_get (entries_of node.now) (index + 1) ≡ Some e
+    ensures next { IsTrue result → (e : Entry)
+        → slice_get (entries_of node.now) (index + 1) ≡ Some e
         → Q.below question.now.to e.key ≡ false }
     ensures last { IsTrue result → length (entries_of node.now) ≤ index + 1 → IsTrue clear }
 {
@@ -134,17 +144,19 @@ fn is_clear<P: Bound, Q: Bound, const N: usize>(
     !node.is_below_at(next, &question.to, head)
 }
 
-/// Returns the head of the target of the second bound, if it is known to begin as all keys of the node do. `from_head` is that of the
-/// first one's.
+/// Returns the head of the target of the second bound, if it is known to begin as all keys of the
+/// node do. `from_head` is that of the first one's.
 pub fn end_head<P: Bound, Q: Bound, const N: usize>(
     node: &Node<N>,
     question: &Question<P, Q>,
     common_prefix_len: usize,
     from_head: Option<u32>,
 ) -> Option<u32>
-    requires searched { IsSearched (P.bytes question.now.from) (P.below question.now.from) (P.target question.now.from) node.now
+    requires searched { IsSearched (P.bytes question.now.from) (P.below question.now.from)
+        (P.target question.now.from) node.now
         common_prefix_len from_head }
-    ensures head { HasHead (Q.bytes question.now.to) (Q.target question.now.to) result (key_heads_of node.now) }
+    ensures head { HasHead (Q.bytes question.now.to) (Q.target question.now.to) result
+        (key_heads_of node.now) }
 {
     let targets_prefix_len = question.targets_prefix_len;
     let has_prefix = from_head.is_some() && node.prefix_len() <= targets_prefix_len;
@@ -161,9 +173,11 @@ pub fn descend_from<P: Bound, Q: Bound, const N: usize>(
     root: Root,
     question: &Question<P, Q>,
 ) -> Approach
-    requires asked { IsAsked nodes.now (least_of N) root.height root.slot (P.bytes question.now.from)
+    requires asked { IsAsked nodes.now (least_of N) root.height root.slot
+        (P.bytes question.now.from)
         (P.below question.now.from) (Q.below question.now.to) }
-    ensures approach { IsApproach nodes.now root.height root.slot (P.bytes question.now.from) (P.below question.now.from)
+    ensures approach { IsApproach nodes.now root.height root.slot (P.bytes question.now.from)
+        (P.below question.now.from)
         (Q.below question.now.to) (P.target question.now.from) question.now.version true result }
 {
     let Root { slot, height } = root;

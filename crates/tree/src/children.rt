@@ -1,11 +1,14 @@
-//! A node whose child has changed: its entry for the child is made right, and the node is split or rebalanced where that is due.
+//! A node whose child has changed: its entry for the child is made right, and the node is split or
+//! rebalanced where that is due.
 
 ghost use Rattle.std.specs.Prelude.{◌≡◌, ◌<◌, ◌+◌, ◌⊎◌, ◌++◌, ℕ, [], take, drop, Some};
 ghost use Rattle.arena.specs.Arena.{spare_of};
-ghost use Rattle.tree.specs.Rebalancing.{CanInsertChild, CanRaise, CanRebalance, CanSplit, IsPlaced, IsStored, LosesOneAtMost};
+ghost use Rattle.tree.specs.Rebalancing.{CanInsertChild, CanRaise, CanRebalance, CanSplit};
+ghost use Rattle.tree.specs.Rebalancing.{IsPlaced, IsStored, LosesOneAtMost};
 ghost use Rattle.tree.specs.Subtree.{entries_at};
 ghost use Rattle.tree.specs.Tree.{least_of};
-ghost use Rattle.tree.specs.Children.{child_at, entries_at_both, HasRaisedEntry, IsFamilyAt, IsKeyless, IsLinked, IsRebalancedAt, TellsWritten};
+ghost use Rattle.tree.specs.Children.{child_at, entries_at_both, HasRaisedEntry, IsFamilyAt};
+ghost use Rattle.tree.specs.Children.{IsKeyless, IsLinked, IsRebalancedAt, TellsWritten};
 
 use crate::bound::Bound;
 use crate::entry::Entry;
@@ -14,8 +17,9 @@ use crate::rebalance::{entry_for, least, merge_or_redistribute};
 use crate::walk::{Outcome, RaisedLeaf};
 use arena::{Arena, Slot};
 
-/// Makes the entry at an index right in the node at a slot, whose child was split, and puts one for the child's right
-/// neighbour after it. Returns the slot of the node's own right neighbour if it is split, too.
+/// Makes the entry at an index right in the node at a slot, whose child was split, and puts one for
+/// the child's right neighbour after it. Returns the slot of the node's own right neighbour if it
+/// is split, too.
 pub fn insert_child<P: Bound, const N: usize>(
     nodes: &mut Arena<Node<N>>,
     slot: Slot,
@@ -24,7 +28,8 @@ pub fn insert_child<P: Bound, const N: usize>(
     bound: &P,
 ) -> Option<Slot>
     requires can_insert { CanInsertChild (P.bytes bound.now) nodes.old slot index added }
-    ensures linked { IsLinked nodes.old (child_at (entries_at nodes.old slot) index) added (take index (entries_at nodes.old slot))
+    ensures linked { IsLinked nodes.old (child_at (entries_at nodes.old slot) index) added
+        (take index (entries_at nodes.old slot))
         (drop (index + 1) (entries_at nodes.old slot)) (entries_at_both nodes.new slot result) }
     ensures stored { IsStored (P.bytes bound.now) nodes.old nodes.new slot result }
 {
@@ -55,8 +60,8 @@ pub fn insert_child<P: Bound, const N: usize>(
     None
 }
 
-/// Replaces the entries of a node from one index up to another, which splits it. Returns the slot of its right
-/// neighbour. The heads are set as by `splice_with_heads`.
+/// Replaces the entries of a node from one index up to another, which splits it. Returns the slot
+/// of its right neighbour. The heads are set as by `splice_with_heads`.
 pub fn split<P: Bound, const N: usize>(
     nodes: &mut Arena<Node<N>>,
     slot: Slot,
@@ -67,9 +72,11 @@ pub fn split<P: Bound, const N: usize>(
     have_prefix: bool,
     bound: &P,
 ) -> Slot
-    requires can_split { CanSplit (P.bytes bound.now) nodes.old slot from to new.now heads.now have_prefix }
+    requires can_split { CanSplit (P.bytes bound.now) nodes.old slot from to new.now heads.now
+        have_prefix }
     ensures entries { entries_at_both nodes.new slot (Some result)
-        ≡ take from (entries_at nodes.old slot) ++ (new.now ++ drop to (entries_at nodes.old slot)) }
+        ≡ take from (entries_at nodes.old slot)
+        ++ (new.now ++ drop to (entries_at nodes.old slot)) }
     ensures stored { IsStored (P.bytes bound.now) nodes.old nodes.new slot (Some result) }
 {
     let right = nodes
@@ -78,8 +85,8 @@ pub fn split<P: Bound, const N: usize>(
     place(nodes, right)
 }
 
-/// Makes the entry at an index right in the node at a slot, whose child has changed: where the node lies, unless the
-/// child has too few entries.
+/// Makes the entry at an index right in the node at a slot, whose child has changed: where the node
+/// lies, unless the child has too few entries.
 pub fn rebalance_child<P: Bound, const N: usize>(
     nodes: &mut Arena<Node<N>>,
     slot: Slot,
@@ -87,9 +94,11 @@ pub fn rebalance_child<P: Bound, const N: usize>(
     bound: &P,
 )
     requires can_rebalance { CanRebalance (P.bytes bound.now) nodes.old slot index }
-    ensures rebalanced { (height : ℕ) → IsFamilyAt nodes.old (least_of N) height slot index (index + 1)
+    ensures rebalanced { (height : ℕ)
+        → IsFamilyAt nodes.old (least_of N) height slot index (index + 1)
         → IsRebalancedAt nodes.old nodes.new (least_of N) height slot }
-    ensures rest { LosesOneAtMost (P.bytes bound.now) nodes.old nodes.new (entries_at nodes.old slot) (entries_at nodes.new slot) }
+    ensures rest { LosesOneAtMost (P.bytes bound.now) nodes.old nodes.new
+        (entries_at nodes.old slot) (entries_at nodes.new slot) }
 {
     let child = nodes.header_ref(slot).entries()[index].child;
     if nodes.header_ref(child).len() >= least(N) {
@@ -100,8 +109,8 @@ pub fn rebalance_child<P: Bound, const N: usize>(
     merge_or_redistribute(nodes, slot, index.saturating_sub(1), bound);
 }
 
-/// Makes the entry at an index right in the node at a slot, where an item came into this leaf of the entry's child, which has enough
-/// entries. Returns what became of the node.
+/// Makes the entry at an index right in the node at a slot, where an item came into this leaf of
+/// the entry's child, which has enough entries. Returns what became of the node.
 #[inline(always)]
 pub fn raise_entry<P: Bound, const N: usize>(
     nodes: &mut Arena<Node<N>>,
@@ -111,11 +120,15 @@ pub fn raise_entry<P: Bound, const N: usize>(
     bound: &P,
 ) -> Outcome
     requires can_raise { CanRaise (P.bytes bound.now) nodes.old slot index }
-    ensures rebalanced { (height : ℕ) → IsFamilyAt nodes.old (least_of N) height slot index (index + 1)
-        → TellsWritten nodes.old height slot index leaf.version → IsRebalancedAt nodes.old nodes.new (least_of N) height slot }
-    ensures rest { LosesOneAtMost (P.bytes bound.now) nodes.old nodes.new (entries_at nodes.old slot) (entries_at nodes.new slot) }
+    ensures rebalanced { (height : ℕ)
+        → IsFamilyAt nodes.old (least_of N) height slot index (index + 1)
+        → TellsWritten nodes.old height slot index leaf.version
+        → IsRebalancedAt nodes.old nodes.new (least_of N) height slot }
+    ensures rest { LosesOneAtMost (P.bytes bound.now) nodes.old nodes.new
+        (entries_at nodes.old slot) (entries_at nodes.new slot) }
     ensures outcome { (result ≡ Outcome.Changed)
-        ⊎ ((result ≡ Outcome.Raised leaf) × HasRaisedEntry nodes.old nodes.new slot index leaf.version) }
+        ⊎ ((result ≡ Outcome.Raised leaf)
+        × HasRaisedEntry nodes.old nodes.new slot index leaf.version) }
 {
     let entry = nodes.header_ref(slot).entries()[index];
     if entry.version > leaf.version {

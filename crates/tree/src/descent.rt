@@ -18,13 +18,15 @@ use arena::{Arena, Slot};
 #[derive(Clone, Copy, Debug)]
 pub struct Reached {
     pub leaf: Slot,
-    /// How many bytes the first key of the leaf and the target begin with in common, or none if that key isn't below the bound.
+    /// How many bytes the first key of the leaf and the target begin with in common, or none if
+    /// that key isn't below the bound.
     pub common_prefix_len: Option<usize>,
     /// The key of the first item after the leaf.
     pub behind: Option<Slot>,
 }
 
-/// Returns how many bytes the first key of a node and the target begin with in common, or none if that key isn't below the bound.
+/// Returns how many bytes the first key of a node and the target begin with in common, or none if
+/// that key isn't below the bound.
 #[inline(always)]
 pub fn common_prefix_len_at<P: Bound, const N: usize>(
     nodes: &Arena<Node<N>>,
@@ -34,14 +36,16 @@ pub fn common_prefix_len_at<P: Bound, const N: usize>(
     requires live { IsLive nodes.now slot }
     requires some { 1 ≤ length (entries_at nodes.now slot) }
     requires headed { AllAreHeads (P.bytes bound.now) (all_heads_of nodes.now) }
-    ensures known { IsCommonPrefixAt (P.bytes bound.now) (P.below bound.now) (P.target bound.now) result (entries_at nodes.now slot) 0 }
+    ensures known { IsCommonPrefixAt (P.bytes bound.now) (P.below bound.now) (P.target bound.now)
+        result (entries_at nodes.now slot) 0 }
 {
     nodes.header_ref(slot).first_common_prefix_len(bound)
 }
 
-/// Finds the leaf that has the last item below the bound, or else the first leaf. `common_prefix_len` is how many bytes the first
-/// key of the subtree and the target begin with in common, or none if that key isn't below the bound. `behind` is the key of the
-/// first item after the subtree.
+/// Finds the leaf that has the last item below the bound, or else the first leaf.
+/// `common_prefix_len` is how many bytes the first key of the subtree and the target begin with in
+/// common, or none if that key isn't below the bound. `behind` is the key of the first item after
+/// the subtree.
 pub fn find<P: Bound, const N: usize>(
     nodes: &Arena<Node<N>>,
     slot: Slot,
@@ -50,13 +54,17 @@ pub fn find<P: Bound, const N: usize>(
     common_prefix_len: Option<usize>,
     behind: Option<Slot>,
 ) -> Reached
-    requires can_reach { CanReach (P.bytes bound.now) (P.below bound.now) nodes.now (least_of N) height slot }
-    requires known { IsCommonPrefixAt (P.bytes bound.now) (P.below bound.now) (P.target bound.now) common_prefix_len (entries_at nodes.now slot) 0 }
+    requires can_reach { CanReach (P.bytes bound.now) (P.below bound.now) nodes.now (least_of N)
+        height slot }
+    requires known { IsCommonPrefixAt (P.bytes bound.now) (P.below bound.now) (P.target bound.now)
+        common_prefix_len (entries_at nodes.now slot) 0 }
     ensures leaf { result.leaf ≡ leaf_in nodes.now height slot (P.below bound.now) }
-    ensures known { IsCommonPrefixAt (P.bytes bound.now) (P.below bound.now) (P.target bound.now) result.common_prefix_len
+    ensures known { IsCommonPrefixAt (P.bytes bound.now) (P.below bound.now) (P.target bound.now)
+        result.common_prefix_len
         (entries_at nodes.now result.leaf) 0 }
     ensures some { 1 ≤ length (entries_at nodes.now result.leaf) }
-    ensures behind { result.behind ≡ first_key behind (behind_leaf nodes.now height slot (P.below bound.now)) }
+    ensures behind { result.behind
+        ≡ first_key behind (behind_leaf nodes.now height slot (P.below bound.now)) }
 {
     if height == 0 {
         return Reached {

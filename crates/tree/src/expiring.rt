@@ -1,6 +1,7 @@
 //! The removal of expired items, which say nothing any more.
 
-ghost use Rattle.std.specs.Prelude.{◌≡◌, ◌≢◌, ◌-◌, ◌≤◌, ◌<◌, ◌++◌, ◌↔◌, [], take, drop, length, map, IsTrue};
+ghost use Rattle.std.specs.Prelude.{◌≡◌, ◌≢◌, ◌-◌, ◌≤◌, ◌<◌, ◌++◌, ◌↔◌, [], take, drop, length};
+ghost use Rattle.std.specs.Prelude.{map, IsTrue};
 ghost use Rattle.tree.specs.Item.{item_of, version_of};
 ghost use Rattle.tree.specs.Heads.{AreHeads, KeyBytes};
 ghost use Rattle.tree.specs.Node.{entries_of, key_heads_of};
@@ -26,7 +27,8 @@ pub struct Removal {
     pub next: Option<Slot>,
 }
 
-/// A run of a leaf's items that begins with the last one below the bound, of which the expired ones are removed.
+/// A run of a leaf's items that begins with the last one below the bound, of which the expired ones
+/// are removed.
 #[derive(Debug, Drop)]
 pub struct Expiring<'a, P: Bound> {
     pub bound: &'a P,
@@ -87,8 +89,8 @@ impl<'a, P: Bound, const N: usize> LeafChange<N> for Expiring<'a, P> {
     ghost part = { λ t before items behind wanted. wanted };
 }
 
-// Looks at the entries of a leaf from one index up to another, and returns the result of a removal. `behind` is the key of the
-// item after the leaf.
+// Looks at the entries of a leaf from one index up to another, and returns the result of a removal.
+// `behind` is the key of the item after the leaf.
 fn look_at(entries: &[Entry], from: usize, to: usize, behind: Option<Slot>) -> Removal
     requires some { from < to }
     requires within { to ≤ length entries.now }
@@ -103,8 +105,8 @@ fn look_at(entries: &[Entry], from: usize, to: usize, behind: Option<Slot>) -> R
     }
 }
 
-// Returns whether the version of one of these entries and that of its predecessor are below `edge`. `before` is the version of
-// the entry before the first of them.
+// Returns whether the version of one of these entries and that of its predecessor are below `edge`.
+// `before` is the version of the entry before the first of them.
 fn has_expired(entries: &[Entry], edge: i64, before: i64) -> bool
     ensures expired { IsTrue result ↔ (expired edge before (map item_of entries.now) ≢ []) }
 {
@@ -118,8 +120,9 @@ fn has_expired(entries: &[Entry], edge: i64, before: i64) -> bool
     false
 }
 
-// Takes out those of the entries of a leaf from one index up to another whose version and predecessor's version are below `edge`,
-// into `taken`. `before` is the version of the entry before the first of them.
+// Takes out those of the entries of a leaf from one index up to another whose version and
+// predecessor's version are below `edge`, into `taken`. `before` is the version of the entry before
+// the first of them.
 fn remove_expired<const N: usize>(
     node: &mut Node<N>,
     from: usize,
@@ -134,8 +137,10 @@ fn remove_expired<const N: usize>(
     ensures kept { map item_of (entries_of node.new) ≡ map item_of (take from (entries_of node.old))
         ++ (unexpired edge before (map item_of (take (to - from) (drop from (entries_of node.old))))
         ++ map item_of (drop to (entries_of node.old))) }
-    ensures taken { map item_of taken.new.items ≡ expired edge before (map item_of (take (to - from) (drop from (entries_of node.old)))) }
-    ensures headed { (bytes : KeyBytes) → AreHeads bytes (key_heads_of node.old) → AreHeads bytes (key_heads_of node.new) }
+    ensures taken { map item_of taken.new.items
+        ≡ expired edge before (map item_of (take (to - from) (drop from (entries_of node.old)))) }
+    ensures headed { (bytes : KeyBytes) → AreHeads bytes (key_heads_of node.old)
+        → AreHeads bytes (key_heads_of node.new) }
 {
     let mut last = before;
     let mut kept = from;

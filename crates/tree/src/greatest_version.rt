@@ -1,6 +1,7 @@
 //! The greatest version from the last item before one bound up to another.
 
-ghost use Rattle.std.specs.Prelude.{◌≡◌, ◌<ℤ◌, ◌↔◌, ℕ, true, [], option_map, IfSome, IsTrue, MatchOption};
+ghost use Rattle.std.specs.Prelude.{◌≡◌, ◌<ℤ◌, ◌↔◌, ℕ, true, [], option_map, IfSome, IsTrue};
+ghost use Rattle.std.specs.Prelude.{MatchOption};
 ghost use Rattle.std.specs.List.{Any};
 ghost use Rattle.tree.specs.Finding.{CanFind, IsLowerBound};
 ghost use Rattle.tree.specs.Item.{IsGreatest, IsGreatestWith, greater_of, version_of};
@@ -14,9 +15,10 @@ use crate::entry::Entry;
 use crate::node::Node;
 use arena::{Arena, Slot};
 
-/// Returns the greatest of a version, which may be missing, and those of the items before the second bound, of those before the first
-/// one the last alone. If the first bound is missing, no item is before it; if the second one is, all are. Subtrees that have
-/// none above it are passed over.
+/// Returns the greatest of a version, which may be missing, and those of the items before the
+/// second bound, of those before the first one the last alone. If the first bound is missing, no
+/// item is before it; if the second one is, all are. Subtrees that have none above it are passed
+/// over.
 pub fn greatest<'a, P: Bound, Q: Bound, const N: usize>(
     nodes: &Arena<Node<N>>,
     slot: Slot,
@@ -26,10 +28,14 @@ pub fn greatest<'a, P: Bound, Q: Bound, const N: usize>(
     least: Option<i64>,
 ) -> Option<i64>
     requires subtree { IsSubtree nodes.now (least_of N) height slot }
-    requires from { IfSome from (λ p. CanReach (P.bytes p.now) (P.below p.now) nodes.now (least_of N) height slot) }
-    requires to { IfSome to (λ q. CanReach (Q.bytes q.now) (Q.below q.now) nodes.now (least_of N) height slot) }
-    requires nested { IfSome from (λ p. IfSome to (λ q. (key : ℕ) → P.below p.now key ≡ true → Q.below q.now key ≡ true)) }
-    ensures greatest { IsGreatestWith least (from_last (below_from (option_map (λ p. P.below p.now) from.entry))
+    requires from { IfSome from (λ p. CanReach (P.bytes p.now) (P.below p.now) nodes.now
+        (least_of N) height slot) }
+    requires to { IfSome to (λ q. CanReach (Q.bytes q.now) (Q.below q.now) nodes.now (least_of N)
+        height slot) }
+    requires nested { IfSome from (λ p. IfSome to (λ q. (key : ℕ) → P.below p.now key ≡ true
+        → Q.below q.now key ≡ true)) }
+    ensures greatest { IsGreatestWith least
+        (from_last (below_from (option_map (λ p. P.below p.now) from.entry))
         (option_map (λ q. Q.below q.now) to.entry) (items_in nodes.now height slot)) result }
 {
     let node = nodes.header_ref(slot);
@@ -70,7 +76,8 @@ pub fn any_above(entries: &[Entry], version: i64) -> bool
 // Returns how many of the entries of a node stand before the first bound: none where it is missing.
 fn begin_of<P: Bound, const N: usize>(node: &Node<N>, from: Option<&P>) -> usize
     requires can_find { IfSome from (λ p. CanFind (P.bytes p.now) (P.below p.now) node.now) }
-    ensures count { IsLowerBound (below_from (option_map (λ p. P.below p.now) from.entry)) node.now result }
+    ensures count { IsLowerBound (below_from (option_map (λ p. P.below p.now) from.entry)) node.now
+        result }
 {
     match from {
         Some(bound) => node.lower_bound(bound, node.first_common_prefix_len(bound)),
@@ -81,7 +88,8 @@ fn begin_of<P: Bound, const N: usize>(node: &Node<N>, from: Option<&P>) -> usize
 // Returns how many of the entries of a node stand before the second bound: all where it is missing.
 fn end_of<Q: Bound, const N: usize>(node: &Node<N>, to: Option<&Q>) -> usize
     requires can_find { IfSome to (λ q. CanFind (Q.bytes q.now) (Q.below q.now) node.now) }
-    ensures count { IsLowerBound (below_to (option_map (λ q. Q.below q.now) to.entry)) node.now result }
+    ensures count { IsLowerBound (below_to (option_map (λ q. Q.below q.now) to.entry)) node.now
+        result }
 {
     match to {
         Some(bound) => node.lower_bound(bound, node.first_common_prefix_len(bound)),
@@ -91,7 +99,8 @@ fn end_of<Q: Bound, const N: usize>(node: &Node<N>, to: Option<&Q>) -> usize
 
 // Returns the greatest version of the entries, or none if there is no entry.
 fn greatest_of(entries: &[Entry]) -> Option<i64>
-    ensures greatest { MatchOption result (entries.now ≡ []) (λ version. IsGreatest version_of version entries.now) }
+    ensures greatest { MatchOption result (entries.now ≡ [])
+        (λ version. IsGreatest version_of version entries.now) }
 {
     entries.iter().map(|entry| entry.version).max()
 }

@@ -1,8 +1,9 @@
 //! A B+-tree of items in the order of their keys, each with a version.
 //!
-//! Keys are slots of another arena: a [`Bound`] alone reads their bytes. A search looks for it: items are below it, or they aren't.
-//! Nodes are records of an arena of their own, named by slots. All leaves are at one depth. An entry for a child has the first key
-//! and the greatest version of its subtree.
+//! Keys are slots of another arena: a [`Bound`] alone reads their bytes. A search looks for it:
+//! items are below it, or they aren't. Nodes are records of an arena of their own, named by slots.
+//! All leaves are at one depth. An entry for a child has the first key and the greatest version of
+//! its subtree.
 #![tactic(auto)]
 
 mod approach;

@@ -21,8 +21,8 @@ pub struct Node<const N: usize> {
     len: usize,
     // How many bytes all keys but an empty one begin with in common, or fewer.
     prefix_len: u16,
-    // The head of each key, after these bytes. The greatest number follows the heads of the keys, so that a search need not look
-    // at the length.
+    // The head of each key, after these bytes. The greatest number follows the heads of the keys,
+    // so that a search need not look at the length.
     heads: [u32; N],
     entries: [Entry; N],
     ghost within: { len ≤ N },
@@ -30,7 +30,8 @@ pub struct Node<const N: usize> {
 }
 
 impl<const N: usize> Node<N> {
-    ghost use Rattle.std.specs.Prelude.{◌≡◌, ◌<◌, ◌+◌, ◌-◌, ◌*◌, ◌∷◌, ◌++◌, [], length, take, drop, slice_get, slice_set, Some};
+    ghost use Rattle.std.specs.Prelude.{◌≡◌, ◌<◌, ◌+◌, ◌-◌, ◌*◌, ◌∷◌, ◌++◌, [], length, take, drop};
+    ghost use Rattle.std.specs.Prelude.{slice_get, slice_set, Some};
     ghost use Rattle.std.specs.List.{copy_within};
     ghost use Rattle.tree.specs.Item.{IsGreatest, version_of};
     ghost use Rattle.tree.specs.Heads.{AreHeads, KeyBytes};
@@ -41,7 +42,8 @@ impl<const N: usize> Node<N> {
     pub fn of(entry: Entry) -> Self
         requires room { 1 ≤ N }
         ensures entries { entries_of result ≡ entry ∷ [] }
-        ensures key_heads { key_heads_of result ≡ record { keys = entry.key ∷ []; prefix_len = 0; heads = 0 ∷ [] } }
+        ensures key_heads { key_heads_of result
+            ≡ record { keys = entry.key ∷ []; prefix_len = 0; heads = 0 ∷ [] } }
     {
         let mut heads = [PADDING; N];
         heads[0] = 0;
@@ -80,7 +82,8 @@ impl<const N: usize> Node<N> {
     pub fn set(&mut self, index: usize, entry: Entry)
         requires within { index < length (entries_of self.old) }
         ensures entries { (entries_of self.new) ≡ slice_set (entries_of self.old) index entry }
-        ensures key_heads { key_heads_of self.new ≡ record (key_heads_of self.old) { keys = keys_of (entries_of self.new) } }
+        ensures key_heads { key_heads_of self.new
+            ≡ record (key_heads_of self.old) { keys = keys_of (entries_of self.new) } }
     {
         self.entries[index] = entry;
     }
@@ -91,7 +94,8 @@ impl<const N: usize> Node<N> {
         requires to { to < length (entries_of self.old) }
         ensures entries { (e : Entry) → slice_get (entries_of self.old) from ≡ Some e
             → (entries_of self.new) ≡ slice_set (entries_of self.old) to e }
-        ensures headed { (bytes : KeyBytes) → AreHeads bytes (key_heads_of self.old) → AreHeads bytes (key_heads_of self.new) }
+        ensures headed { (bytes : KeyBytes) → AreHeads bytes (key_heads_of self.old)
+            → AreHeads bytes (key_heads_of self.new) }
     {
         self.entries[to] = self.entries[from];
         self.heads[to] = self.heads[from];
@@ -101,22 +105,26 @@ impl<const N: usize> Node<N> {
     pub fn remove(&mut self, from: usize, to: usize)
         requires ordered { from ≤ to }
         requires within { to ≤ length (entries_of self.old) }
-        ensures entries { (entries_of self.new) ≡ take from (entries_of self.old) ++ drop to (entries_of self.old) }
-        ensures headed { (bytes : KeyBytes) → AreHeads bytes (key_heads_of self.old) → AreHeads bytes (key_heads_of self.new) }
+        ensures entries { (entries_of self.new)
+            ≡ take from (entries_of self.old) ++ drop to (entries_of self.old) }
+        ensures headed { (bytes : KeyBytes) → AreHeads bytes (key_heads_of self.old)
+            → AreHeads bytes (key_heads_of self.new) }
     {
         self.move_tail(to, from);
     }
 
-    // Moves the entries from an index on, with their heads, so that the first of them is at another index. The node ends
-    // after the last one.
+    // Moves the entries from an index on, with their heads, so that the first of them is at another
+    // index. The node ends after the last one.
     fn move_tail(&mut self, from: usize, to: usize)
         requires within { from ≤ length (entries_of self.old) }
         requires room { to + (length (entries_of self.old) - from) ≤ N }
         ensures len { self.new.len ≡ to + (self.old.len - from) }
         ensures prefix_len { self.new.prefix_len ≡ self.old.prefix_len }
         ensures size { length self.new.heads ≡ N }
-        ensures entries { take self.new.len self.new.entries ≡ take self.new.len (copy_within self.old.entries from self.old.len to) }
-        ensures heads { take self.new.len self.new.heads ≡ take self.new.len (copy_within self.old.heads from self.old.len to) }
+        ensures entries { take self.new.len self.new.entries
+            ≡ take self.new.len (copy_within self.old.entries from self.old.len to) }
+        ensures heads { take self.new.len self.new.heads
+            ≡ take self.new.len (copy_within self.old.heads from self.old.len to) }
     {
         let end = self.len;
         // The slots after the last entry are moved too, so that the loops have full turns.
@@ -136,9 +144,11 @@ impl<const N: usize> Node<N> {
         requires within { to ≤ length (entries_of self.old) }
         requires same_len { length heads.now ≡ length new.now }
         requires room { from + length new.now + (length (entries_of self.old) - to) ≤ N }
-        ensures entries { entries_of self.new ≡ take from (entries_of self.old) ++ (new.now ++ drop to (entries_of self.old)) }
+        ensures entries { entries_of self.new
+            ≡ take from (entries_of self.old) ++ (new.now ++ drop to (entries_of self.old)) }
         ensures heads { HasHeads self.old self.new
-            (take from (key_heads_of self.old).heads ++ (heads.now ++ drop to (key_heads_of self.old).heads)) }
+            (take from (key_heads_of self.old).heads
+            ++ (heads.now ++ drop to (key_heads_of self.old).heads)) }
     {
         let end = from + new.len();
         self.move_tail(to, end);
@@ -193,11 +203,12 @@ impl<const N: usize> Node<N> {
         right
     }
 
-    // Moves entries, with their heads, between two neighbours, of which this is the left one, so that their numbers differ by one at
-    // most.
+    // Moves entries, with their heads, between two neighbours, of which this is the left one, so
+    // that their numbers differ by one at most.
     fn redistribute(&mut self, right: &mut Node<N>)
         requires many { N < length (entries_of self.old) + length (entries_of right.old) }
-        ensures entries { (entries_of self.new) ++ (entries_of right.new) ≡ (entries_of self.old) ++ (entries_of right.old) }
+        ensures entries { (entries_of self.new) ++ (entries_of right.new)
+            ≡ (entries_of self.old) ++ (entries_of right.old) }
         ensures heads { ShareHeads self.old right.old self.new right.new }
         ensures filled { AreHalfFull N (entries_of self.new) (entries_of right.new) }
     {

@@ -17,9 +17,11 @@ use arrayvec::ArrayVec;
 /// How far the writing over a run has come.
 #[derive(Clone, Copy, Debug)]
 pub enum Written {
-    /// Items at the end of the run are taken out, of which the last one had this version. Nothing is put in.
+    /// Items at the end of the run are taken out, of which the last one had this version. Nothing
+    /// is put in.
     Partly { last: i64 },
-    /// The run is written over. `ended` tells whether an item had the key of the second new one, which was not put in.
+    /// The run is written over. `ended` tells whether an item had the key of the second new one,
+    /// which was not put in.
     Whole { ended: bool },
 }
 
@@ -49,13 +51,15 @@ pub struct Overwrite<'a, P: Bound, Q: Bound, R: Bound> {
     pub first: Entry,
     /// The key of the entry after it.
     pub second: Slot,
-    /// The version of that entry. If it is missing, that of the last item before the second bound is taken.
+    /// The version of that entry. If it is missing, that of the last item before the second bound
+    /// is taken.
     pub last: Option<i64>,
     ghost nested: { (key : ℕ) → P.below from.now key ≡ true → Q.below to.now key ≡ true },
     ghost outer: { (key : ℕ) → Q.below to.now key ≡ true → R.below past.now key ≡ true },
     ghost bytes: { (key : ℕ) → P.bytes from.now key ≡ Q.bytes to.now key },
     ghost past_bytes: { (key : ℕ) → R.bytes past.now key ≡ Q.bytes to.now key },
-    ghost common_prefix: { take targets_prefix_len (P.target from.now) ≡ take targets_prefix_len (Q.target to.now) },
+    ghost common_prefix: { take targets_prefix_len (P.target from.now)
+        ≡ take targets_prefix_len (Q.target to.now) },
     ghost past_target: { R.target past.now ≡ Q.target to.now },
     ghost first_is: { Q.bytes to.now first.key ≡ Some (P.target from.now) },
     ghost second_is: { Q.bytes to.now second ≡ Some (Q.target to.now) },

@@ -4,25 +4,28 @@ ghost use Rattle.std.specs.Prelude.{◌≡◌, ℕ, true, take};
 
 use crate::bound::Bound;
 
-/// How many questions are answered side by side at most: few enough that they and the nodes that are read for them fit into
-/// the first-level cache together.
+/// How many questions are answered side by side at most: few enough that they and the nodes that
+/// are read for them fit into the first-level cache together.
 pub const SIDE: usize = 16;
 
 const _: () = prove!(SIDE == 16);
 
-/// Asks whether a version of the items before the second bound, of those before the first one the last alone, is above this one.
+/// Asks whether a version of the items before the second bound, of those before the first one the
+/// last alone, is above this one.
 #[derive(Drop)]
 pub struct Question<P: Bound, Q: Bound> {
     pub from: P,
     pub to: Q,
     /// How many bytes the targets of the two bounds begin with in common, or fewer.
     pub targets_prefix_len: usize,
-    /// Says that each item below the second bound is below the first one, too, so that the last of these alone decides the answer.
-    /// It may be false although it is so.
+    /// Says that each item below the second bound is below the first one, too, so that the last of
+    /// these alone decides the answer. It may be false although it is so.
     pub is_single: bool,
     pub version: i64,
     ghost nested: { (key : ℕ) → P.below from key ≡ true → Q.below to key ≡ true },
-    ghost single: { is_single ≡ true → (key : ℕ) → Q.below to key ≡ true → P.below from key ≡ true },
+    ghost single: { is_single ≡ true → (key : ℕ) → Q.below to key ≡ true
+        → P.below from key ≡ true },
     ghost bytes: { (key : ℕ) → P.bytes from key ≡ Q.bytes to key },
-    ghost common_prefix: { take targets_prefix_len (P.target from) ≡ take targets_prefix_len (Q.target to) },
+    ghost common_prefix: { take targets_prefix_len (P.target from)
+        ≡ take targets_prefix_len (Q.target to) },
 }

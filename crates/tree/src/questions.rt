@@ -1,13 +1,16 @@
-//! How questions are answered side by side. Each goes down to its leaf, then each leaf is looked at for the first time, and then
-//! each question is answered. So the memory of the leaves is waited for at once.
+//! How questions are answered side by side. Each goes down to its leaf, then each leaf is looked at
+//! for the first time, and then each question is answered. So the memory of the leaves is waited
+//! for at once.
 
-ghost use Rattle.std.specs.Prelude.{◌≡◌, ◌≤◌, ◌<◌, ◌↔◌, true, false, length, map, Some, IfSome, IsTrue};
+ghost use Rattle.std.specs.Prelude.{◌≡◌, ◌≤◌, ◌<◌, ◌↔◌, true, false, length, map, Some, IfSome};
+ghost use Rattle.std.specs.Prelude.{IsTrue};
 ghost use Rattle.std.specs.List.{All, AllZip};
 ghost use Rattle.tree.specs.Finding.{IsLowerBound, IsHeadFor, IsSearched};
 ghost use Rattle.tree.specs.Heads.{AllAreHeads};
 ghost use Rattle.tree.specs.Node.{all_heads_of, entries_of};
 ghost use Rattle.tree.specs.Path.{IsPartitioned};
-ghost use Rattle.tree.specs.Question.{Exceeds, IsApproach, IsAsked, IsLeading, IsLooked, IsNear, IsTold};
+ghost use Rattle.tree.specs.Question.{Exceeds, IsApproach, IsAsked, IsLeading, IsLooked, IsNear};
+ghost use Rattle.tree.specs.Question.{IsTold};
 ghost use Rattle.tree.specs.Subtree.{items_in};
 ghost use Rattle.tree.specs.Tree.{least_of};
 ghost use Rattle.tree.specs.declared.question.TheConstants.{SIDE};
@@ -25,16 +28,19 @@ use arrayvec::ArrayVec;
 #[derive(Clone, Copy, Debug, Default)]
 pub struct Look {
     pub approach: Approach,
-    /// The head there of the target of the first bound, if it is known to begin as all keys of the leaf do.
+    /// The head there of the target of the first bound, if it is known to begin as all keys of the
+    /// leaf do.
     pub from_head: Option<u32>,
 }
 
 // Looks at the leaf to which a question leads, for the first time.
 fn look_at<P: Bound, const N: usize>(nodes: &Arena<Node<N>>, approach: &Approach, from: &P) -> Look
-    requires leading { IsLeading nodes.now (P.bytes from.now) (P.below from.now) (P.target from.now) approach.now }
+    requires leading { IsLeading nodes.now (P.bytes from.now) (P.below from.now) (P.target from.now)
+        approach.now }
     requires headed { AllAreHeads (P.bytes from.now) (all_heads_of nodes.now) }
     ensures approach { result.approach ≡ approach.now }
-    ensures looked { IsLooked nodes.now (P.bytes from.now) (P.target from.now) approach.now result.from_head }
+    ensures looked { IsLooked nodes.now (P.bytes from.now) (P.target from.now) approach.now
+        result.from_head }
 {
     let Approach::Leaf(near) = approach else {
         return Look {
@@ -49,19 +55,24 @@ fn look_at<P: Bound, const N: usize>(nodes: &Arena<Node<N>>, approach: &Approach
     }
 }
 
-// Answers a question if the leaf decides it. `from_head` is the result of the first look at the leaf.
+// Answers a question if the leaf decides it. `from_head` is the result of the first look at the
+// leaf.
 fn leaf_told<P: Bound, Q: Bound, const N: usize>(
     nodes: &Arena<Node<N>>,
     near: Near,
     question: &Question<P, Q>,
     from_head: Option<u32>,
 ) -> Option<bool>
-    requires asked { IsAsked nodes.now (least_of N) 0 near.leaf (P.bytes question.now.from) (P.below question.now.from)
+    requires asked { IsAsked nodes.now (least_of N) 0 near.leaf (P.bytes question.now.from)
+        (P.below question.now.from)
         (Q.below question.now.to) }
-    requires near { IsNear nodes.now (P.bytes question.now.from) (P.below question.now.from) (P.target question.now.from) near }
-    requires from_head { IfSome (all_heads_of nodes.now near.leaf) (IsHeadFor (P.bytes question.now.from) (P.target question.now.from)
+    requires near { IsNear nodes.now (P.bytes question.now.from) (P.below question.now.from)
+        (P.target question.now.from) near }
+    requires from_head { IfSome (all_heads_of nodes.now near.leaf)
+        (IsHeadFor (P.bytes question.now.from) (P.target question.now.from)
         near.common_prefix_len from_head) }
-    ensures told { IsTold (P.below question.now.from) (Q.below question.now.to) question.now.version near.clear
+    ensures told { IsTold (P.below question.now.from) (Q.below question.now.to) question.now.version
+        near.clear
         (items_in nodes.now 0 near.leaf) result }
 {
     let node = nodes.header_ref(near.leaf);
@@ -74,8 +85,8 @@ fn leaf_told<P: Bound, Q: Bound, const N: usize>(
     Some(any_above(&entries[begin - 1..end], question.version))
 }
 
-// Returns how many of the entries are below the second bound. `begin` is how many are below the first one, and `from_head` is the
-// head of the target of that one.
+// Returns how many of the entries are below the second bound. `begin` is how many are below the
+// first one, and `from_head` is the head of the target of that one.
 fn end_in<P: Bound, Q: Bound, const N: usize>(
     node: &Node<N>,
     begin: usize,
@@ -83,7 +94,8 @@ fn end_in<P: Bound, Q: Bound, const N: usize>(
     common_prefix_len: usize,
     from_head: Option<u32>,
 ) -> usize
-    requires searched { IsSearched (P.bytes question.now.from) (P.below question.now.from) (P.target question.now.from) node.now
+    requires searched { IsSearched (P.bytes question.now.from) (P.below question.now.from)
+        (P.target question.now.from) node.now
         common_prefix_len from_head }
     requires to { IsPartitioned (λ e. Q.below question.now.to e.key) (entries_of node.now) }
     requires begin { IsLowerBound (P.below question.now.from) node.now begin }
@@ -103,12 +115,17 @@ fn answer<P: Bound, Q: Bound, const N: usize>(
     question: &Question<P, Q>,
     look: Look,
 ) -> bool
-    requires asked { IsAsked nodes.now (least_of N) root.height root.slot (P.bytes question.now.from)
+    requires asked { IsAsked nodes.now (least_of N) root.height root.slot
+        (P.bytes question.now.from)
         (P.below question.now.from) (Q.below question.now.to) }
-    requires approach { IsApproach nodes.now root.height root.slot (P.bytes question.now.from) (P.below question.now.from)
-        (Q.below question.now.to) (P.target question.now.from) question.now.version true look.approach }
-    requires looked { IsLooked nodes.now (P.bytes question.now.from) (P.target question.now.from) look.approach look.from_head }
-    ensures above { IsTrue result ↔ Exceeds (P.below question.now.from) (Q.below question.now.to) question.now.version
+    requires approach { IsApproach nodes.now root.height root.slot (P.bytes question.now.from)
+        (P.below question.now.from)
+        (Q.below question.now.to) (P.target question.now.from) question.now.version true
+        look.approach }
+    requires looked { IsLooked nodes.now (P.bytes question.now.from) (P.target question.now.from)
+        look.approach look.from_head }
+    ensures above { IsTrue result ↔ Exceeds (P.below question.now.from) (Q.below question.now.to)
+        question.now.version
         (items_in nodes.now root.height root.slot) }
 {
     let Look {
@@ -131,9 +148,11 @@ fn exceeds<P: Bound, Q: Bound, const N: usize>(
     root: Root,
     question: &Question<P, Q>,
 ) -> bool
-    requires asked { IsAsked nodes.now (least_of N) root.height root.slot (P.bytes question.now.from)
+    requires asked { IsAsked nodes.now (least_of N) root.height root.slot
+        (P.bytes question.now.from)
         (P.below question.now.from) (Q.below question.now.to) }
-    ensures above { IsTrue result ↔ Exceeds (P.below question.now.from) (Q.below question.now.to) question.now.version
+    ensures above { IsTrue result ↔ Exceeds (P.below question.now.from) (Q.below question.now.to)
+        question.now.version
         (items_in nodes.now root.height root.slot) }
 {
     let Root { slot, height } = root;
@@ -149,10 +168,13 @@ pub fn descend_each<P: Bound, Q: Bound, const N: usize>(
     questions: &[Question<P, Q>],
 ) -> ArrayVec<Approach, SIDE>
     requires few { length questions.now ≤ SIDE }
-    requires asked { All (λ q. IsAsked nodes.now (least_of N) root.now.height root.now.slot (P.bytes q.from) (P.below q.from)
+    requires asked { All (λ q. IsAsked nodes.now (least_of N) root.now.height root.now.slot
+        (P.bytes q.from) (P.below q.from)
         (Q.below q.to)) questions.now }
-    ensures approaches { AllZip (λ q approach. IsApproach nodes.now root.now.height root.now.slot (P.bytes q.from)
-        (P.below q.from) (Q.below q.to) (P.target q.from) q.version true approach) questions.now result.items }
+    ensures approaches { AllZip (λ q approach. IsApproach nodes.now root.now.height root.now.slot
+        (P.bytes q.from)
+        (P.below q.from) (Q.below q.to) (P.target q.from) q.version true approach) questions.now
+        result.items }
 {
     let mut approaches = ArrayVec::new();
     for question in questions {
@@ -168,11 +190,14 @@ pub fn look_at_each<P: Bound, Q: Bound, const N: usize>(
     approaches: &[Approach],
 ) -> ArrayVec<Look, SIDE>
     requires few { length questions.now ≤ SIDE }
-    requires leading { AllZip (λ q approach. IsLeading nodes.now (P.bytes q.from) (P.below q.from) (P.target q.from) approach)
+    requires leading { AllZip (λ q approach. IsLeading nodes.now (P.bytes q.from) (P.below q.from)
+        (P.target q.from) approach)
         questions.now approaches.now }
-    requires headed { All (λ q. AllAreHeads (P.bytes q.from) (all_heads_of nodes.now)) questions.now }
+    requires headed { All (λ q. AllAreHeads (P.bytes q.from) (all_heads_of nodes.now))
+        questions.now }
     ensures approaches { map (λ l. l.approach) result.items ≡ approaches.now }
-    ensures looked { AllZip (λ q l. IsLooked nodes.now (P.bytes q.from) (P.target q.from) l.approach l.from_head)
+    ensures looked { AllZip (λ q l. IsLooked nodes.now (P.bytes q.from) (P.target q.from) l.approach
+        l.from_head)
         questions.now result.items }
 {
     let mut looks = ArrayVec::new();
@@ -190,12 +215,17 @@ pub fn answer_each<P: Bound, Q: Bound, const N: usize>(
     looks: &[Look],
 ) -> ArrayVec<bool, SIDE>
     requires few { length questions.now ≤ SIDE }
-    requires asked { All (λ q. IsAsked nodes.now (least_of N) root.now.height root.now.slot (P.bytes q.from) (P.below q.from)
+    requires asked { All (λ q. IsAsked nodes.now (least_of N) root.now.height root.now.slot
+        (P.bytes q.from) (P.below q.from)
         (Q.below q.to)) questions.now }
-    requires approach { AllZip (λ q l. IsApproach nodes.now root.now.height root.now.slot (P.bytes q.from)
-        (P.below q.from) (Q.below q.to) (P.target q.from) q.version true l.approach) questions.now looks.now }
-    requires looked { AllZip (λ q l. IsLooked nodes.now (P.bytes q.from) (P.target q.from) l.approach l.from_head) questions.now looks.now }
-    ensures told { AllZip (λ q above. IsTrue above ↔ Exceeds (P.below q.from) (Q.below q.to) q.version
+    requires approach { AllZip (λ q l. IsApproach nodes.now root.now.height root.now.slot
+        (P.bytes q.from)
+        (P.below q.from) (Q.below q.to) (P.target q.from) q.version true l.approach) questions.now
+        looks.now }
+    requires looked { AllZip (λ q l. IsLooked nodes.now (P.bytes q.from) (P.target q.from)
+        l.approach l.from_head) questions.now looks.now }
+    ensures told { AllZip (λ q above. IsTrue above
+        ↔ Exceeds (P.below q.from) (Q.below q.to) q.version
         (items_in nodes.now root.now.height root.now.slot)) questions.now result.items }
 {
     let mut answers = ArrayVec::new();

@@ -16,7 +16,8 @@ use crate::entry::Entry;
 use crate::node::Node;
 use arena::{Arena, Slot};
 
-/// Returns the least number of entries of a node that isn't the root: half of the greatest, but two at least.
+/// Returns the least number of entries of a node that isn't the root: half of the greatest, but two
+/// at least.
 pub fn least(fan_out: usize) -> usize
     ensures least { result ≡ least_of fan_out }
 {
@@ -28,8 +29,10 @@ pub fn entry_for<const N: usize>(nodes: &Arena<Node<N>>, child: Slot) -> Entry
     requires live { IsLive nodes.now child }
     requires some { 0 < length (entries_at nodes.now child) }
     ensures child { result.child ≡ child }
-    ensures tells { (height least : ℕ) → IsSubtree nodes.now least height child → Tells result (items_in nodes.now height child) }
-    ensures known { (bytes : KeyBytes) → AllAreHeads bytes (all_heads_of nodes.now) → IsKnown bytes result.key }
+    ensures tells { (height least : ℕ) → IsSubtree nodes.now least height child
+        → Tells result (items_in nodes.now height child) }
+    ensures known { (bytes : KeyBytes) → AllAreHeads bytes (all_heads_of nodes.now)
+        → IsKnown bytes result.key }
 {
     let node = nodes.header_ref(child);
     Entry {
@@ -39,8 +42,8 @@ pub fn entry_for<const N: usize>(nodes: &Arena<Node<N>>, child: Slot) -> Entry
     }
 }
 
-/// Merges the child at an index of the node at a slot and the next child, or shares their entries evenly if there are too many
-/// for one node.
+/// Merges the child at an index of the node at a slot and the next child, or shares their entries
+/// evenly if there are too many for one node.
 pub fn merge_or_redistribute<P: Bound, const N: usize>(
     nodes: &mut Arena<Node<N>>,
     slot: Slot,
@@ -48,9 +51,11 @@ pub fn merge_or_redistribute<P: Bound, const N: usize>(
     bound: &P,
 )
     requires can_merge { CanMerge (P.bytes bound.now) nodes.old slot index }
-    ensures rebalanced { (height : ℕ) → IsFamilyAt nodes.old (least_of N) height slot index (index + 2)
+    ensures rebalanced { (height : ℕ)
+        → IsFamilyAt nodes.old (least_of N) height slot index (index + 2)
         → IsRebalancedAt nodes.old nodes.new (least_of N) height slot }
-    ensures rest { LosesOneAtMost (P.bytes bound.now) nodes.old nodes.new (entries_at nodes.old slot) (entries_at nodes.new slot) }
+    ensures rest { LosesOneAtMost (P.bytes bound.now) nodes.old nodes.new
+        (entries_at nodes.old slot) (entries_at nodes.new slot) }
 {
     let entries = nodes.header_ref(slot).entries();
     let first = entries[index].child;
@@ -76,7 +81,8 @@ pub fn merge_or_redistribute<P: Bound, const N: usize>(
 fn merge<P: Bound, const N: usize>(nodes: &mut Arena<Node<N>>, first: Slot, second: Slot, bound: &P)
     requires two { AreTwo (P.bytes bound.now) nodes.old first second }
     requires room { length (entries_at nodes.old first) + length (entries_at nodes.old second) ≤ N }
-    ensures entries { entries_at nodes.new first ≡ entries_at nodes.old first ++ entries_at nodes.old second }
+    ensures entries { entries_at nodes.new first
+        ≡ entries_at nodes.old first ++ entries_at nodes.old second }
     ensures changes { Changes nodes.old nodes.new (first ∷ second ∷ []) (first ∷ []) }
     ensures headed { AllAreHeads (P.bytes bound.now) (all_heads_of nodes.new) }
 {

@@ -1,5 +1,6 @@
-//! A write into the leaf of the write before it: the writes of a batch come in the order of their keys, those of one leaf one after the
-//! other, so that one walk leads to it, and those that continue there need no other.
+//! A write into the leaf of the write before it: the writes of a batch come in the order of their
+//! keys, those of one leaf one after the other, so that one walk leads to it, and those that
+//! continue there need no other.
 
 ghost use Rattle.std.specs.Prelude.{◌≡◌, MatchOption, IfSome, map};
 ghost use Rattle.tree.specs.Item.{item_of};
@@ -15,19 +16,23 @@ use crate::walk::RaisedLeaf;
 use arena::Arena;
 use arrayvec::ArrayVec;
 
-/// Writes over a run in the leaf of the write before, which had the same version, so that no entry above has to be changed. Returns
-/// whether an item had the key of the second new one. If the run isn't sure to be there, or the leaf would get too many entries
-/// or too few, it changes nothing, and returns none.
+/// Writes over a run in the leaf of the write before, which had the same version, so that no entry
+/// above has to be changed. Returns whether an item had the key of the second new one. If the run
+/// isn't sure to be there, or the leaf would get too many entries or too few, it changes nothing,
+/// and returns none.
 pub fn write_in_leaf<P: Bound, Q: Bound, R: Bound, const N: usize>(
     nodes: &mut Arena<Node<N>>,
     leaf: RaisedLeaf,
     new: &Overwrite<'_, P, Q, R>,
     taken: &mut ArrayVec<Entry, N>,
 ) -> Option<bool>
-    requires can_write { CanWriteInLeaf (P.below new.now.from.now) (Q.below new.now.to.now) (Q.bytes new.now.to.now) nodes.old leaf.slot
+    requires can_write { CanWriteInLeaf (P.below new.now.from.now) (Q.below new.now.to.now)
+        (Q.bytes new.now.to.now) nodes.old leaf.slot
         taken.old.items }
-    ensures written { MatchOption result ((nodes.new ≡ nodes.old) × (taken.new.items ≡ taken.old.items))
-        (λ ended. (new.now.first.version ≡ leaf.version) × IsWrittenInLeaf (P.below new.now.from.now) (Q.below new.now.to.now)
+    ensures written { MatchOption result ((nodes.new ≡ nodes.old)
+        × (taken.new.items ≡ taken.old.items))
+        (λ ended. (new.now.first.version ≡ leaf.version)
+        × IsWrittenInLeaf (P.below new.now.from.now) (Q.below new.now.to.now)
         (R.below new.now.past.now) (item_of new.now.first) new.now.second new.now.last ended (Q.bytes new.now.to.now)
         (map item_of taken.new.items) nodes.old nodes.new leaf.slot) }
 {
@@ -43,15 +48,18 @@ pub fn write_in_leaf<P: Bound, Q: Bound, R: Bound, const N: usize>(
     Some(run.ended)
 }
 
-// Finds the run among the entries of a leaf, if it is sure to stand between two of them, and the leaf keeps enough entries and has room
-// for two more. The key of the entry at `index`, which may be any, tells whether the targets begin as all keys do.
+// Finds the run among the entries of a leaf, if it is sure to stand between two of them, and the
+// leaf keeps enough entries and has room for two more. The key of the entry at `index`, which may
+// be any, tells whether the targets begin as all keys do.
 fn find_run<P: Bound, Q: Bound, R: Bound, const N: usize>(
     leaf: &Node<N>,
     index: usize,
     new: &Overwrite<'_, P, Q, R>,
 ) -> Option<Run>
-    requires can_find { CanFindRun (P.below new.now.from.now) (Q.below new.now.to.now) (Q.bytes new.now.to.now) leaf.now }
-    ensures run { IfSome result (λ run. IsFoundRun (P.bytes new.now.from.now) (Q.bytes new.now.to.now) (P.below new.now.from.now)
+    requires can_find { CanFindRun (P.below new.now.from.now) (Q.below new.now.to.now)
+        (Q.bytes new.now.to.now) leaf.now }
+    ensures run { IfSome result (λ run. IsFoundRun (P.bytes new.now.from.now)
+        (Q.bytes new.now.to.now) (P.below new.now.from.now)
         (Q.below new.now.to.now) (R.below new.now.past.now) (P.target new.now.from.now) (Q.target new.now.to.now) new.now.last leaf.now
         run) }
 {

@@ -36,8 +36,10 @@ pub struct Root {
 
 // Finds the leaf that has the last item below the bound, or else the first leaf.
 fn reach<P: Bound, const N: usize>(nodes: &Arena<Node<N>>, root: Root, bound: &P) -> Reached
-    requires can_reach { CanReach (P.bytes bound.now) (P.below bound.now) nodes.now (least_of N) root.height root.slot }
-    ensures reached { IsReached (P.bytes bound.now) (P.below bound.now) (P.target bound.now) nodes.now root.height root.slot result }
+    requires can_reach { CanReach (P.bytes bound.now) (P.below bound.now) nodes.now (least_of N)
+        root.height root.slot }
+    ensures reached { IsReached (P.bytes bound.now) (P.below bound.now) (P.target bound.now)
+        nodes.now root.height root.slot result }
 {
     let common_prefix_len = common_prefix_len_at(nodes, root.slot, bound);
     find(
@@ -56,10 +58,14 @@ pub fn last_and_next<P: Bound, const N: usize>(
     root: Root,
     bound: &P,
 ) -> (Option<Entry>, Option<Slot>)
-    requires can_reach { CanReach (P.bytes bound.now) (P.below bound.now) nodes.now (least_of N) root.height root.slot }
-    ensures last { MatchOption result.0 (items_below (P.below bound.now) (items_in nodes.now root.height root.slot) ≡ [])
-        (λ e. IsLast (item_of e) (items_below (P.below bound.now) (items_in nodes.now root.height root.slot))) }
-    ensures next { result.1 ≡ first_key None (behind (P.below bound.now) (items_in nodes.now root.height root.slot)) }
+    requires can_reach { CanReach (P.bytes bound.now) (P.below bound.now) nodes.now (least_of N)
+        root.height root.slot }
+    ensures last { MatchOption result.0
+        (items_below (P.below bound.now) (items_in nodes.now root.height root.slot) ≡ [])
+        (λ e. IsLast (item_of e) (items_below (P.below bound.now)
+        (items_in nodes.now root.height root.slot))) }
+    ensures next { result.1 ≡ first_key None
+        (behind (P.below bound.now) (items_in nodes.now root.height root.slot)) }
 {
     let reached = reach(nodes, root, bound);
     let leaf = nodes.header_ref(reached.leaf);
@@ -71,8 +77,9 @@ pub fn last_and_next<P: Bound, const N: usize>(
     )
 }
 
-/// Changes a leaf of a tree, and puts the entries that are taken out into `taken`. A root that is split gets one above
-/// it, and one with a single child gives its place to the child. Returns the leaf if the next write may continue there.
+/// Changes a leaf of a tree, and puts the entries that are taken out into `taken`. A root that is
+/// split gets one above it, and one with a single child gives its place to the child. Returns the
+/// leaf if the next write may continue there.
 pub fn change<C: LeafChange<N>, const N: usize>(
     nodes: &mut Arena<Node<N>>,
     root: &mut Root,
@@ -80,12 +87,16 @@ pub fn change<C: LeafChange<N>, const N: usize>(
     taken: &mut ArrayVec<Entry, N>,
     way: &mut Way,
 ) -> Option<RaisedLeaf>
-    requires can_change { CanChangeBy (C.LeafBound.bytes (C.bound_of change.old)) (C.LeafBound.below (C.bound_of change.old))
+    requires can_change { CanChangeBy (C.LeafBound.bytes (C.bound_of change.old))
+        (C.LeafBound.below (C.bound_of change.old))
         (C.wants change.old) nodes.old root.old.slot root.old.height taken.old.items }
-    ensures items { IsChangedWithin (C.LeafBound.below (C.bound_of change.old)) (C.gives change.old change.new (map item_of taken.new.items))
+    ensures items { IsChangedWithin (C.LeafBound.below (C.bound_of change.old))
+        (C.gives change.old change.new (map item_of taken.new.items))
         true None
-        (items_in nodes.old root.old.height root.old.slot) (items_in nodes.new root.new.height root.new.slot) }
-    ensures tree { IsNewTree (C.LeafBound.bytes (C.bound_of change.old)) nodes.old nodes.new root.new.slot root.new.height result }
+        (items_in nodes.old root.old.height root.old.slot)
+        (items_in nodes.new root.new.height root.new.slot) }
+    ensures tree { IsNewTree (C.LeafBound.bytes (C.bound_of change.old)) nodes.old nodes.new
+        root.new.slot root.new.height result }
 {
     let place = Place {
         common_prefix_len: common_prefix_len_at(nodes, root.slot, change.leaf_bound()),
@@ -106,8 +117,8 @@ pub fn change<C: LeafChange<N>, const N: usize>(
     }
 }
 
-/// Writes over a run of a tree, and puts the removed entries into `taken`: in the leaf of the last write, if it continues
-/// there, or else by a walk. `raised` is that leaf, if there is one.
+/// Writes over a run of a tree, and puts the removed entries into `taken`: in the leaf of the last
+/// write, if it continues there, or else by a walk. `raised` is that leaf, if there is one.
 pub fn overwrite<P: Bound, Q: Bound, R: Bound, const N: usize>(
     nodes: &mut Arena<Node<N>>,
     root: &mut Root,
@@ -116,13 +127,17 @@ pub fn overwrite<P: Bound, Q: Bound, R: Bound, const N: usize>(
     taken: &mut ArrayVec<Entry, N>,
     way: &mut Way,
 ) -> Written
-    requires can_change { CanChangeBy (Q.bytes new.now.to.now) (Q.below new.now.to.now) (IsPartOfPartitioned (P.below new.now.from.now))
+    requires can_change { CanChangeBy (Q.bytes new.now.to.now) (Q.below new.now.to.now)
+        (IsPartOfPartitioned (P.below new.now.from.now))
         nodes.old root.old.slot root.old.height taken.old.items }
     requires raised { IsRaisedInTree nodes.old root.old.slot root.old.height raised.old }
-    ensures items { IsChangedWithin (Q.below new.now.to.now) (GivesWritten (P.below new.now.from.now) (Q.below new.now.to.now)
+    ensures items { IsChangedWithin (Q.below new.now.to.now)
+        (GivesWritten (P.below new.now.from.now) (Q.below new.now.to.now)
         (R.below new.now.past.now) (item_of new.now.first) new.now.second new.now.last result (map item_of taken.new.items)) true None
-        (items_in nodes.old root.old.height root.old.slot) (items_in nodes.new root.new.height root.new.slot) }
-    ensures tree { IsNewTree (Q.bytes new.now.to.now) nodes.old nodes.new root.new.slot root.new.height raised.new }
+        (items_in nodes.old root.old.height root.old.slot)
+        (items_in nodes.new root.new.height root.new.slot) }
+    ensures tree { IsNewTree (Q.bytes new.now.to.now) nodes.old nodes.new root.new.slot
+        root.new.height raised.new }
 {
     if let Some(leaf) = *raised {
         if let Some(ended) = write_in_leaf(nodes, leaf, new, taken) {
@@ -145,8 +160,10 @@ fn grow<P: Bound, const N: usize>(
     bound: &P,
 ) -> Root
     requires can_grow { CanGrow (P.bytes bound.now) nodes.old root.height root.slot added }
-    ensures items { items_in nodes.new result.height result.slot ≡ items_with nodes.old root.height root.slot (Some added) }
-    ensures tree { IsNewTree (P.bytes bound.now) nodes.old nodes.new result.slot result.height None }
+    ensures items { items_in nodes.new result.height result.slot
+        ≡ items_with nodes.old root.height root.slot (Some added) }
+    ensures tree { IsNewTree (P.bytes bound.now) nodes.old nodes.new result.slot result.height
+        None }
 {
     let mut node = Node::of(entry_for(nodes, root.slot));
     node.splice(1, 1, &[entry_for(nodes, added)], &[0]);
@@ -160,7 +177,8 @@ fn grow<P: Bound, const N: usize>(
 // Makes the only child of a root the root.
 fn shrink<const N: usize>(nodes: &mut Arena<Node<N>>, root: Root) -> Root
     requires can_shrink { CanShrink nodes.old root.height root.slot }
-    ensures items { items_in nodes.new result.height result.slot ≡ items_in nodes.old root.height root.slot }
+    ensures items { items_in nodes.new result.height result.slot
+        ≡ items_in nodes.old root.height root.slot }
     ensures tree { (bytes : KeyBytes) → AllAreHeads bytes (all_heads_of nodes.old)
         → IsNewTree bytes nodes.old nodes.new result.slot result.height None }
 {

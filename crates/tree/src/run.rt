@@ -1,6 +1,7 @@
 //! The run of a leaf's entries that is written over, and what comes in its place.
 
-ghost use Rattle.std.specs.Prelude.{◌≡◌, ◌≤◌, ◌+◌, ◌-◌, ◌++◌, ◌∷◌, length, take, drop, map, None, unwrap_or};
+ghost use Rattle.std.specs.Prelude.{◌≡◌, ◌≤◌, ◌+◌, ◌-◌, ◌++◌, ◌∷◌, length, take, drop, map, None};
+ghost use Rattle.std.specs.Prelude.{unwrap_or};
 ghost use Rattle.tree.specs.Item.{item_of};
 ghost use Rattle.tree.specs.Rebalancing.{IsStored};
 ghost use Rattle.tree.specs.Children.{items_with};
@@ -42,8 +43,9 @@ pub fn put_taken<const N: usize>(taken: &mut ArrayVec<Entry, N>, run: &[Entry])
     }
 }
 
-/// Replaces the run by the new entries. `last` is the version of the last entry before the second bound. Returns the slot of the
-/// leaf's right neighbour where there is no room for all, so that it is split.
+/// Replaces the run by the new entries. `last` is the version of the last entry before the second
+/// bound. Returns the slot of the leaf's right neighbour where there is no room for all, so that it
+/// is split.
 #[inline(always)]
 pub fn write_run<P: Bound, Q: Bound, R: Bound, const N: usize>(
     nodes: &mut Arena<Node<N>>,
@@ -52,13 +54,18 @@ pub fn write_run<P: Bound, Q: Bound, R: Bound, const N: usize>(
     run: Run,
     last: i64,
 ) -> Option<Slot>
-    requires can_write { CanWriteRun (P.bytes new.now.from.now) (Q.bytes new.now.to.now) (P.below new.now.from.now)
-        (Q.below new.now.to.now) (P.target new.now.from.now) (Q.target new.now.to.now) nodes.old slot run }
-    ensures written { items_with nodes.new 0 slot result ≡ map item_of (take run.begin (entries_at nodes.old slot))
-        ++ (item_of new.now.first ∷ ended_by run.ended (record { key = new.now.second; version = unwrap_or new.now.last last })
+    requires can_write { CanWriteRun (P.bytes new.now.from.now) (Q.bytes new.now.to.now)
+        (P.below new.now.from.now)
+        (Q.below new.now.to.now) (P.target new.now.from.now) (Q.target new.now.to.now) nodes.old
+        slot run }
+    ensures written { items_with nodes.new 0 slot result
+        ≡ map item_of (take run.begin (entries_at nodes.old slot))
+        ++ (item_of new.now.first ∷ ended_by run.ended
+        (record { key = new.now.second; version = unwrap_or new.now.last last })
         ++ map item_of (drop run.end (entries_at nodes.old slot))) }
     ensures stored { IsStored (Q.bytes new.now.to.now) nodes.old nodes.new slot result }
-    ensures fits { run.begin + 2 + (length (entries_at nodes.old slot) - run.end) ≤ N → result ≡ None }
+    ensures fits { run.begin + 2 + (length (entries_at nodes.old slot) - run.end) ≤ N
+        → result ≡ None }
 {
     let entries = [new.first, item(new.second, new.last.unwrap_or(last))];
     let entries = if run.ended {

@@ -1,6 +1,7 @@
 //! The tree.
 
-ghost use Rattle.std.specs.Prelude.{◌≡◌, ◌≢◌, ◌<◌, ◌≤◌, ◌↔◌, ◌+◌, ◌-◌, ◌∷◌, ℕ, [], true, length, map, OnErr, OnOk, IfOk, IsOkUnless, IsTrue, MatchOption};
+ghost use Rattle.std.specs.Prelude.{◌≡◌, ◌≢◌, ◌<◌, ◌≤◌, ◌↔◌, ◌+◌, ◌-◌, ◌∷◌, ℕ, [], true, length};
+ghost use Rattle.std.specs.Prelude.{map, OnErr, OnOk, IfOk, IsOkUnless, IsTrue, MatchOption};
 ghost use Rattle.std.specs.List.{All, AllZip};
 ghost use Rattle.tree.specs.Item.{item_of, IsGreatest};
 ghost use Rattle.tree.specs.Heads.{AllAreHeads, KeyBytes};
@@ -29,11 +30,12 @@ use std::alloc::Global;
 use std::fmt;
 use std::marker::Model;
 
-// How many nodes a change may use beyond those that the items need. No leaf has more than 62 nodes above it.
+// How many nodes a change may use beyond those that the items need. No leaf has more than 62 nodes
+// above it.
 const WAY: usize = 66;
 
-/// Items in the order of their keys, at least one. Contracts see the items, for how many nodes are reserved, and what
-/// the nodes know of the bytes of keys.
+/// Items in the order of their keys, at least one. Contracts see the items, for how many nodes are
+/// reserved, and what the nodes know of the bytes of keys.
 #[derive(Drop)]
 pub struct Tree<const N: usize> {
     nodes: Arena<Node<N>>,
@@ -80,9 +82,11 @@ impl<const N: usize> Tree<N> {
     pub fn new(alloc: Global, key: Slot, version: i64) -> Result<Self, ArenaError>
         requires fan_out { 4 ≤ N }
         requires few { N ≤ 65536 }
-        ensures items { IfOk result (λ tree. tree.items ≡ (record { key = key; version = version }) ∷ []) }
+        ensures items { IfOk result (λ tree. tree.items
+            ≡ (record { key = key; version = version }) ∷ []) }
         ensures room { IfOk result (λ tree. tree.room ≡ 1) }
-        ensures headed { IfOk result (λ tree. (bytes : KeyBytes) → bytes key ≡ Some [] → AllAreHeads bytes (tree_heads tree)) }
+        ensures headed { IfOk result (λ tree. (bytes : KeyBytes) → bytes key ≡ Some []
+            → AllAreHeads bytes (tree_heads tree)) }
         ensures memory { IsOkUnless result ArenaError.Memory }
     {
         let mut nodes = Arena::new(alloc);
@@ -139,17 +143,21 @@ impl<const N: usize> Tree<N> {
         last_and_next(&self.nodes, self.root, bound)
     }
 
-    /// Returns for each question, in their order, whether a version of the items before its second bound, of those before its first
-    /// one the last alone, is above its own. There are at most [`SIDE`], and they are answered side by side. It takes no memory.
+    /// Returns for each question, in their order, whether a version of the items before its second
+    /// bound, of those before its first one the last alone, is above its own. There are at most
+    /// [`SIDE`], and they are answered side by side. It takes no memory.
     pub fn exceeds_each<P: Bound, Q: Bound>(
         &self,
         questions: &[Question<P, Q>],
     ) -> ArrayVec<bool, SIDE>
         requires few { length questions.now ≤ SIDE }
-        requires from { All (λ q. CanSearchItems (P.below q.from) (P.bytes q.from) self.now) questions.now }
-        requires to { All (λ q. IsPartitioned (λ x. Q.below q.to x.key) self.now.items) questions.now }
+        requires from { All (λ q. CanSearchItems (P.below q.from) (P.bytes q.from) self.now)
+            questions.now }
+        requires to { All (λ q. IsPartitioned (λ x. Q.below q.to x.key) self.now.items)
+            questions.now }
         requires some { All (λ q. items_below (P.below q.from) self.now.items ≢ []) questions.now }
-        ensures told { AllZip (λ q above. IsTrue above ↔ Exceeds (P.below q.from) (Q.below q.to) q.version self.now.items)
+        ensures told { AllZip (λ q above. IsTrue above
+            ↔ Exceeds (P.below q.from) (Q.below q.to) q.version self.now.items)
             questions.now result.items }
     {
         let approaches = descend_each(&self.nodes, &self.root, questions);
@@ -157,8 +165,8 @@ impl<const N: usize> Tree<N> {
         answer_each(&self.nodes, &self.root, questions, looks.as_slice())
     }
 
-    /// Returns the greatest version of the items before the second bound, of those before the first one the last alone, of which
-    /// there is one.
+    /// Returns the greatest version of the items before the second bound, of those before the first
+    /// one the last alone, of which there is one.
     pub fn greatest<'a, P: Bound, Q: Bound>(&self, from: &'a P, to: &'a Q) -> i64
         requires from { CanSearchItems (P.below from.now) (P.bytes from.now) self.now }
         requires to { CanSearchItems (Q.below to.now) (Q.bytes to.now) self.now }
@@ -171,19 +179,23 @@ impl<const N: usize> Tree<N> {
         greatest(&self.nodes, slot, height, Some(from), Some(to), None).unwrap()
     }
 
-    /// Replaces the items from one bound to another by an item. Adds a second one after it, with the version of the last item
-    /// before the other bound if none is given, unless an item is between that bound and a third one. If more than one
-    /// leaf has those items and the one before them, it only takes out those that the last of these leaves has. Puts the entries
-    /// that are taken out into `taken`.
+    /// Replaces the items from one bound to another by an item. Adds a second one after it, with
+    /// the version of the last item before the other bound if none is given, unless an item is
+    /// between that bound and a third one. If more than one leaf has those items and the one before
+    /// them, it only takes out those that the last of these leaves has. Puts the entries that are
+    /// taken out into `taken`.
     pub fn overwrite<P: Bound, Q: Bound, R: Bound>(
         &mut self,
         new: &Overwrite<'_, P, Q, R>,
         taken: &mut ArrayVec<Entry, N>,
     ) -> Written
-        requires can_overwrite { CanOverwrite (P.below new.now.from.now) (Q.below new.now.to.now) (R.below new.now.past.now)
+        requires can_overwrite { CanOverwrite (P.below new.now.from.now) (Q.below new.now.to.now)
+            (R.below new.now.past.now)
             (Q.bytes new.now.to.now) self.old taken.old.items }
-        ensures items { Overwrites (P.below new.now.from.now) (Q.below new.now.to.now) (R.below new.now.past.now)
-            (item_of new.now.first) new.now.second new.now.last result (map item_of taken.new.items) self.old.items self.new.items }
+        ensures items { Overwrites (P.below new.now.from.now) (Q.below new.now.to.now)
+            (R.below new.now.past.now)
+            (item_of new.now.first) new.now.second new.now.last result (map item_of taken.new.items)
+            self.old.items self.new.items }
         ensures room { self.new.room ≡ self.old.room }
         ensures headed { AllAreHeads (Q.bytes new.now.to.now) (tree_heads self.new) }
         ensures known { KnowItems self.new }
@@ -200,8 +212,9 @@ impl<const N: usize> Tree<N> {
         written
     }
 
-    /// Looks at a run of items that begins with the last one below the bound, at most `count` of them, and takes out each whose
-    /// version and predecessor's version are below `edge`, into `taken`. `before` is the version of the item before the run.
+    /// Looks at a run of items that begins with the last one below the bound, at most `count` of
+    /// them, and takes out each whose version and predecessor's version are below `edge`, into
+    /// `taken`. `before` is the version of the item before the run.
     pub fn remove_expired<P: Bound>(
         &mut self,
         bound: &P,
@@ -210,9 +223,11 @@ impl<const N: usize> Tree<N> {
         before: i64,
         taken: &mut ArrayVec<Entry, N>,
     ) -> Removal
-        requires can_remove { CanRemoveExpired (P.below bound.now) (P.bytes bound.now) count edge before self.old
+        requires can_remove { CanRemoveExpired (P.below bound.now) (P.bytes bound.now) count edge
+            before self.old
             taken.old.items }
-        ensures removal { RemovesExpired (P.below bound.now) count edge before result (map item_of taken.new.items) None
+        ensures removal { RemovesExpired (P.below bound.now) count edge before result
+            (map item_of taken.new.items) None
             self.old.items self.new.items }
         ensures room { self.new.room ≡ self.old.room }
         ensures headed { AllAreHeads (P.bytes bound.now) (tree_heads self.new) }

@@ -1,4 +1,5 @@
-//! How a tree is changed: a walk to a leaf, a change of the leaf where it lies, and the rebalancing of the nodes above it.
+//! How a tree is changed: a walk to a leaf, a change of the leaf where it lies, and the rebalancing
+//! of the nodes above it.
 
 ghost use Rattle.std.specs.Prelude.{◌≡◌, ◌++◌, ℕ, Bool, List, Option, map};
 ghost use Rattle.tree.specs.Item.{Item, item_of};
@@ -17,7 +18,8 @@ use arrayvec::ArrayVec;
 /// What a walk knows of the subtree that it has come to.
 #[derive(Clone, Copy, Debug)]
 pub struct Place {
-    /// How many bytes its first key and the target begin with in common, or none if that key isn't below the bound.
+    /// How many bytes its first key and the target begin with in common, or none if that key isn't
+    /// below the bound.
     pub common_prefix_len: Option<usize>,
     /// The key of the first item after it.
     pub behind: Option<Slot>,
@@ -25,7 +27,8 @@ pub struct Place {
     pub is_first: bool,
 }
 
-/// A leaf that an item of a version came into. Each entry above it has this version, so that another one may come in without a walk.
+/// A leaf that an item of a version came into. Each entry above it has this version, so that
+/// another one may come in without a walk.
 #[derive(Clone, Copy, Debug)]
 pub struct RaisedLeaf {
     pub slot: Slot,
@@ -39,8 +42,8 @@ pub struct RaisedLeaf {
 pub enum Outcome {
     /// It is as it was.
     Same,
-    /// Its first key is as it was, and an item came into this leaf of it; no other item has a version that none had
-    /// before. A leaf has enough entries, and a node above lost none.
+    /// Its first key is as it was, and an item came into this leaf of it; no other item has a
+    /// version that none had before. A leaf has enough entries, and a node above lost none.
     Raised(RaisedLeaf),
     /// Its items are others.
     Changed,
@@ -71,15 +74,17 @@ pub trait LeafChange<const N: usize> {
     // What is wanted of the items of the leaf.
     ghost wants: { Self → List Item → Type 0 };
 
-    // What the change makes of them: itself before and after, the items that it takes out, whether no item stands before the
-    // leaf's, the key of the first item after them, the items before, and the items now.
+    // What the change makes of them: itself before and after, the items that it takes out, whether
+    // no item stands before the leaf's, the key of the first item after them, the items before, and
+    // the items now.
     ghost gives: { Self → Self → List Item → Bool → Option ℕ → List Item → List Item → Type 0 };
 
     /// Returns the bound by which the leaf is found.
     fn leaf_bound(&self) -> &Self::LeafBound
         ensures leaf_bound { result.now ≡ bound_of self.now };
 
-    /// Returns whether the next change is likely to come to the next leaf, so that its memory is read ahead.
+    /// Returns whether the next change is likely to come to the next leaf, so that its memory is
+    /// read ahead.
     fn goes_along(&self) -> bool;
 
     /// Changes the leaf where it lies, and puts the entries that it takes out into `taken`.
@@ -90,21 +95,26 @@ pub trait LeafChange<const N: usize> {
         place: Place,
         taken: &mut ArrayVec<Entry, N>,
     ) -> Outcome
-        requires can_change { CanChangeLeaf (Self.LeafBound.bytes (bound_of self.old)) (Self.LeafBound.below (bound_of self.old))
+        requires can_change { CanChangeLeaf (Self.LeafBound.bytes (bound_of self.old))
+            (Self.LeafBound.below (bound_of self.old))
             (Self.LeafBound.target (bound_of self.old)) (wants self.old) nodes.old 0 slot place.common_prefix_len
             taken.old.items }
-        ensures changed { IsChanged (Self.LeafBound.bytes (bound_of self.old)) nodes.old nodes.new 0 slot result }
-        ensures items { gives self.old self.new (map item_of taken.new.items) place.is_first place.behind (items_in nodes.old 0 slot)
+        ensures changed { IsChanged (Self.LeafBound.bytes (bound_of self.old)) nodes.old nodes.new 0
+            slot result }
+        ensures items { gives self.old self.new (map item_of taken.new.items) place.is_first
+            place.behind (items_in nodes.old 0 slot)
             (items_with nodes.new 0 slot (added_by result)) }
         ensures leaf_bound { bound_of self.new ≡ bound_of self.old };
 
     // What is wanted of items is wanted of a part of them.
-    ghost part: { (change : Self) (before items behind : List Item) → wants change (before ++ (items ++ behind))
+    ghost part: { (change : Self) (before items behind : List Item)
+        → wants change (before ++ (items ++ behind))
         → wants change items };
 }
 
-/// Changes a leaf of a subtree, puts the entries that are taken out into `taken`, and rebalances the nodes above it. Takes at
-/// most one slot at each height. It tries the way that it is given first, which may be any, and remembers its own there.
+/// Changes a leaf of a subtree, puts the entries that are taken out into `taken`, and rebalances
+/// the nodes above it. Takes at most one slot at each height. It tries the way that it is given
+/// first, which may be any, and remembers its own there.
 pub fn change_leaf<C: LeafChange<N>, const N: usize>(
     nodes: &mut Arena<Node<N>>,
     slot: Slot,
@@ -114,11 +124,14 @@ pub fn change_leaf<C: LeafChange<N>, const N: usize>(
     taken: &mut ArrayVec<Entry, N>,
     way: &mut Way,
 ) -> Outcome
-    requires can_change { CanChangeLeaf (C.LeafBound.bytes (C.bound_of change.old)) (C.LeafBound.below (C.bound_of change.old))
+    requires can_change { CanChangeLeaf (C.LeafBound.bytes (C.bound_of change.old))
+        (C.LeafBound.below (C.bound_of change.old))
         (C.LeafBound.target (C.bound_of change.old)) (C.wants change.old) nodes.old height slot place.common_prefix_len
         taken.old.items }
-    ensures changed { IsChanged (C.LeafBound.bytes (C.bound_of change.old)) nodes.old nodes.new height slot result }
-    ensures items { IsChangedWithin (C.LeafBound.below (C.bound_of change.old)) (C.gives change.old change.new (map item_of taken.new.items))
+    ensures changed { IsChanged (C.LeafBound.bytes (C.bound_of change.old)) nodes.old nodes.new
+        height slot result }
+    ensures items { IsChangedWithin (C.LeafBound.below (C.bound_of change.old))
+        (C.gives change.old change.new (map item_of taken.new.items))
         place.is_first place.behind (items_in nodes.old height slot) (items_with nodes.new height slot (added_by result)) }
     ensures leaf_bound { C.bound_of change.new ≡ C.bound_of change.old }
 {

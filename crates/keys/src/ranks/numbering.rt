@@ -9,14 +9,15 @@ use super::begin_in;
 use super::sorting::Headed;
 use crate::range_list::RangeList;
 
-/// Sets the run of each range listed to the number of its begin and the one after it, and returns how many begins there are.
-/// Ranges with the same begin get the same number.
+/// Sets the run of each range listed to the number of its begin and the one after it, and returns
+/// how many begins there are. Ranges with the same begin get the same number.
 pub fn number_begins<L: RangeList>(runs: &mut [(u32, u32)], sorted: &[Headed], ranges: &L) -> u32
     requires sorted { AreInBeginOrder (L.ranges ranges.now) sorted.now }
     requires alike { AreAlike (L.ranges ranges.now) sorted.now }
     requires few { length sorted.now ≤ MAX_RANKED }
     requires within { All (λ h. h.index < length runs.old) sorted.now }
-    ensures numbered { (keys : List (List ℕ)) × AreNumbered (L.ranges ranges.now) sorted.now keys result runs.new }
+    ensures numbered { (keys : List (List ℕ))
+        × AreNumbered (L.ranges ranges.now) sorted.now keys result runs.new }
     ensures others { OthersStay sorted.now runs.old runs.new }
     ensures as_many { length runs.new ≡ length runs.old }
 {
@@ -30,12 +31,15 @@ pub fn number_begins<L: RangeList>(runs: &mut [(u32, u32)], sorted: &[Headed], r
     begins
 }
 
-// Returns whether two ranges have the same begin. Keys are looked at only where the heads are the same.
+// Returns whether two ranges have the same begin. Keys are looked at only where the heads are the
+// same.
 fn begin_alike<L: RangeList>(a: &Headed, b: &Headed, ranges: &L) -> bool
-    requires alike { begin_at (L.ranges ranges.now) a.now.index ≡ begin_at (L.ranges ranges.now) b.now.index
+    requires alike { begin_at (L.ranges ranges.now) a.now.index
+        ≡ begin_at (L.ranges ranges.now) b.now.index
         → a.now.head ≡ b.now.head }
     ensures same { IsTrue result
-        ↔ (begin_at (L.ranges ranges.now) a.now.index ≡ begin_at (L.ranges ranges.now) b.now.index) }
+        ↔ (begin_at (L.ranges ranges.now) a.now.index
+        ≡ begin_at (L.ranges ranges.now) b.now.index) }
 {
     a.head == b.head && begin_in(ranges, a.index) == begin_in(ranges, b.index)
 }

@@ -1,10 +1,12 @@
 //! How many begins lie below the end of each range.
 
-ghost use Rattle.std.specs.Prelude.{◌≡◌, ◌<◌, ◌≤◌, ℕ, List, Some, length, take, drop, slice_get, All, IsTrue};
+ghost use Rattle.std.specs.Prelude.{◌≡◌, ◌<◌, ◌≤◌, ℕ, List, Some, length, take, drop, slice_get};
+ghost use Rattle.std.specs.Prelude.{All, IsTrue};
 ghost use Rattle.keys.specs.Hash.{AreHashesOf};
 ghost use Rattle.keys.specs.Key.{is_before, IsBefore, IsAtMost};
 ghost use Rattle.keys.specs.Sorting.{begin_at, indices_of, AreHeadedBehind, AreInBeginOrder};
-ghost use Rattle.keys.specs.Numbering.{told_below, AreNumbered, HasRun, HeadsTell, IsEndHead, IsFilledAt, OthersStay};
+ghost use Rattle.keys.specs.Numbering.{told_below, AreNumbered, HasRun, HeadsTell, IsEndHead};
+ghost use Rattle.keys.specs.Numbering.{IsFilledAt, OthersStay};
 ghost use Rattle.keys.specs.declared.ranks.TheConstants.{MAX_RANKED};
 
 use super::sorting::Headed;
@@ -12,7 +14,8 @@ use super::{begin_in, end_in};
 use crate::prefix::head_behind;
 use crate::range_list::RangeList;
 
-/// Moves the end of each run listed to the number of the first begin that isn't below the end of the range.
+/// Moves the end of each run listed to the number of the first begin that isn't below the end of
+/// the range.
 pub fn reach_ends<L: RangeList>(
     runs: &mut [(u32, u32)],
     sorted: &[Headed],
@@ -27,7 +30,8 @@ pub fn reach_ends<L: RangeList>(
     requires few { length sorted.now ≤ MAX_RANKED }
     requires within { All (λ h. h.index < length runs.old) sorted.now }
     requires hashes { AreHashesOf (L.ranges ranges.now) hashes.now }
-    ensures reached { (keys : List (List ℕ)) → AreNumbered (L.ranges ranges.now) sorted.now keys begins runs.old
+    ensures reached { (keys : List (List ℕ))
+        → AreNumbered (L.ranges ranges.now) sorted.now keys begins runs.old
         → All (HasRun (L.ranges ranges.now) keys runs.new) (indices_of sorted.now) }
     ensures others { OthersStay sorted.now runs.old runs.new }
     ensures as_many { length runs.new ≡ length runs.old }
@@ -60,23 +64,28 @@ fn has_hash(hashes: &[Option<u32>], index: usize) -> bool
 // Returns how many of the ranges begin below the end.
 fn count_below<L: RangeList>(end: &[u8], prefix: &[u8], sorted: &[Headed], ranges: &L) -> usize
     requires sorted { AreInBeginOrder (L.ranges ranges.now) sorted.now }
-    requires tell { (head : ℕ) → IsEndHead prefix.now end.now head → All (HeadsTell (L.ranges ranges.now) end.now head) sorted.now }
+    requires tell { (head : ℕ) → IsEndHead prefix.now end.now head
+        → All (HeadsTell (L.ranges ranges.now) end.now head) sorted.now }
     requires few { length sorted.now ≤ MAX_RANKED }
     ensures within { result ≤ length sorted.now }
-    ensures below { All (λ h. IsBefore (begin_at (L.ranges ranges.now) h.index) end.now) (take result sorted.now) }
-    ensures behind { All (λ h. IsAtMost end.now (begin_at (L.ranges ranges.now) h.index)) (drop result sorted.now) }
+    ensures below { All (λ h. IsBefore (begin_at (L.ranges ranges.now) h.index) end.now)
+        (take result sorted.now) }
+    ensures behind { All (λ h. IsAtMost end.now (begin_at (L.ranges ranges.now) h.index))
+        (drop result sorted.now) }
 {
     if sorted.is_empty() {
         return 0;
     }
-    // Most ranges end before the next begin, and a look at that is cheaper than the head of the end.
+    // Most ranges end before the next begin, and a look at that is cheaper than the head of the
+    // end.
     if !begins_below(end, &sorted[0], ranges) {
         return 0;
     }
     gallop(end, end_head(end, prefix), sorted, ranges)
 }
 
-// Returns the head of the end after the prefix, or the greatest one if the end doesn't begin with the prefix.
+// Returns the head of the end after the prefix, or the greatest one if the end doesn't begin with
+// the prefix.
 fn end_head(end: &[u8], prefix: &[u8]) -> u64
     ensures head { IsEndHead prefix.now end.now result }
 {
@@ -91,14 +100,17 @@ fn end_head(end: &[u8], prefix: &[u8]) -> u64
     }
 }
 
-// Returns how many of the ranges begin below the end of this head: by steps that double, and then between the last two.
+// Returns how many of the ranges begin below the end of this head: by steps that double, and then
+// between the last two.
 fn gallop<L: RangeList>(end: &[u8], head: u64, sorted: &[Headed], ranges: &L) -> usize
     requires sorted { AreInBeginOrder (L.ranges ranges.now) sorted.now }
     requires tell { All (HeadsTell (L.ranges ranges.now) end.now head) sorted.now }
     requires few { length sorted.now ≤ MAX_RANKED }
     ensures within { result ≤ length sorted.now }
-    ensures below { All (λ h. IsBefore (begin_at (L.ranges ranges.now) h.index) end.now) (take result sorted.now) }
-    ensures behind { All (λ h. IsAtMost end.now (begin_at (L.ranges ranges.now) h.index)) (drop result sorted.now) }
+    ensures below { All (λ h. IsBefore (begin_at (L.ranges ranges.now) h.index) end.now)
+        (take result sorted.now) }
+    ensures behind { All (λ h. IsAtMost end.now (begin_at (L.ranges ranges.now) h.index))
+        (drop result sorted.now) }
 {
     let mut count = 0;
     let mut step = 1;
@@ -112,7 +124,8 @@ fn gallop<L: RangeList>(end: &[u8], head: u64, sorted: &[Headed], ranges: &L) ->
     count + sorted[count..last].partition_point(|next| is_told_below(end, head, next, ranges))
 }
 
-// Returns whether the range begins below the end of this head. Its key is looked at only where its head is the same.
+// Returns whether the range begins below the end of this head. Its key is looked at only where its
+// head is the same.
 fn is_told_below<L: RangeList>(end: &[u8], head: u64, headed: &Headed, ranges: &L) -> bool
     ensures below { result ≡ told_below (L.ranges ranges.now) end.now head headed.now }
 {

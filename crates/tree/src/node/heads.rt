@@ -1,6 +1,8 @@
-//! The heads of a node's keys, after the prefix that all of them have in common: how they are computed and kept.
+//! The heads of a node's keys, after the prefix that all of them have in common: how they are
+//! computed and kept.
 
-ghost use Rattle.std.specs.Prelude.{◌≡◌, ◌≢◌, ◌<◌, ◌≤◌, ◌+◌, ◌-◌, ◌*◌, ◌++◌, ℕ, List, [], length, take, drop, slice_index, slice_set, Some, IfSome, IsTrue};
+ghost use Rattle.std.specs.Prelude.{◌≡◌, ◌≢◌, ◌<◌, ◌≤◌, ◌+◌, ◌-◌, ◌*◌, ◌++◌, ℕ, List, [], length};
+ghost use Rattle.std.specs.Prelude.{take, drop, slice_index, slice_set, Some, IfSome, IsTrue};
 ghost use Rattle.std.specs.Int.{w32, to_be_bytes};
 ghost use Rattle.std.specs.List.{All, Contains};
 ghost use Rattle.tree.specs.Heads.{HasPrefix, AreHeads, IsHeadBeside, IsKnown, Begins};
@@ -13,7 +15,8 @@ use crate::entry::Entry;
 use arena::Slot;
 use keys::same_bytes;
 
-// If the first and the last head have this many bytes in common, heads after a longer prefix say more.
+// If the first and the last head have this many bytes in common, heads after a longer prefix say
+// more.
 const NARROW: usize = 2;
 
 // If one key is empty, a common prefix of the others shorter than this doesn't count.
@@ -43,8 +46,8 @@ impl<const N: usize> Node<N> {
         }
     }
 
-    // Returns the length of the common prefix of all keys except an empty one, but no more than fits. If the first key is
-    // empty it is one byte less, or 0.
+    // Returns the length of the common prefix of all keys except an empty one, but no more than
+    // fits. If the first key is empty it is one byte less, or 0.
     fn beginning<P: Bound>(&self, bound: &P) -> u16
         requires known { All (IsKnown (P.bytes bound.now)) (keys_of (entries_of self.now)) }
         ensures begin { (beginning : List ℕ) × (length beginning ≡ result)
@@ -83,8 +86,9 @@ impl<const N: usize> Node<N> {
         self.heads[index] = bound.head_of(entry.key, self.prefix_len());
     }
 
-    /// Replaces the entries from one index up to another by these. `have_prefix` says that their keys begin as all others do, and
-    /// that these are their heads. Else all heads are computed anew.
+    /// Replaces the entries from one index up to another by these. `have_prefix` says that their
+    /// keys begin as all others do, and that these are their heads. Else all heads are computed
+    /// anew.
     pub fn splice_with_heads<P: Bound>(
         &mut self,
         from: usize,
@@ -94,9 +98,11 @@ impl<const N: usize> Node<N> {
         have_prefix: bool,
         bound: &P,
     )
-        requires can_splice { CanSplice (P.bytes bound.now) self.old from to new.now heads.now have_prefix }
+        requires can_splice { CanSplice (P.bytes bound.now) self.old from to new.now heads.now
+            have_prefix }
         requires room { from + length new.now + (length (entries_of self.old) - to) ≤ N }
-        ensures entries { entries_of self.new ≡ take from (entries_of self.old) ++ (new.now ++ drop to (entries_of self.old)) }
+        ensures entries { entries_of self.new
+            ≡ take from (entries_of self.old) ++ (new.now ++ drop to (entries_of self.old)) }
         ensures headed { AreHeads (P.bytes bound.now) (key_heads_of self.new) }
     {
         self.splice(from, to, new, heads);
@@ -105,8 +111,8 @@ impl<const N: usize> Node<N> {
         }
     }
 
-    /// Replaces the entries from one index up to another by these, if there is no room for all. The entries of the second
-    /// half are returned. The heads are set as by `splice_with_heads`.
+    /// Replaces the entries from one index up to another by these, if there is no room for all. The
+    /// entries of the second half are returned. The heads are set as by `splice_with_heads`.
     pub fn splice_apart<P: Bound>(
         &mut self,
         from: usize,
@@ -116,7 +122,8 @@ impl<const N: usize> Node<N> {
         have_prefix: bool,
         bound: &P,
     ) -> Node<N>
-        requires can_splice { CanSplice (P.bytes bound.now) self.old from to new.now heads.now have_prefix }
+        requires can_splice { CanSplice (P.bytes bound.now) self.old from to new.now heads.now
+            have_prefix }
         requires few_new { 2 * length new.now ≤ N }
         requires many { N < from + length new.now + (length (entries_of self.old) - to) }
         ensures entries { entries_of self.new ++ entries_of result
@@ -142,14 +149,15 @@ impl<const N: usize> Node<N> {
         right
     }
 
-    /// Puts the entries of another node before the one at an index, with their heads if all keys have the prefix, or else all heads
-    /// are computed anew.
+    /// Puts the entries of another node before the one at an index, with their heads if all keys
+    /// have the prefix, or else all heads are computed anew.
     pub fn insert_with_heads<P: Bound>(&mut self, index: usize, other: &Node<N>, bound: &P)
         requires within { index ≤ length (entries_of self.old) }
         requires room { length (entries_of self.old) + length (entries_of other.now) ≤ N }
         requires headed { AreBothHeaded (P.bytes bound.now) self.old other.now }
         ensures entries { entries_of self.new
-            ≡ take index (entries_of self.old) ++ (entries_of other.now ++ drop index (entries_of self.old)) }
+            ≡ take index (entries_of self.old)
+            ++ (entries_of other.now ++ drop index (entries_of self.old)) }
         ensures headed { AreHeads (P.bytes bound.now) (key_heads_of self.new) }
     {
         let Some(first) = other.entries().first() else {
@@ -168,7 +176,8 @@ impl<const N: usize> Node<N> {
         requires ordered { from ≤ to }
         requires within { to ≤ length (entries_of self.old) }
         requires headed { AreHeads (P.bytes bound.now) (key_heads_of self.old) }
-        ensures entries { entries_of self.new ≡ take from (entries_of self.old) ++ drop to (entries_of self.old) }
+        ensures entries { entries_of self.new
+            ≡ take from (entries_of self.old) ++ drop to (entries_of self.old) }
         ensures taken { entries_of result ≡ drop from (take to (entries_of self.old)) }
         ensures headed { AreBothHeaded (P.bytes bound.now) self.new result }
     {
@@ -196,7 +205,8 @@ impl<const N: usize> Node<N> {
         requires headed { AreHeads (P.bytes bound.now) (key_heads_of self.now) }
         requires within { index < length (entries_of self.now) }
         requires known { IsKnown (P.bytes bound.now) key }
-        ensures head { IfSome result (IsHeadBeside (P.bytes bound.now) (key_heads_of self.now) key) }
+        ensures head { IfSome result (IsHeadBeside (P.bytes bound.now) (key_heads_of self.now)
+            key) }
     {
         if self.entries[index].key == key {
             return Some(self.heads[index]);
@@ -219,7 +229,8 @@ impl<const N: usize> Node<N> {
         }
     }
 
-    // Returns whether the first and the last head have enough bytes in common that heads after a longer prefix say more.
+    // Returns whether the first and the last head have enough bytes in common that heads after a
+    // longer prefix say more.
     fn is_narrow(&self) -> bool {
         match (self.heads.first(), self.heads[..self.len].last()) {
             (Some(first), Some(last)) => same_head_bytes(*first, *last) >= NARROW,
@@ -232,7 +243,8 @@ impl<const N: usize> Node<N> {
 pub fn same_head_bytes(a: u32, b: u32) -> usize
     ensures within { result ≤ 4 }
     ensures same { take result (to_be_bytes w32 a) ≡ take result (to_be_bytes w32 b) }
-    ensures differ { result < 4 → slice_index (to_be_bytes w32 a) result ≢ slice_index (to_be_bytes w32 b) result }
+    ensures differ { result < 4 → slice_index (to_be_bytes w32 a) result
+        ≢ slice_index (to_be_bytes w32 b) result }
 {
     same_bytes(u64::from(a) << 32, u64::from(b) << 32).min(4)
 }
@@ -247,7 +259,8 @@ fn without_some(count: u16) -> u16
     count - UNSURE
 }
 
-// Returns how many bytes the keys but empty ones begin with in common with one that isn't empty, but no more than fit.
+// Returns how many bytes the keys but empty ones begin with in common with one that isn't empty,
+// but no more than fit.
 fn keys_prefix_len<P: Bound>(entries: &[Entry], key: Slot, bound: &P) -> u16
     requires known { All (IsKnown (P.bytes bound.now)) (keys_of entries.now) }
     requires there { Contains (keys_of entries.now) key }

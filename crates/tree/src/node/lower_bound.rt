@@ -1,7 +1,9 @@
 //! The search in a node: by the heads of its keys, and by their bytes where heads are the same.
 
-ghost use Rattle.std.specs.Prelude.{◌≡◌, ◌≢◌, ◌<◌, ◌≤◌, ◌+◌, ℕ, ◌-◌, List, length, filter, get_or, slice_get, None, Some, IsTrue};
-ghost use Rattle.tree.specs.Finding.{AreTied, CanFind, CanStep, CanStepBy, HasHead, IsLowerBound, IsHeadFor};
+ghost use Rattle.std.specs.Prelude.{◌≡◌, ◌≢◌, ◌<◌, ◌≤◌, ◌+◌, ℕ, ◌-◌, List, length, filter, get_or};
+ghost use Rattle.std.specs.Prelude.{slice_get, None, Some, IsTrue};
+ghost use Rattle.tree.specs.Finding.{AreTied, CanFind, CanStep, CanStepBy, HasHead, IsLowerBound};
+ghost use Rattle.tree.specs.Finding.{IsHeadFor};
 ghost use Rattle.tree.specs.Heads.{HasPrefix, HaveCommonPrefix, AreHeads};
 ghost use Rattle.tree.specs.Node.{entries_of, key_heads_of};
 ghost use Rattle.tree.specs.Path.{IsPartitioned};
@@ -17,17 +19,20 @@ const BLOCK: usize = 8;
 const _: () = prove!(BLOCK == 8);
 
 impl<const N: usize> Node<N> {
-    /// Returns how many of the entries are below the bound. `common_prefix_len` is how many bytes the first key and the target
-    /// begin with in common, or none if that key isn't below the bound.
+    /// Returns how many of the entries are below the bound. `common_prefix_len` is how many bytes
+    /// the first key and the target begin with in common, or none if that key isn't below the
+    /// bound.
     pub fn lower_bound<P: Bound>(&self, bound: &P, common_prefix_len: Option<usize>) -> usize
-        requires can_step { CanStep (P.bytes bound.now) (P.below bound.now) (P.target bound.now) self.now common_prefix_len }
+        requires can_step { CanStep (P.bytes bound.now) (P.below bound.now) (P.target bound.now)
+            self.now common_prefix_len }
         ensures count { IsLowerBound (P.below bound.now) self.now result }
     {
         let head = self.head_for(bound, common_prefix_len.unwrap_or(0));
         self.lower_bound_with(bound, common_prefix_len, head)
     }
 
-    /// Returns how many of the entries are below the bound, as `lower_bound` does. `head` is what `head_for` returns for it.
+    /// Returns how many of the entries are below the bound, as `lower_bound` does. `head` is what
+    /// `head_for` returns for it.
     #[inline(always)]
     pub fn lower_bound_with<P: Bound>(
         &self,
@@ -35,7 +40,8 @@ impl<const N: usize> Node<N> {
         common_prefix_len: Option<usize>,
         head: Option<u32>,
     ) -> usize
-        requires can_step { CanStepBy (P.bytes bound.now) (P.below bound.now) (P.target bound.now) self.now
+        requires can_step { CanStepBy (P.bytes bound.now) (P.below bound.now) (P.target bound.now)
+            self.now
             common_prefix_len head }
         ensures count { IsLowerBound (P.below bound.now) self.now result }
     {
@@ -45,13 +51,16 @@ impl<const N: usize> Node<N> {
         }
     }
 
-    /// Returns how many of the entries are below the bound. `head` is that of the target, if it begins as all keys do.
+    /// Returns how many of the entries are below the bound. `head` is that of the target, if it
+    /// begins as all keys do.
     #[inline(always)]
     pub fn lower_bound_by_head<P: Bound>(&self, bound: &P, head: Option<u32>) -> usize
         requires can_find { CanFind (P.bytes bound.now) (P.below bound.now) self.now }
-        requires head { HasHead (P.bytes bound.now) (P.target bound.now) head (key_heads_of self.now) }
+        requires head { HasHead (P.bytes bound.now) (P.target bound.now) head
+            (key_heads_of self.now) }
         requires none { head ≡ None → get_or (key_heads_of self.now).heads 0 0 ≢ 0
-            → length (filter (λ e. P.below bound.now e.key) (entries_of self.now)) ≡ length (entries_of self.now) }
+            → length (filter (λ e. P.below bound.now e.key) (entries_of self.now))
+            ≡ length (entries_of self.now) }
         ensures count { IsLowerBound (P.below bound.now) self.now result }
     {
         let Some(head) = head else {
@@ -61,11 +70,13 @@ impl<const N: usize> Node<N> {
         self.lower_bound_from(below, bound, Some(head))
     }
 
-    // Returns how many of the entries are below the bound, where the first one is and the target doesn't begin as all keys do.
+    // Returns how many of the entries are below the bound, where the first one is and the target
+    // doesn't begin as all keys do.
     fn lower_bound_by_keys<P: Bound>(&self, bound: &P) -> usize
         requires can_find { CanFind (P.bytes bound.now) (P.below bound.now) self.now }
         requires all { get_or (key_heads_of self.now).heads 0 0 ≢ 0
-            → length (filter (λ e. P.below bound.now e.key) (entries_of self.now)) ≡ length (entries_of self.now) }
+            → length (filter (λ e. P.below bound.now e.key) (entries_of self.now))
+            ≡ length (entries_of self.now) }
         ensures count { IsLowerBound (P.below bound.now) self.now result }
     {
         if self.heads[0] == 0 {
@@ -74,15 +85,19 @@ impl<const N: usize> Node<N> {
         self.len()
     }
 
-    /// Returns the head of the target after the prefix of all keys, if it has that prefix, too. The first key and the
-    /// target begin with `common_prefix_len` bytes in common, at least, unless that key is empty.
+    /// Returns the head of the target after the prefix of all keys, if it has that prefix, too. The
+    /// first key and the target begin with `common_prefix_len` bytes in common, at least, unless
+    /// that key is empty.
     #[inline(always)]
     pub fn head_for<P: Bound>(&self, bound: &P, common_prefix_len: usize) -> Option<u32>
         requires headed { AreHeads (P.bytes bound.now) (key_heads_of self.now) }
         requires some { 0 < length (entries_of self.now) }
-        requires common_prefix_len { (e : Entry) (text : List ℕ) → slice_get (entries_of self.now) 0 ≡ Some e
-            → P.bytes bound.now e.key ≡ Some text → HaveCommonPrefix common_prefix_len text (P.target bound.now) }
-        ensures head { IsHeadFor (P.bytes bound.now) (P.target bound.now) common_prefix_len result (key_heads_of self.now) }
+        requires common_prefix_len { (e : Entry) (text : List ℕ)
+            → slice_get (entries_of self.now) 0 ≡ Some e
+            → P.bytes bound.now e.key ≡ Some text
+            → HaveCommonPrefix common_prefix_len text (P.target bound.now) }
+        ensures head { IsHeadFor (P.bytes bound.now) (P.target bound.now) common_prefix_len result
+            (key_heads_of self.now) }
     {
         let has_prefix = if self.heads[0] == 0 && self.prefix_len > 0 {
             self.has_prefix_of(self.len() - 1, bound)
@@ -95,8 +110,8 @@ impl<const N: usize> Node<N> {
         Some(bound.head(self.prefix_len()))
     }
 
-    /// Returns the head as `head_for` does. `has_prefix` says that the target begins as all keys do, and may be false although it
-    /// does.
+    /// Returns the head as `head_for` does. `has_prefix` says that the target begins as all keys
+    /// do, and may be false although it does.
     #[inline(always)]
     pub fn head_given<P: Bound>(
         &self,
@@ -106,10 +121,14 @@ impl<const N: usize> Node<N> {
     ) -> Option<u32>
         requires headed { AreHeads (P.bytes bound.now) (key_heads_of self.now) }
         requires some { 0 < length (entries_of self.now) }
-        requires has_prefix { IsTrue has_prefix → HasPrefix (P.bytes bound.now) (key_heads_of self.now) (P.target bound.now) }
-        requires common_prefix_len { (e : Entry) (text : List ℕ) → slice_get (entries_of self.now) 0 ≡ Some e
-            → P.bytes bound.now e.key ≡ Some text → HaveCommonPrefix common_prefix_len text (P.target bound.now) }
-        ensures head { HasHead (P.bytes bound.now) (P.target bound.now) result (key_heads_of self.now) }
+        requires has_prefix { IsTrue has_prefix
+            → HasPrefix (P.bytes bound.now) (key_heads_of self.now) (P.target bound.now) }
+        requires common_prefix_len { (e : Entry) (text : List ℕ)
+            → slice_get (entries_of self.now) 0 ≡ Some e
+            → P.bytes bound.now e.key ≡ Some text
+            → HaveCommonPrefix common_prefix_len text (P.target bound.now) }
+        ensures head { HasHead (P.bytes bound.now) (P.target bound.now) result
+            (key_heads_of self.now) }
     {
         if has_prefix {
             return Some(bound.head(self.prefix_len()));
@@ -117,11 +136,12 @@ impl<const N: usize> Node<N> {
         self.head_for(bound, common_prefix_len)
     }
 
-    /// Returns whether the target has the common prefix, as the key at an index has it. It may be false where that key
-    /// may be empty, and is where there is none.
+    /// Returns whether the target has the common prefix, as the key at an index has it. It may be
+    /// false where that key may be empty, and is where there is none.
     pub fn has_prefix_of<P: Bound>(&self, index: usize, bound: &P) -> bool
         requires headed { AreHeads (P.bytes bound.now) (key_heads_of self.now) }
-        ensures has_prefix { IsTrue result → HasPrefix (P.bytes bound.now) (key_heads_of self.now) (P.target bound.now) }
+        ensures has_prefix { IsTrue result
+            → HasPrefix (P.bytes bound.now) (key_heads_of self.now) (P.target bound.now) }
     {
         if index >= self.len() || self.heads[index] == 0 {
             return false;
@@ -136,13 +156,16 @@ impl<const N: usize> Node<N> {
             .is_some_and(|last| *last > head)
     }
 
-    /// Returns whether the entry at an index is below the bound. `head` is that of the target, if it begins as all keys do.
+    /// Returns whether the entry at an index is below the bound. `head` is that of the target, if
+    /// it begins as all keys do.
     #[inline(always)]
     pub fn is_below_at<P: Bound>(&self, index: usize, bound: &P, head: Option<u32>) -> bool
         requires headed { AreHeads (P.bytes bound.now) (key_heads_of self.now) }
         requires within { index < length (entries_of self.now) }
-        requires head { HasHead (P.bytes bound.now) (P.target bound.now) head (key_heads_of self.now) }
-        ensures is_below { (e : Entry) → slice_get (entries_of self.now) index ≡ Some e → result ≡ P.below bound.now e.key }
+        requires head { HasHead (P.bytes bound.now) (P.target bound.now) head
+            (key_heads_of self.now) }
+        ensures is_below { (e : Entry) → slice_get (entries_of self.now) index ≡ Some e
+            → result ≡ P.below bound.now e.key }
     {
         let own = self.heads[index];
         match head {
@@ -155,8 +178,10 @@ impl<const N: usize> Node<N> {
     #[inline(always)]
     pub fn lower_bound_from<P: Bound>(&self, from: usize, bound: &P, head: Option<u32>) -> usize
         requires can_find { CanFind (P.bytes bound.now) (P.below bound.now) self.now }
-        requires head { HasHead (P.bytes bound.now) (P.target bound.now) head (key_heads_of self.now) }
-        requires least { from ≤ length (filter (λ e. P.below bound.now e.key) (entries_of self.now)) }
+        requires head { HasHead (P.bytes bound.now) (P.target bound.now) head
+            (key_heads_of self.now) }
+        requires least { from ≤ length
+            (filter (λ e. P.below bound.now e.key) (entries_of self.now)) }
         ensures count { IsLowerBound (P.below bound.now) self.now result }
     {
         let (from, to) = match head {
@@ -169,8 +194,9 @@ impl<const N: usize> Node<N> {
         from + lower_bound(&self.entries()[from..to], bound)
     }
 
-    // Returns the index of the first entry, from this index on, whose head isn't below this one, and that of the
-    // first one after it whose head is above it. So the entries with this head are between these two.
+    // Returns the index of the first entry, from this index on, whose head isn't below this one,
+    // and that of the first one after it whose head is above it. So the entries with this head are
+    // between these two.
     fn tied(&self, from: usize, head: u32) -> (usize, usize)
         requires from { from ≤ length (entries_of self.now) }
         ensures tied { AreTied self.now head from result.0 result.1 }
@@ -187,12 +213,13 @@ impl<const N: usize> Node<N> {
         (first, end)
     }
 
-    /// Returns how many of the entries are below the bound, at most the first n. It looks at these one by one, from the
-    /// last one on.
+    /// Returns how many of the entries are below the bound, at most the first n. It looks at these
+    /// one by one, from the last one on.
     #[inline(always)]
     pub fn lower_bound_back<P: Bound>(&self, to: usize, bound: &P, head: Option<u32>) -> usize
         requires can_find { CanFind (P.bytes bound.now) (P.below bound.now) self.now }
-        requires head { HasHead (P.bytes bound.now) (P.target bound.now) head (key_heads_of self.now) }
+        requires head { HasHead (P.bytes bound.now) (P.target bound.now) head
+            (key_heads_of self.now) }
         requires within { to ≤ length (entries_of self.now) }
         requires most { length (filter (λ e. P.below bound.now e.key) (entries_of self.now)) ≤ to }
         ensures count { IsLowerBound (P.below bound.now) self.now result }
@@ -205,9 +232,9 @@ impl<const N: usize> Node<N> {
     }
 }
 
-// Returns an index after a head that is below this one, or 0. If the heads are in order and blocks hold all of them, it is
-// how many are below. It looks at the first head of each block, and then at one block, each time at all of them, and is written
-// without a branch that depends on a head.
+// Returns an index after a head that is below this one, or 0. If the heads are in order and blocks
+// hold all of them, it is how many are below. It looks at the first head of each block, and then at
+// one block, each time at all of them, and is written without a branch that depends on a head.
 #[inline(always)]
 fn heads_below<const N: usize>(heads: &[u32; N], head: u32) -> usize
     ensures within { result ≤ N }
