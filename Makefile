@@ -1,6 +1,6 @@
 .PHONY: quick demo rust rust-packages rust-crate-test rust-doc rust-package library-unproved quick-test rust-test \
 	rust-test-long replay batches check test more-edits \
-	refused-memory json-examples stalled-pipes readme-runs manual-page library install uninstall library-test \
+	refused-memory json-examples stalled-pipes readme-runs manual-page program-runs library install uninstall library-test \
 	languages-test plant bench profile
 
 # The Cargo edition: the same sources, clauses erased, built by rustc. It needs Rust 1.85, cc, make and python3, and no network.
@@ -138,6 +138,10 @@ figures-test:
 # Behind `make test` or `make replay`, compares the manual page with what the program prints of its options and version.
 manual-page:
 	.ci/manual-page
+
+# After `make test` or `make replay`, runs the program on words that it refuses, and on paths that have no frames.
+program-runs:
+	.ci/program-runs
 
 # Tries wrong bodies on a copy of each crate, and lists those that its contracts let through.
 plant:

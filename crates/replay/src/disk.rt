@@ -29,26 +29,3 @@ impl<R: fs::Files<File = File> + AllocGlobal> Files for Disk<'_, R> {
         Ok(StdSource::new(reader))
     }
 }
-
-#[cfg(test)]
-mod tests {
-    use super::*;
-    use std::fmt::Write as _;
-    use std::test::Fail;
-    use wire::{Failed, Source};
-
-    #[test]
-    fn opens_what_is_there(rt: HostRuntime) {
-        let disk = Disk { rt: &rt };
-        assert_eq!(rt;
-            disk.open("no/such/file").err(),
-            Some(FileError::CannotOpen)
-        );
-        assert!(rt; disk.open("/dev/null").is_ok());
-        // A folder opens, and fails when it is read.
-        let folder = disk.open(".");
-        assert!(rt; folder.is_ok());
-        let read = folder.map(|mut reader| reader.read(&mut [0; 1]));
-        assert_eq!(rt; read, Ok(Err(Failed)));
-    }
-}

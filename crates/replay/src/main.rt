@@ -40,18 +40,3 @@ fn start<
     let files = Disk { rt };
     run_in(rt, rt.alloc(), rt, &files, &mut StdSink::new(out), error)
 }
-
-#[cfg(test)]
-mod tests {
-    use super::*;
-
-    // The words of a test are none of the program's: they are refused, or name no file.
-    #[test]
-    fn words_of_a_test(rt: HostRuntime) {
-        let mut error = StdSink::new(Vec::new(rt.alloc()));
-        let out = BufWriter::new(rt.alloc(), Vec::new(rt.alloc()));
-        let status = start(&rt, out, &mut error);
-        assert_ne!(rt; status, Status::Done);
-        assert!(rt; !error.into_inner().is_empty());
-    }
-}

@@ -1,8 +1,10 @@
 //! Rows of faulty files, of the second version of the form, and of readers and writers that fail.
 
 use crate::failing::Failing;
-use crate::runs::{ended, ends, file_of, gives, opened, reader, replayed_from, waiting_room};
-use replay_program::{Options, replay_over};
+use crate::runs::{
+    ended, ends, file_of, gives, opened, reader, replay_into, replayed_from, waiting_room,
+};
+use replay_program::Options;
 use std::alloc::{AllocError, Global};
 use std::io;
 use std::io::Read;
@@ -151,7 +153,7 @@ fn unwritten<R: Threads + Wait + Copy + Send + 'static>(
     let mut out = StdSink::new(Failing::after(0));
     let mut error = StdSink::new(Vec::new(alloc));
     let options = Options::default();
-    let status = replay_over(
+    let status = replay_into(
         rt,
         alloc,
         readers,
@@ -159,7 +161,7 @@ fn unwritten<R: Threads + Wait + Copy + Send + 'static>(
         &gatekeeper,
         &mut out,
         &mut error,
-    );
+    )?;
     ended(status, Vec::new(alloc), &error.into_inner())
 }
 

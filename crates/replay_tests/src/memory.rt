@@ -5,9 +5,8 @@ use crate::rows::{
     FIRST_RUN_IN_FRAMES, HELD_OVERTAKEN, HELD_REPEAT_ANSWERED_TWICE, REPORT_HISTORY_HITS, Row,
     SECOND_FILE_CONTINUES_CHAIN, SNAPSHOT_AT_WRITE,
 };
-use crate::runs::{Reader, file_of, reader};
-use replay_program::{Options, Status, replay_over};
-use resolver::MAX_PROXIES;
+use crate::runs::{Reader, file_of, reader, replay_into};
+use replay_program::{Options, Status};
 use std::alloc::{AllocError, Global};
 use std::process::Abort;
 use std::str;
@@ -154,12 +153,9 @@ fn ends_as_promised<R: Threads + Wait + Copy + Send + 'static>(
         mut out,
         mut error,
     } = Run::new_at_last(alloc, row.files)?;
-    if readers.is_empty() || readers.len() > MAX_PROXIES {
-        return Err(Unmade::Beyond("number of files"));
-    }
     let mut options = Options::default();
     options.form = row.form;
-    let status = replay_over(
+    let status = replay_into(
         rt,
         alloc,
         readers,
@@ -167,7 +163,7 @@ fn ends_as_promised<R: Threads + Wait + Copy + Send + 'static>(
         &gatekeeper,
         &mut out,
         &mut error,
-    );
+    )?;
     let (out, error) = (out.into_inner(), error.into_inner());
     let (Ok(out), Ok(error)) = (str::from_utf8(&out), str::from_utf8(&error)) else {
         return Err(Unmade::Text("UTF-8"));

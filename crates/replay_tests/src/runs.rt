@@ -10,7 +10,7 @@ use std::sync::{Arc, Wait};
 use std::test::Fail;
 use std::thread::Threads;
 use test_values::{Unmade, batch};
-use wire::{Source, StdSink, StdSource, WireError, encode_batch_1};
+use wire::{Sink, Source, StdSink, StdSource, WireError, encode_batch_1};
 
 /// A reader of a file in memory.
 pub type Reader = StdSource<Cursor<Vec<u8>>>;
@@ -81,15 +81,33 @@ pub fn replayed_from<
     options: Options,
     gatekeeper: &Arc<G, Global>,
 ) -> Result<String, Unmade> {
+    let mut out = StdSink::new(Vec::new(alloc));
+    let mut error = StdSink::new(Vec::new(alloc));
+    let status = replay_into(
+        rt, alloc, readers, options, gatekeeper, &mut out, &mut error,
+    )?;
+    ended(status, out.into_inner(), &error.into_inner())
+}
+
+/// Replays as the program does, from these readers to these writers. No other test calls what it calls, whose contract is long.
+pub fn replay_into<
+    S: Source + Send + Drop + 'static,
+    G: Gatekeeper + Send + Sync + Drop + 'static,
+    R: Threads + Wait + Copy + Send + 'static,
+    O: Sink,
+>(
+    rt: &R,
+    alloc: Global,
+    readers: Vec<S>,
+    options: Options,
+    gatekeeper: &Arc<G, Global>,
+    out: &mut O,
+    error: &mut StdSink<Vec<u8>>,
+) -> Result<Status, Unmade> {
     if readers.is_empty() || readers.len() > MAX_PROXIES {
         return Err(Unmade::Beyond("number of files"));
     }
-    let mut out = StdSink::new(Vec::new(alloc));
-    let mut error = StdSink::new(Vec::new(alloc));
-    let status = replay_over(
-        rt, alloc, readers, options, gatekeeper, &mut out, &mut error,
-    );
-    ended(status, out.into_inner(), &error.into_inner())
+    Ok(replay_over(rt, alloc, readers, options, gatekeeper, out, error))
 }
 
 /// Replays these files with the options, and compares what comes of it.

@@ -1,7 +1,7 @@
 //! Two proxies served in one thread.
 
 use keyspace::Answer;
-use proved_callers::serve_two;
+use proved_callers::{Served, serve_two};
 use resolver::OpenError;
 use std::alloc::Global;
 use std::process::Abort;
@@ -16,14 +16,18 @@ fn push_answers(alloc: Global, text: &mut String, answers: &[Answer]) -> Result<
     Ok(())
 }
 
-// Serves the two batches for so many turns, and writes what each proxy received and whether all is complete.
-fn served(alloc: Global, (first, second): (&str, &str), turns: usize) -> Result<String, Unmade> {
+// Serves the two batches for so many turns.
+fn served(alloc: Global, (first, second): (&str, &str), turns: usize) -> Result<Served, Unmade> {
     let first = batch(alloc, first)?;
     let second = batch(alloc, second)?;
-    let served = match serve_two(alloc, first, second, turns) {
-        Ok(served) => served,
-        Err(OpenError::Memory) => return Err(Unmade::Memory),
-    };
+    match serve_two(alloc, first, second, turns) {
+        Ok(served) => Ok(served),
+        Err(OpenError::Memory) => Err(Unmade::Memory),
+    }
+}
+
+// Writes what each proxy received and whether all is complete.
+fn show(alloc: Global, served: &Served) -> Result<String, Unmade> {
     let mut text = String::from_str(alloc, "0: ")?;
     push_answers(alloc, &mut text, &served.first)?;
     text.push_str("1: ")?;
@@ -43,7 +47,8 @@ fn serves(
     turns: usize,
     expected: &str,
 ) -> Result<(), Fail> {
-    assert_eq!(rt; served(alloc, batches, turns)?.as_str(), expected);
+    let served = served(alloc, batches, turns)?;
+    assert_eq!(rt; show(alloc, &served)?.as_str(), expected);
     Ok(())
 }
 
