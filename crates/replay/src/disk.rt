@@ -3,11 +3,10 @@
 ghost use Rattle.std.specs.Prelude.{None, ⊤};
 
 use replay_program::{FileError, Files, STANDARD_INPUT};
-use std::fs;
 use std::fs::File;
-use std::io;
 use std::io::{BufReader, Read};
 use std::rt::Stdin;
+use std::{fs, io};
 use wire::StdSource;
 
 /// The files that the process can open, and its standard input. `std` tells neither which file it opened nor what a file holds, so

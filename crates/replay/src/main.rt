@@ -29,12 +29,7 @@ fn start<
     R: Files<File = File> + Env + AllocGlobal + Threads + Wait + Copy + Send + 'static,
     O: Write + Drop,
     E: Sink,
->(
-    rt: &R,
-    input: Stdin,
-    out: io::Result<BufWriter<O>>,
-    error: &mut E,
-) -> Status
+>(rt: &R, input: Stdin, out: io::Result<BufWriter<O>>, error: &mut E) -> Status
     ensures quiet { result ≡ Status.Done → Keeps (E.given error.old) (E.given error.new) }
     ensures no_buffer { IsErr out → (result ≡ Status.Failed) × ((E.failures error.old < E.failures error.new)
         ⊎ Appends (E.given error.old) (E.given error.new) (start_line StartError.Memory)) }

@@ -169,7 +169,7 @@ abbrev pub HasRepliesEach : List Row → Type 0
 HasRepliesEach rows = is_some (all_of (codes "check") rows) ≡ true
     → IfSome (all_of (codes "FILE") rows) (λ names. HasReplies (length names) rows)
 
--- the name of standard input, in place of a file's
+-- the name of standard input, which is read instead of a file
 abbrev pub standard_input : List ℕ
 standard_input = codes "-"
 

@@ -4,7 +4,7 @@ ghost use Rattle.std.specs.Prelude.{◌≡◌, ℕ, List, Option, IfOk, OnOk};
 
 use wire::Source;
 
-/// The name of standard input, in place of a file's.
+/// The name of standard input, which is read instead of a file.
 pub const STANDARD_INPUT: &str = "-";
 
 /// Why a file was not opened.
