@@ -51,7 +51,15 @@ def shelf() -> dict[str, bytes]:
 
 def shell_cases() -> list[Case]:
     files = shelf()
-    answered = [Run("replay", row.args, expected=Outcome(row.status, row.out.encode(), row.err.encode())) for row in shell_rows.ROWS]
+    answered = [
+        Run(
+            "replay",
+            row.args,
+            files[row.stdin] if row.stdin else b"",
+            expected=Outcome(row.status, row.out.encode(), row.err.encode()),
+        )
+        for row in shell_rows.ROWS
+    ]
     refused = [Run("replay", args, text=Text.OF_CLAP, expected=Outcome(2, b"", b"error: ")) for args in shell_rows.REFUSED]
     shown = [Run("replay", args, text=Text.OF_CLAP, expected=Outcome(0, b"help", b"")) for args in shell_rows.SHOWN]
     return [Case(f"command line {number}", "worked rows", files, (run,)) for number, run in enumerate(answered + refused + shown)]

@@ -39,6 +39,8 @@ class ShellRow:
     out: str
     err: str = ""
     status: int = 0
+    # The name of the file that is standard input.
+    stdin: str | None = None
 
 
 FIRST = "0 0 empty\n0 100 committed\n"
@@ -64,6 +66,11 @@ ANSWERS = (
     ShellRow(("--", "--frames"), FIRST),
     ShellRow(("--capacity=+1", "--window", "+1", "first", "--limit=00003"), FIRST),
     ShellRow(("n\u00e4me of words",), FIRST),
+    ShellRow(("-",), FIRST, stdin="first"),
+    ShellRow(("--", "-"), FIRST, stdin="first"),
+    ShellRow(("first", "-"), FIRST + "1 200 conflict\n", stdin="second"),
+    ShellRow(("-", "first", "./second"), "0 300 empty\n1 0 empty\n1 100 committed\n2 200 conflict\n", stdin="third"),
+    ShellRow(("-",), "", stdin="empty"),
 )
 
 FAILURES = (
@@ -72,6 +79,8 @@ FAILURES = (
     ShellRow(("none", "first"), "", "replay: proxy 0: cannot open\n", 1),
     ShellRow(("first", "second", "none", "third", "nowhere"), "", "replay: proxy 2: cannot open\n", 1),
     ShellRow(("cut",), "0 0 empty\n", SHORT, 1),
+    ShellRow(("-",), "0 0 empty\n", SHORT, 1, stdin="cut"),
+    ShellRow(("./-",), "", "replay: proxy 0: cannot open\n", 1, stdin="first"),
     ShellRow((".",), "", "replay: proxy 0: wire 12 Read\n", 1),
     ShellRow(("first", "."), FIRST, "replay: proxy 1: wire 12 Read\n", 1),
     ShellRow(("",), "", "replay: proxy 0: cannot open\n", 1),
@@ -94,6 +103,8 @@ CHECKS = (
         "",
         3,
     ),
+    ShellRow(("--check", "-", "first"), "checked 2 batches, 0 differences\n", stdin="same"),
+    ShellRow(("--check", "same", "-"), "checked 2 batches, 0 differences\n", stdin="first"),
     ShellRow(("second", "--check", "nothing"), "checked 1 batches, 0 differences\n"),
     ShellRow(("second", "--check", "conflicts"), "0 200 unexpected\nchecked 1 batches, 1 differences\n", "", 3),
     ShellRow(("first", "--check", "nowhere"), "", "replay: replies 0: cannot open\n", 1),
@@ -137,6 +148,10 @@ REFUSED: tuple[tuple[str | bytes, ...], ...] = (
     ("--check", "same", "--check", "same", "first"),
     ("--check", "same", "first", "second"),
     65 * ("first",),
+    ("-", "-"),
+    ("first", "-", "second", "-"),
+    ("--check", "-", "-"),
+    ("--", "-", "-"),
     (b"\xff",),
     ("first", b"sec\xc3ond"),
     ("--help", b"\xff"),

@@ -2,7 +2,7 @@
 
 use crate::alloc::Global;
 use crate::fs::{File, Files};
-use std::io::{self, IsTerminal, Write};
+use std::io::{self, IsTerminal, Read, Write};
 use std::os::fd::AsFd;
 
 /// What has an allocator.
@@ -34,6 +34,10 @@ impl HostRuntime {
         HostRuntime
     }
 
+    pub fn stdin(&self) -> Stdin {
+        Stdin
+    }
+
     pub fn stdout(&self) -> Output {
         Output::over(io::stdout())
     }
@@ -50,6 +54,16 @@ impl Env for HostRuntime {}
 
 impl Files for HostRuntime {
     type File = File;
+}
+
+/// The standard input of the process.
+#[derive(Clone, Copy, Debug)]
+pub struct Stdin;
+
+impl Read for Stdin {
+    fn read(&mut self, buffer: &mut [u8]) -> io::Result<usize> {
+        io::stdin().read(buffer)
+    }
 }
 
 /// A stream of the process without a buffer. Each failed write is reported.

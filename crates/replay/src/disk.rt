@@ -1,21 +1,53 @@
-//! The files of the process.
+//! The files of the process, and its standard input.
 
 ghost use Rattle.std.specs.Prelude.{None, ⊤};
 
-use replay_program::{FileError, Files};
-use std::fs;
+use replay_program::{FileError, Files, STANDARD_INPUT};
 use std::fs::File;
-use std::io::BufReader;
+use std::io::{BufReader, Read};
+use std::rt::Stdin;
+use std::{fs, io};
 use wire::StdSource;
 
-/// The files that the process can open. `std` tells neither which file it opened nor what a file holds, so no clause does.
+/// The files that the process can open, and its standard input. `std` tells neither which file it opened nor what a file holds, so
+/// no clause does.
 #[derive(Drop)]
 pub struct Disk<'a, R> {
     pub rt: &'a R,
+    pub input: Stdin,
+}
+
+/// A file that was opened, or standard input.
+#[derive(Drop)]
+pub enum Input {
+    File(File),
+    Standard(Stdin),
+}
+
+impl Read for Input {
+    fn read(&mut self, buf: &mut [u8]) -> io::Result<usize> {
+        match self {
+            Input::File(file) => file.read(buf),
+            Input::Standard(input) => input.read(buf),
+        }
+    }
+}
+
+impl<R: fs::Files<File = File> + AllocGlobal> Disk<'_, R> {
+    // Opens the file of this name, or standard input by its own.
+    fn input(&self, name: &str) -> Result<Input, FileError> {
+        if name == STANDARD_INPUT {
+            return Ok(Input::Standard(self.input));
+        }
+        match File::open(self.rt, name) {
+            Ok(file) => Ok(Input::File(file)),
+            Err(_) => Err(FileError::CannotOpen),
+        }
+    }
 }
 
 impl<R: fs::Files<File = File> + AllocGlobal> Files for Disk<'_, R> {
-    type Reader = StdSource<BufReader<File>>;
+    type Reader = StdSource<BufReader<Input>>;
 
     ghost contents = { λ _ _. None };
 
@@ -23,9 +55,9 @@ impl<R: fs::Files<File = File> + AllocGlobal> Files for Disk<'_, R> {
 
     ghost cannot_open = { λ _ _. ⊤ };
 
-    fn open(&self, name: &str) -> Result<StdSource<BufReader<File>>, FileError> {
-        let file = File::open(self.rt, name).map_err(|_| FileError::CannotOpen)?;
-        let reader = BufReader::new(self.rt.alloc(), file).map_err(|_| FileError::Memory)?;
+    fn open(&self, name: &str) -> Result<StdSource<BufReader<Input>>, FileError> {
+        let input = self.input(name)?;
+        let reader = BufReader::new(self.rt.alloc(), input).map_err(|_| FileError::Memory)?;
         Ok(StdSource::new(reader))
     }
 }

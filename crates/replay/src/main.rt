@@ -14,14 +14,14 @@ use replay_program::{StartError, Status, fail_to_start, run_in};
 use std::fs::{File, Files};
 use std::io;
 use std::io::{BufWriter, Write};
-use std::rt::Env;
+use std::rt::{Env, Stdin};
 use std::sync::Wait;
 use std::thread::Threads;
 use wire::{Sink, StdSink};
 
 fn main(rt: HostRuntime) -> Status {
     let out = BufWriter::new(rt.alloc(), rt.stdout());
-    start(&rt, out, &mut StdSink::new(rt.stderr()))
+    start(&rt, rt.stdin(), out, &mut StdSink::new(rt.stderr()))
 }
 
 // Runs the program on the words and the files of the process. Where there is no buffer for standard output, it can't start.
@@ -29,7 +29,7 @@ fn start<
     R: Files<File = File> + Env + AllocGlobal + Threads + Wait + Copy + Send + 'static,
     O: Write + Drop,
     E: Sink,
->(rt: &R, out: io::Result<BufWriter<O>>, error: &mut E) -> Status
+>(rt: &R, input: Stdin, out: io::Result<BufWriter<O>>, error: &mut E) -> Status
     ensures quiet { result ≡ Status.Done → Keeps (E.given error.old) (E.given error.new) }
     ensures no_buffer { IsErr out → (result ≡ Status.Failed) × ((E.failures error.old < E.failures error.new)
         ⊎ Appends (E.given error.old) (E.given error.new) (start_line StartError.Memory)) }
@@ -37,6 +37,6 @@ fn start<
     let Ok(out) = out else {
         return fail_to_start(error, StartError::Memory);
     };
-    let files = Disk { rt };
+    let files = Disk { rt, input };
     run_in(rt, rt.alloc(), rt, &files, &mut StdSink::new(out), error)
 }

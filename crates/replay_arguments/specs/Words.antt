@@ -1,5 +1,6 @@
 -- What the words of a command line ask for: the command as `clap` sees it, and what its matches hold.
-use Rattle.std.specs.Prelude.{◌≡◌, ◌≢◌, ◌⊎◌, ℕ, ◌≤◌, pos, Bool, true, List, [], ◌∷◌, codes, false, length, IfSome, Some, is_some, option_map, ⊤}
+use Rattle.std.specs.Prelude.{◌≡◌, ◌≢◌, ◌⊎◌, ℕ, ◌+◌, ◌≤◌, pos, Bool, true, if◌then◌else◌, List, [], ◌∷◌, codes, false, length, IfSome, Option, None, Some, is_some, option_map, ⊤}
+use Rattle.std.specs.Str.{bytes_eq}
 use Rattle.std.specs.Str.Parse.{digits_value, signed_digits_value, without_leading_plus}
 use Rattle.clap.specs.Values.{IsSignedIn, IsUnsignedIn, bool_text}
 use Rattle.clap.specs.Words.{App, IsAmong, Kinds, Row, Rule, all_of, fault_of, matches_of, new_app, new_rule, one_of, with_rule}
@@ -168,10 +169,30 @@ abbrev pub HasRepliesEach : List Row → Type 0
 HasRepliesEach rows = is_some (all_of (codes "check") rows) ≡ true
     → IfSome (all_of (codes "FILE") rows) (λ names. HasReplies (length names) rows)
 
--- what is found is of no use: two forms, a number out of its range, no files or too many, or other than one file of replies
--- a file
+-- the name of standard input, which is read instead of a file
+abbrev pub standard_input : List ℕ
+standard_input = codes "-"
+
+-- how many of these names are that of standard input
+abbrev pub count_inputs : List (List ℕ) → ℕ
+count_inputs [] = 0
+count_inputs (name ∷ names) = (if bytes_eq name standard_input then 1 else 0) + count_inputs names
+
+-- the same of names that may not be given
+abbrev pub inputs_of : Option (List (List ℕ)) → ℕ
+inputs_of None = 0
+inputs_of (Some names) = count_inputs names
+
+-- Of all names that are found, of files and of files of replies, at most one is that of standard input. It can be read only
+-- once.
+abbrev pub HasInputOnce : List Row → Type 0
+HasInputOnce rows = inputs_of (all_of (codes "FILE") rows) + inputs_of (all_of (codes "check") rows) ≤ 1
+
+-- what is found is of no use: two forms, a number out of its range, no files or too many, other than one file of replies
+-- a file, or standard input twice
 abbrev pub IsOfNoUse : List Row → Type 0
-IsOfNoUse rows = (¬ HasForm rows) ⊎ ((¬ HasNumbers rows) ⊎ ((¬ HasFiles rows) ⊎ (¬ HasRepliesEach rows)))
+IsOfNoUse rows = (¬ HasForm rows)
+    ⊎ ((¬ HasNumbers rows) ⊎ ((¬ HasFiles rows) ⊎ ((¬ HasRepliesEach rows) ⊎ (¬ HasInputOnce rows))))
 
 -- The words are mistaken: `clap` finds a mistake, or else what it finds is of no use.
 abbrev pub IsMistaken : List (List ℕ) → Type 0

@@ -2,10 +2,11 @@
 
 ghost use Rattle.std.specs.Prelude.{◌≡◌, ◌≢◌, ◌≤◌, IfErr, IfOk, IfSome, OnOk, Some, codes, length, map, string_bytes, vec_len};
 ghost use Rattle.clap.specs.Words.{all_of, found_of, rows_of};
-ghost use Rattle.replay_arguments.specs.Words.{AsksForText, HasFiles, HasForm, HasNumbers, HasReplies, HoldsForm, HoldsNumbers, HoldsOptions, IsFormOf, IsMistaken, IsRefusalBy, IsRefusalOf, IsTaken, faults_of, rows_of_words};
+ghost use Rattle.replay_arguments.specs.Words.{AsksForText, HasFiles, HasForm, HasInputOnce, HasNumbers, HasReplies, HoldsForm, HoldsNumbers, HoldsOptions, IsFormOf, IsMistaken, IsRefusalBy, IsRefusalOf, IsTaken, faults_of, rows_of_words};
 ghost use Rattle.clap.specs.declared.error.kind.ErrorKind.{ErrorKind};
 ghost use Rattle.replay_output.specs.declared.options.form.Form.{Form as FormValue};
 
+use crate::arguments::input::has_input_once;
 use clap::ArgMatches;
 use clap::error::ErrorKind;
 use replay_output::{Form, Options};
@@ -13,6 +14,7 @@ use resolver::MAX_PROXIES;
 use std::alloc::{AllocError, Global};
 
 mod command;
+mod input;
 mod refusal;
 
 pub use refusal::Refusal;
@@ -20,7 +22,8 @@ pub use refusal::Refusal;
 /// What the command line asks for. `Options` keeps its numbers within their ranges.
 #[derive(Debug, Drop)]
 pub struct CommandLine<'a> {
-    /// The names of the files, from 1 to [`MAX_PROXIES`].
+    /// The names of the files, from 1 to [`MAX_PROXIES`]. At most one name is [`STANDARD_INPUT`](crate::STANDARD_INPUT), of these
+    /// and those of replies.
     pub files: Vec<&'a str>,
     /// The names of the files of replies, one a file where replies are kept to be checked, and else none.
     pub replies: Vec<&'a str>,
@@ -41,6 +44,7 @@ pub fn read_words<'a>(alloc: Global, words: &'a [String]) -> Result<CommandLine<
         → all_of (codes "check") (rows_of_words (map string_bytes words.entry.now))
         ≡ Some (map (λ name. name.now) line.replies.items)) }
     ensures as_many { IfOk result (λ line. line.options.form ≡ Form.Kept → vec_len line.replies ≡ vec_len line.files) }
+    ensures input { OnOk result (HasInputOnce (rows_of_words (map string_bytes words.entry.now))) }
     ensures taken { OnOk result (IsTaken (map string_bytes words.entry.now)) }
     ensures shown { (text : _) → result ≡ Err (Refusal.Shown text) → AsksForText (map string_bytes words.entry.now) }
     ensures refused { (text : _) → result ≡ Err (Refusal.Refused text) → IsMistaken (map string_bytes words.entry.now) }
@@ -58,6 +62,10 @@ pub fn read_words<'a>(alloc: Global, words: &'a [String]) -> Result<CommandLine<
         let message = "from 1 to 64 files are wanted";
         return Err(refuse(alloc, ErrorKind::TooManyValues, message)?);
     };
+    if !has_input_once(&matches) {
+        let message = "standard input, -, is wanted at most once";
+        return Err(refuse(alloc, ErrorKind::ArgumentConflict, message)?);
+    }
     let replies = replies_of(alloc, &matches, form, files.len())?;
     let files = Vec::from_slice(alloc, files)?;
     Ok(CommandLine {

@@ -10,7 +10,7 @@ use wire::{Failed, Sink, write_all};
 
 mod files;
 
-pub use files::{FileError, Files};
+pub use files::{FileError, Files, STANDARD_INPUT};
 
 /// Why the files were not opened.
 #[derive(Clone, Copy, Debug, PartialEq, Eq)]

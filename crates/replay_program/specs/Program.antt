@@ -14,7 +14,7 @@ use Rattle.replay_program.specs.Checked.{TakesToCompare, check_lines}
 use Rattle.replay_program.specs.Replayed.{DidNotStart, FailsToPrint, FailsToReplay, HasFailed, IsChecked, IsReplayed, Took, Written}
 use Rattle.replay_program.specs.Replies.{IsCauseOf, IsReplyFile, replies_line}
 use Rattle.replay_output.specs.Start.{start_line}
-use Rattle.replay_arguments.specs.Words.{AsksForText, HoldsOptions, IsTaken, is_kept, rows_of_words}
+use Rattle.replay_arguments.specs.Words.{AsksForText, HasInputOnce, HoldsOptions, IsTaken, is_kept, rows_of_words}
 
 -- the line was told, or standard error failed
 abbrev pub Told : Written → List ℕ → Type 0
@@ -69,6 +69,7 @@ pub record AsksToReplay (words : List (List ℕ)) (options : Options) (names : L
   pub holds_names : all_of (codes "FILE") (rows_of_words words) ≡ Some names
   pub least : 1 ≤ length names
   pub most : length names ≤ MAX_PROXIES
+  pub input : HasInputOnce (rows_of_words words)
   pub plain : is_kept options.form ≡ false
 
 -- the words are taken, and ask for a check of the files of these names beside those of replies
@@ -79,6 +80,7 @@ pub record AsksToCheck (words : List (List ℕ)) (options : Options) (names repl
   pub holds_replies : all_of (codes "check") (rows_of_words words) ≡ Some replies
   pub least : 1 ≤ length names
   pub most : length names ≤ MAX_PROXIES
+  pub input : HasInputOnce (rows_of_words words)
   pub as_many : length replies ≡ length names
   pub kept : options.form ≡ Kept
 

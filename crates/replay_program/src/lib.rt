@@ -18,7 +18,8 @@ pub use check::{
 pub use program::{check_files, replay_files, run, run_in};
 pub use replay::replay_over;
 pub use replay_arguments::{
-    CommandLine, FileError, Files, OpeningError, Refusal, fail_to_open, open_files, read_words,
+    CommandLine, FileError, Files, OpeningError, Refusal, STANDARD_INPUT, fail_to_open, open_files,
+    read_words,
 };
 pub use replay_output::{
     Ending, Form, Line, Options, PackedText, PrintError, ProxyFailure, Report, StartError, Status,

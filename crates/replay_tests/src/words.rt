@@ -128,6 +128,10 @@ fn refused_words(rt: HostRuntime) -> Result<(), Fail> {
         "--check f",
         "--check r --check s f",
         "--check r f g",
+        "- -",
+        "f - g -",
+        "--check - -",
+        "-- - -",
     ] {
         refuses(&rt, given)?;
     }
@@ -147,6 +151,10 @@ fn reasons_of_refusals(rt: HostRuntime) -> Result<(), Fail> {
             "--check r f g",
             "error: --check REPLIES is wanted once a file\n",
         ),
+        (
+            "- f -",
+            "error: standard input, -, is wanted at most once\n",
+        ),
         (many.as_str(), "error: from 1 to 64 files are wanted\n"),
     ] {
         let end = end_of(rt.alloc(), given)?;
@@ -161,6 +169,10 @@ fn words_and_options(rt: HostRuntime) -> Result<(), Fail> {
         ("a", "a | 16 5000000 1000000"),
         ("b a b", "b a b | 16 5000000 1000000"),
         ("-- --frames", "--frames | 16 5000000 1000000"),
+        ("a - b", "a - b | 16 5000000 1000000"),
+        ("-- -", "- | 16 5000000 1000000"),
+        ("--check - a", "a | 16 5000000 1000000 check -"),
+        ("- ./- --json", "- ./- | 16 5000000 1000000 json"),
         (
             "--capacity 1 --window=1 a --frames b --limit 1",
             "a b | 1 1 1 frames",
@@ -211,7 +223,7 @@ fn version_and_help(rt: HostRuntime) -> Result<(), Fail> {
     assert!(rt; help.as_str().ends_with("done: "));
     for part in [
         "Usage: replay [OPTIONS] <FILE>...\n",
-        "  <FILE>...\n          Files of batch frames, from 1 to 64; the file at place p is proxy p\n",
+        "  <FILE>...\n          Files of batch frames, from 1 to 64; the file at place p is proxy p, - is standard input\n",
         "      --capacity <N>\n          Batches, or answers, that a lane holds at most, from 1 to 1024\n",
         "          [default: 16]\n\n      --window <N>\n          Versions that the resolver looks back, from 1 to 1099511627776\n",
         "          [default: 5000000]\n\n      --limit <N>\n          Boundaries that the conflict set keeps at most, from 1 to 16777216\n",

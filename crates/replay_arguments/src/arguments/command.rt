@@ -115,5 +115,7 @@ fn file<'a>(alloc: Global) -> Arg<'a>
     Arg::new(alloc, "FILE")
         .action(ArgAction::Append)
         .required(true)
-        .help("Files of batch frames, from 1 to 64; the file at place p is proxy p")
+        .help(
+            "Files of batch frames, from 1 to 64; the file at place p is proxy p, - is standard input",
+        )
 }

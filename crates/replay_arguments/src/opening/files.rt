@@ -4,6 +4,9 @@ ghost use Rattle.std.specs.Prelude.{◌≡◌, ℕ, List, Option, IfOk, OnOk};
 
 use wire::Source;
 
+/// The name of standard input, which is read instead of a file.
+pub const STANDARD_INPUT: &str = "-";
+
 /// Why a file was not opened.
 #[derive(Clone, Copy, Debug, PartialEq, Eq)]
 pub enum FileError {
@@ -13,7 +16,7 @@ pub enum FileError {
     Memory,
 }
 
-/// Opens files by their names.
+/// Opens files by their names, and standard input by its own, [`STANDARD_INPUT`].
 pub trait Files {
     type Reader: Source + Send + Drop + 'static;
 

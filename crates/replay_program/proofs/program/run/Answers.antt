@@ -51,6 +51,7 @@ returns-in-Ok g c =
       holds_replies = c.in-Ok.ensures.replies kept;
       least = omega (arith, c.in-Ok.ensures.least, length-map line.files.items (λ name. name.now));
       most = omega (arith, c.in-Ok.ensures.most, length-map line.files.items (λ name. name.now));
+      input = c.in-Ok.ensures.input;
       as_many = omega (arith, c.in-Ok.ensures.as_many kept, length-map line.files.items (λ name. name.now), length-map line.replies.items (λ name. name.now));
       kept = kept;
     })
@@ -86,6 +87,7 @@ returns-in-Ok-2 g c =
       holds_names = c.in-Ok.ensures.files;
       least = omega (arith, c.in-Ok.ensures.least, length-map line.files.items (λ name. name.now));
       most = omega (arith, c.in-Ok.ensures.most, length-map line.files.items (λ name. name.now));
+      input = c.in-Ok.ensures.input;
       plain = not_kept line.options.form (λ is. no (c.is_kept.ensures.kept.1 is));
     })
     replayed.done replayed.quiet replayed.failed replayed.ends replayed.same in
