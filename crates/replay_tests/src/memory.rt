@@ -6,7 +6,7 @@ use crate::rows::{
     SECOND_FILE_CONTINUES_CHAIN, SNAPSHOT_AT_WRITE,
 };
 use crate::runs::{Reader, file_of, reader};
-use replay_program::{Options, Status, replay_over};
+use replay_program::{Options, Status, Unshared, replay_over};
 use resolver::MAX_PROXIES;
 use std::alloc::{AllocError, Global};
 use std::process::Abort;
@@ -109,7 +109,7 @@ impl Row<'_> {
 #[derive(Drop)]
 struct Run {
     readers: Vec<Reader>,
-    gatekeeper: Arc<Counting, Global>,
+    gatekeeper: Arc<Unshared<Counting>, Global>,
     out: StdSink<Vec<u8>>,
     error: StdSink<Vec<u8>>,
 }
@@ -127,7 +127,7 @@ impl Run {
         }
         Ok(Run {
             readers,
-            gatekeeper: Arc::new(alloc, Counting::new()).map_err(AllocError::from)?,
+            gatekeeper: Arc::new(alloc, Unshared(Counting::new())).map_err(AllocError::from)?,
             out: StdSink::new(Vec::with_capacity(alloc, ROOM)?),
             error: StdSink::new(Vec::with_capacity(alloc, ROOM)?),
         })
@@ -172,7 +172,7 @@ fn ends_as_promised<R: Threads + Wait + Copy + Send + 'static>(
     let (Ok(out), Ok(error)) = (str::from_utf8(&out), str::from_utf8(&error)) else {
         return Err(Unmade::Text("UTF-8"));
     };
-    let counts: &Counting = &gatekeeper;
+    let counts: &Counting = &gatekeeper.0;
     Ok(row.promises(&Ended {
         status,
         out,

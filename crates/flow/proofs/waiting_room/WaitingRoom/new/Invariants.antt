@@ -3,6 +3,6 @@ use Rattle.flow.proofs.waiting_room.WaitingRoom.new.Given as goal
 
 abbrev pub invariant-loop : goal.invariant-loop
 invariant-loop l = record {
-  places : vec_len l.places ≡ l.counter;
-  room : l.proxies ≤ vec_capacity l.places;
+  places : vec_len l.cells ≡ l.counter;
+  room : l.proxies ≤ vec_capacity l.cells;
 }
