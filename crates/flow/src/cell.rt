@@ -6,8 +6,8 @@ use crate::place::Place;
 use crate::words::{STANDS, Words};
 use std::sync::atomic::{AtomicI64, AtomicU64, Ordering};
 
-/// Where a place lies. No clause can say what another thread has stored there. So contracts say what was loaded and
-/// stored, by two relations that only these calls give.
+/// Where a place lies. No clause can say what another thread has stored there. So contracts say
+/// what was loaded and stored, by two relations that only these calls give.
 pub trait PlaceCell {
     // A load of this cell gave the place.
     ghost has_given: { Self → PlaceValue → Type 0 };
@@ -26,10 +26,11 @@ pub trait PlaceCell {
 
 /// A place in three atomic words.
 ///
-/// While the proxy is seen to stand with all its answers received, the state is the turning thread's, which stores an
-/// admission alone. At all other times the words are the proxy's. So no store is lost. The state is loaded first and
-/// stored last, and the previous version is stored before the count of answers and loaded after it. So a previous
-/// version that is loaded is of the batch of that count, or of a later batch of a proxy that has received more answers.
+/// While the proxy is seen to stand with all its answers received, the state is the turning
+/// thread's, which stores an admission alone. At all other times the words are the proxy's. So no
+/// store is lost. The state is loaded first and stored last, and the previous version is stored
+/// before the count of answers and loaded after it. So a previous version that is loaded is of the
+/// batch of that count, or of a later batch of a proxy that has received more answers.
 #[derive(Drop)]
 pub struct AtomicPlace {
     state: AtomicU64,

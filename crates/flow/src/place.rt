@@ -1,6 +1,7 @@
-//! The rules of a place in the waiting room: what it holds of its proxy, and what each side stores there.
+//! The rules of a place in the waiting room: what it holds of its proxy, and what each side stores
+//! there.
 
-ghost use Rattle.std.specs.Prelude.{◌≡◌, ◌≢◌, ◌×◌, ◌⊎◌, ◌↔◌, IsTrue, IsFalse, Some, None};
+ghost use Rattle.std.specs.Prelude.{◌≡◌, ◌≢◌, ◌⊎◌, ◌↔◌, IsTrue, IsFalse, Some, None};
 ghost use Rattle.flow.specs.declared.told.Stand.{Stand as InHand};
 
 use crate::told::{Stand, Told};
@@ -19,10 +20,11 @@ pub enum Place {
 }
 
 impl Place {
-    /// The proxy asks whether it may send the batch with which it stands. Returns what it stores, if anything, and
-    /// whether it may send.
+    /// The proxy asks whether it may send the batch with which it stands. Returns what it stores,
+    /// if anything, and whether it may send.
     ///
-    /// An admission serves one batch: a proxy that may send goes on, and has to ask again for its next batch.
+    /// An admission serves one batch: a proxy that may send goes on, and has to ask again for its
+    /// next batch.
     pub fn ask(self, stand: Stand) -> (Option<Place>, bool)
         ensures admitted { IsTrue result.1 ↔ (self ≡ Place.Admitted) }
         ensures goes { IsTrue result.1 → result.0 ≡ Some Place.Goes }
@@ -36,10 +38,11 @@ impl Place {
         }
     }
 
-    /// The turning thread admits the batch with which the proxy stands. Returns what it stores: nothing if the proxy
-    /// doesn't stand.
+    /// The turning thread admits the batch with which the proxy stands. Returns what it stores:
+    /// nothing if the proxy doesn't stand.
     pub fn admit(self) -> Option<Place>
-        ensures admitted { (stand : InHand) → self ≡ Place.Stands stand → result ≡ Some Place.Admitted }
+        ensures admitted { (stand : InHand) → self ≡ Place.Stands stand
+            → result ≡ Some Place.Admitted }
         ensures others { ((stand : InHand) → self ≢ Place.Stands stand) → result ≡ None }
     {
         match self {
@@ -50,7 +53,8 @@ impl Place {
 
     /// Returns what the turning thread is told by this place.
     pub fn told(self) -> Told
-        ensures stands { (stand : InHand) → (result ≡ Told.Stands stand) ↔ (self ≡ Place.Stands stand) }
+        ensures stands { (stand : InHand)
+            → (result ≡ Told.Stands stand) ↔ (self ≡ Place.Stands stand) }
         ensures closed { (result ≡ Told.Closed) ↔ (self ≡ Place.Closed) }
         ensures goes { (result ≡ Told.Goes) ↔ ((self ≡ Place.Goes) ⊎ (self ≡ Place.Admitted)) }
     {

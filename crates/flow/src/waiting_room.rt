@@ -1,6 +1,7 @@
 //! Where proxies tell that they stand, and are let through.
 
-ghost use Rattle.std.specs.Prelude.{◌≡◌, ◌≢◌, ◌≤◌, ◌×◌, ◌⊎◌, length, slice_get, IfOk, IfSome, IsTrue, IsFalse, Some};
+ghost use Rattle.std.specs.Prelude.{◌≡◌, ◌≢◌, ◌≤◌, ◌⊎◌, length, slice_get};
+ghost use Rattle.std.specs.Prelude.{IfOk, IfSome, IsTrue, IsFalse, Some};
 ghost use Rattle.flow.specs.declared.told.Stand.{Stand as InHand};
 ghost use Rattle.flow.specs.declared.place.Place.{Place as PlaceValue};
 
@@ -10,12 +11,12 @@ use crate::told::{Stand, Told};
 use std::alloc::{AllocError, Global};
 use std::marker::Model;
 
-/// What proxies tell of themselves, in threads of their own, to the thread that turns the resolver. No call waits.
-/// Contracts see a room as its cells, each at its proxy's number.
+/// What proxies tell of themselves, in threads of their own, to the thread that turns the resolver.
+/// No call waits. Contracts see a room as its cells, each at its proxy's number.
 ///
-/// A proxy's calls are [`stands`](Self::stands) and [`closes`](Self::closes), from one thread. The turning thread's are
-/// [`told`](Self::told) and [`let_through`](Self::let_through), this only for a proxy that is told to stand and has received
-/// all answers that were sent to it.
+/// A proxy's calls are [`stands`](Self::stands) and [`closes`](Self::closes), from one thread. The
+/// turning thread's are [`told`](Self::told) and [`let_through`](Self::let_through), this only for
+/// a proxy that is told to stand and has received all answers that were sent to it.
 #[derive(Drop)]
 pub struct WaitingRoom<C = AtomicPlace> {
     cells: Vec<C>,
@@ -43,8 +44,8 @@ impl WaitingRoom<AtomicPlace> {
 }
 
 impl<C: PlaceCell> WaitingRoom<C> {
-    /// Tells that the proxy stands, and returns whether it was let through. The proxy asks again and again, until it was, or has
-    /// received an answer.
+    /// Tells that the proxy stands, and returns whether it was let through. The proxy asks again
+    /// and again, until it was, or has received an answer.
     ///
     /// A proxy without a place is let through.
     pub fn stands(&self, proxy: usize, stand: Stand) -> bool
@@ -65,7 +66,8 @@ impl<C: PlaceCell> WaitingRoom<C> {
 
     /// Tells that the proxy sends no more.
     pub fn closes(&self, proxy: usize)
-        ensures closed { (cell : C) → slice_get self.now proxy ≡ Some cell → C.was_stored cell Place.Closed }
+        ensures closed { (cell : C) → slice_get self.now proxy ≡ Some cell
+            → C.was_stored cell Place.Closed }
     {
         if let Some(cell) = self.cells.get(proxy) {
             cell.store(Place::Closed);

@@ -99,8 +99,8 @@ module _ {T : Type 0} where
     beside new (Item x) next =
         let same_taken = ap (λ (v : Known T). v.intake.taken) seen_is in
         let at : slice_get old.0.port.sent (length old.0.intake.taken) ≡ Some x =
-        (λ i. slice_get (sym same_port i).sent (length (sym same_taken i))) ∙ next.2.0 may_still in (
-          subst (λ p. Agree p new.intake slots) same_port (next.2.1 may_still),
+        (λ i. slice_get (sym same_port i).sent (length (sym same_taken i))) ∙ next.2 may_still in (
+          subst (λ p. Agree p new.intake slots) same_port (next.3 may_still),
           ap (λ (v : Known T). v.port) next.0 ∙ same_port,
           ap (λ xs. next_of xs old.0.port.closed)
               (sym (from_item old.0.port.sent (length old.0.intake.taken) x at)),

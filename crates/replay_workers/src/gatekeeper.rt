@@ -16,14 +16,14 @@ pub trait Gatekeeper {
     fn answered(&self, proxy: usize, place: u64);
 }
 
-/// A gatekeeper that keeps shares too: says whose batch is let through where all have used up their share. The program's is a
-/// [`WaitingRoom`]. [`Unshared`] makes one of any gatekeeper.
+/// A gatekeeper that keeps shares too: says whose batch is let through where all have used up their
+/// share. The program's is a [`WaitingRoom`]. [`Unshared`] makes one of any gatekeeper.
 pub trait ShareKeeper: Gatekeeper {
     // A proxy whose share is used up may send this batch all the same.
     ghost lets_through: { Self → ℕ → InHand → Type 0 };
 
-    /// Tells that the proxy stands with a batch in hand, since its share is used up. Returns whether the batch may be sent all
-    /// the same. It is asked before each try.
+    /// Tells that the proxy stands with a batch in hand, since its share is used up. Returns
+    /// whether the batch may be sent all the same. It is asked before each try.
     fn stands(&self, proxy: usize, stand: Stand) -> bool
         ensures through { IsTrue result → lets_through self.now proxy stand };
 
