@@ -84,10 +84,10 @@ impl<C: PlaceCell> WaitingRoom<C> {
         ensures goes { (cell : C) → slice_get self.now proxy ≡ Some cell
             → result ≡ Told.Goes → C.has_given cell Place.Goes ⊎ C.has_given cell Place.Admitted }
     {
-        match self.cells.get(proxy) {
-            Some(cell) => cell.load().told(),
-            None => Told::Goes,
-        }
+        let Some(place) = self.cells.get(proxy) else {
+            return Told::Goes;
+        };
+        place.load().told()
     }
 
     /// Lets the proxy's batch through, if the proxy stands.

@@ -95,15 +95,17 @@ module _ {T : Type 0} where
               ((sym found ∙ look.close may) i),
         )
 
-    pub beside : (new : Known T) (answer : Taken T) → NextOf slots seen.0 new answer → Beside slots old.0 new answer
-    beside new (Item x) next =
+    pub beside : (there : ℕ) → there ≡ slots → (new : Known T) (answer : Taken T) → NextOf there seen.0 new answer
+        → Beside slots old.0 new answer
+    beside there same new (Item x) next =
         let same_taken = ap (λ (v : Known T). v.intake.taken) seen_is in
         let at : slice_get old.0.port.sent (length old.0.intake.taken) ≡ Some x =
         (λ i. slice_get (sym same_port i).sent (length (sym same_taken i))) ∙ next.2 may_still in (
-          subst (λ p. Agree p new.intake slots) same_port (next.3 may_still),
+          subst (λ p. Agree p new.intake slots) same_port
+              (subst (λ n. Agree seen.0.port new.intake n) same (next.3 may_still)),
           ap (λ (v : Known T). v.port) next.0 ∙ same_port,
           ap (λ xs. next_of xs old.0.port.closed)
               (sym (from_item old.0.port.sent (length old.0.intake.taken) x at)),
         )
-    beside new Empty next = ends new false next.0 next.1 next.2
-    beside new End next = ends new true next.0 next.1 next.2
+    beside there same new Empty next = ends new false next.0 next.1 next.2
+    beside there same new End next = ends new true next.0 next.1 next.2

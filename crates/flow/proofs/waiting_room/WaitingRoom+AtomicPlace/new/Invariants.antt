@@ -1,5 +1,5 @@
 use Rattle.std.proofs.Common.{◌≡◌, ◌≤◌, vec_len, vec_capacity}
-use Rattle.flow.proofs.waiting_room.WaitingRoom.new.Given as goal
+use Rattle.flow.proofs.waiting_room.WaitingRoom+AtomicPlace.new.Given as goal
 
 abbrev pub invariant-loop : goal.invariant-loop
 invariant-loop l = record {
