@@ -87,7 +87,7 @@ impl<C: PlaceCell> WaitingRoom<C> {
         let Some(place) = self.cells.get(proxy) else {
             return Told::Goes;
         };
-        place.load().told()
+        told_by(place)
     }
 
     /// Lets the proxy's batch through, if the proxy stands.
@@ -100,6 +100,17 @@ impl<C: PlaceCell> WaitingRoom<C> {
             store_some(cell, cell.load().admit());
         }
     }
+}
+
+// Returns what the cell's proxy has told.
+fn told_by<C: PlaceCell>(cell: &C) -> Told
+    ensures stands { (stand : InHand) → result ≡ Told.Stands stand
+        → C.has_given cell.now (Place.Stands stand) }
+    ensures closed { result ≡ Told.Closed → C.has_given cell.now Place.Closed }
+    ensures goes { result ≡ Told.Goes
+        → C.has_given cell.now Place.Goes ⊎ C.has_given cell.now Place.Admitted }
+{
+    cell.load().told()
 }
 
 // Stores the place, if there is one.
