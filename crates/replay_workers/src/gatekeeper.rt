@@ -16,9 +16,9 @@ pub trait Gatekeeper {
     fn answered(&self, proxy: usize, place: u64);
 }
 
-/// A gatekeeper that keeps shares too: says whose batch is let through where all have used up their
-/// share. The program's is a [`WaitingRoom`]. [`Unshared`] makes one of any gatekeeper.
-pub trait ShareKeeper: Gatekeeper {
+/// Keeps shares: says whose batch is let through where all have used up their share. The program's is a
+/// [`WaitingRoom`]. [`Unshared`] keeps none, for any [`Gatekeeper`].
+pub trait ShareKeeper {
     // A proxy whose share is used up may send this batch all the same.
     ghost lets_through: { Self → ℕ → InHand → Type 0 };
 
@@ -97,7 +97,7 @@ impl<G: Gatekeeper> Gatekeeper for Unshared<G> {
     }
 }
 
-impl<G: Gatekeeper> ShareKeeper for Unshared<G> {
+impl<G> ShareKeeper for Unshared<G> {
     ghost use Rattle.std.specs.Prelude.{⊤};
 
     ghost lets_through = { λ _ _ _. ⊤ };

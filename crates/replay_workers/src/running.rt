@@ -10,7 +10,7 @@ ghost use Rattle.resolver.specs.Resolver.{IsResolving, IsThrough};
 ghost use Rattle.replay_workers.specs.Run.{HasCapacity, IsRun, is_complete};
 ghost use Rattle.replay_workers.specs.Stops.{IsAccountedFor};
 
-use crate::gatekeeper::ShareKeeper;
+use crate::gatekeeper::{Gatekeeper, ShareKeeper};
 use crate::outcome::Outcome;
 use crate::threads::{join_all, start_workers};
 use crate::watch::Watch;
@@ -28,7 +28,7 @@ use wire::Source;
 /// Once a thread was started, this one takes no memory but in turns and in starting threads. After an error no thread is joined.
 pub fn run<
     S: Source + Send + Drop + 'static,
-    G: ShareKeeper + Send + Sync + Drop + 'static,
+    G: Gatekeeper + ShareKeeper + Send + Sync + Drop + 'static,
     R: Threads + Wait + Copy + Send + 'static,
 >(
     rt: &R,
