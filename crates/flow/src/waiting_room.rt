@@ -1,102 +1,123 @@
 //! Where proxies tell that they stand, and are let through.
 
-ghost use Rattle.std.specs.Prelude.{◌≡◌, ◌≤◌, IfOk, IsTrue};
+ghost use Rattle.std.specs.Prelude.{◌≡◌, ◌≢◌, ◌≤◌, ◌⊎◌, length, slice_get};
+ghost use Rattle.std.specs.Prelude.{IfOk, IfSome, IsTrue, IsFalse, Some};
+ghost use Rattle.flow.specs.declared.told.Stand.{Stand as InHand};
+ghost use Rattle.flow.specs.declared.place.Place.{Place as PlaceValue};
 
+use crate::cell::{AtomicPlace, PlaceCell};
+use crate::place::Place;
 use crate::told::{Stand, Told};
-use crate::word::{CLOSED, GOES, PASSES, told_by};
 use std::alloc::{AllocError, Global};
 use std::marker::Model;
-use std::sync::atomic::{AtomicI64, AtomicU64, Ordering};
 
-/// What proxies tell of themselves, in threads of their own, to the thread that turns the resolver. No call waits.
+/// What proxies tell of themselves, in threads of their own, to the thread that turns the resolver.
+/// No call waits. Contracts see a room as its cells, each at its proxy's number.
 ///
-/// A proxy's calls are [`stands`](Self::stands) and [`closes`](Self::closes), from one thread. The turning thread's are
-/// [`told`](Self::told) and [`let_through`](Self::let_through), this only for a proxy that is told to stand and has received
-/// all answers that were sent to it.
+/// A proxy's calls are [`stands`](Self::stands) and [`closes`](Self::closes), from one thread. The
+/// turning thread's are [`told`](Self::told) and [`let_through`](Self::let_through), this only for
+/// a proxy that is told to stand and has received all answers that were sent to it.
 #[derive(Drop)]
-pub struct WaitingRoom {
-    places: Vec<Place>,
+pub struct WaitingRoom<C = AtomicPlace> {
+    cells: Vec<C>,
 }
 
-impl Model for WaitingRoom {
-    ghost use Rattle.std.specs.Prelude.{ℕ, vec_len};
+impl<C> Model for WaitingRoom<C> {
+    ghost use Rattle.std.specs.Prelude.{List};
 
-    ghost Value = { ℕ };
+    ghost Value = { List C };
 
-    ghost view = { λ room. vec_len room.places };
+    ghost view = { λ room. room.cells.items };
 }
 
-// What a proxy tells: its word, and the previous version of the batch with which it stands.
-//
-// While it is seen to stand, as the calls above say, its word is the turning thread's, which stores `PASSES` alone. At all
-// other times it is the proxy's. So no store is lost.
-#[derive(Drop)]
-struct Place {
-    word: AtomicU64,
-    previous: AtomicI64,
-}
-
-impl WaitingRoom {
+impl WaitingRoom<AtomicPlace> {
     /// Creates a room with a place for each of so many proxies, all of which go.
     pub fn new(alloc: Global, proxies: usize) -> Result<Self, AllocError>
-        ensures places { IfOk result (λ room. room ≡ proxies) }
+        ensures places { IfOk result (λ room. length room ≡ proxies) }
     {
-        let mut places = Vec::with_capacity(alloc, proxies)?;
+        let mut cells = Vec::with_capacity(alloc, proxies)?;
         for _ in 0..proxies {
-            places.push_reserved(Place {
-                word: AtomicU64::new(GOES),
-                previous: AtomicI64::new(0),
-            });
+            cells.push_reserved(AtomicPlace::new());
         }
-        Ok(WaitingRoom { places })
+        Ok(WaitingRoom { cells })
     }
+}
 
-    /// Tells that the proxy stands, and returns whether it was let through. The proxy asks again and again, until it was, or has
-    /// received an answer.
+impl<C: PlaceCell> WaitingRoom<C> {
+    /// Tells that the proxy stands, and returns whether it was let through. The proxy asks again
+    /// and again, until it was, or has received an answer.
     ///
     /// A proxy without a place is let through.
     pub fn stands(&self, proxy: usize, stand: Stand) -> bool
-        ensures no_place { self.now ≤ proxy → IsTrue result }
+        ensures no_place { length self.now ≤ proxy → IsTrue result }
+        ensures admitted { (cell : C) → slice_get self.now proxy ≡ Some cell → IsTrue result
+            → C.has_given cell Place.Admitted × C.was_stored cell Place.Goes }
+        ensures waits { (cell : C) → slice_get self.now proxy ≡ Some cell → IsFalse result
+            → (place : PlaceValue) × C.has_given cell place × (place ≢ Place.Admitted)
+            × ((place ≡ Place.Stands stand) ⊎ C.was_stored cell (Place.Stands stand)) }
     {
-        let Some(place) = self.places.get(proxy) else {
+        let Some(cell) = self.cells.get(proxy) else {
             return true;
         };
-        match place.word.load(Ordering::SeqCst) {
-            PASSES => {
-                place.word.store(GOES, Ordering::SeqCst);
-                true
-            }
-            answered if answered == stand.answered => false,
-            _ => {
-                place.previous.store(stand.previous, Ordering::SeqCst);
-                place.word.store(stand.answered, Ordering::SeqCst);
-                false
-            }
-        }
+        let (next, is_admitted) = cell.load().ask(stand);
+        store_some(cell, next);
+        is_admitted
     }
 
     /// Tells that the proxy sends no more.
-    pub fn closes(&self, proxy: usize) {
-        if let Some(place) = self.places.get(proxy) {
-            place.word.store(CLOSED, Ordering::SeqCst);
+    pub fn closes(&self, proxy: usize)
+        ensures closed { (cell : C) → slice_get self.now proxy ≡ Some cell
+            → C.was_stored cell Place.Closed }
+    {
+        if let Some(cell) = self.cells.get(proxy) {
+            cell.store(Place::Closed);
         }
     }
 
     /// Returns what the proxy has told. A proxy without a place goes.
     pub fn told(&self, proxy: usize) -> Told
-        ensures no_place { self.now ≤ proxy → result ≡ Told.Goes }
+        ensures no_place { length self.now ≤ proxy → result ≡ Told.Goes }
+        ensures stands { (cell : C) (stand : InHand) → slice_get self.now proxy ≡ Some cell
+            → result ≡ Told.Stands stand → C.has_given cell (Place.Stands stand) }
+        ensures closed { (cell : C) → slice_get self.now proxy ≡ Some cell
+            → result ≡ Told.Closed → C.has_given cell Place.Closed }
+        ensures goes { (cell : C) → slice_get self.now proxy ≡ Some cell
+            → result ≡ Told.Goes → C.has_given cell Place.Goes ⊎ C.has_given cell Place.Admitted }
     {
-        let Some(place) = self.places.get(proxy) else {
+        let Some(place) = self.cells.get(proxy) else {
             return Told::Goes;
         };
-        let word = place.word.load(Ordering::SeqCst);
-        told_by(word, place.previous.load(Ordering::SeqCst))
+        told_by(place)
     }
 
-    /// Lets the proxy's batch through.
-    pub fn let_through(&self, proxy: usize) {
-        if let Some(place) = self.places.get(proxy) {
-            place.word.store(PASSES, Ordering::SeqCst);
+    /// Lets the proxy's batch through, if the proxy stands.
+    pub fn let_through(&self, proxy: usize)
+        ensures admitted { (cell : C) → slice_get self.now proxy ≡ Some cell
+            → (place : PlaceValue) × C.has_given cell place
+            × ((stand : InHand) → place ≡ Place.Stands stand → C.was_stored cell Place.Admitted) }
+    {
+        if let Some(cell) = self.cells.get(proxy) {
+            store_some(cell, cell.load().admit());
         }
+    }
+}
+
+// Returns what the cell's proxy has told.
+fn told_by<C: PlaceCell>(cell: &C) -> Told
+    ensures stands { (stand : InHand) → result ≡ Told.Stands stand
+        → C.has_given cell.now (Place.Stands stand) }
+    ensures closed { result ≡ Told.Closed → C.has_given cell.now Place.Closed }
+    ensures goes { result ≡ Told.Goes
+        → C.has_given cell.now Place.Goes ⊎ C.has_given cell.now Place.Admitted }
+{
+    cell.load().told()
+}
+
+// Stores the place, if there is one.
+fn store_some<C: PlaceCell>(cell: &C, place: Option<Place>)
+    ensures stored { IfSome place (λ stored. C.was_stored cell.now stored) }
+{
+    if let Some(stored) = place {
+        cell.store(stored);
     }
 }

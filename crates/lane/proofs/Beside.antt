@@ -7,14 +7,13 @@ use Rattle.atomic_table.specs.Table.{Me}
 use Rattle.std.specs.Prelude.{Option}
 use Rattle.lane.specs.Lane.{LaneId, Lane}
 use Rattle.lane.specs.Ring.{Agree}
-use Rattle.lane.specs.Steps.{TailLooked, NextOf, intake_looked, intake_took}
+use Rattle.lane.specs.Steps.{TailLooked, NextOf, intake_looked}
 use Rattle.lane.specs.Taken.{next_of}
 use Rattle.lane.specs.declared.intake.Taken.{Taken}
 use Rattle.lane.specs.declared.intake.Taken.TheVariants.{Item, Empty, End}
 use Rattle.lane.specs.declared.ring.PortKnows.{PortKnows}
 use Rattle.lane.specs.declared.ring.IntakeKnows.{IntakeKnows}
 use Rattle.lane.specs.declared.ring.Known.{Known}
-use Rattle.lane.proofs.RingLists.{goes_on}
 
 module _ {T : Type 0} where
   from_item : (xs : List T) (k : ℕ) (x : T) → slice_get xs k ≡ Some x → drop k xs ≡ x ∷ drop (suc k) xs
@@ -38,6 +37,7 @@ module _ {T : Type 0} where
         closed = p.closed;
         seen_taken = p.seen_taken;
         looks = p.looks;
+        log = p.log;
       } record {
         lane = other;
         capacity = there;
@@ -45,6 +45,7 @@ module _ {T : Type 0} where
         seen_sent = t.seen_sent;
         seen_close = t.seen_close;
         looks = t.looks;
+        log = t.log;
       }
   as_lane one other p t slots capacity there a same = record {
     in_order = a.in_order;
@@ -54,6 +55,7 @@ module _ {T : Type 0} where
     seen_close = a.seen_close;
     taken_seen = a.taken_seen;
     all_seen = a.all_seen;
+    one_log = a.one_log;
   }
 
   -- after its look and the item that it then takes
@@ -64,65 +66,46 @@ module _ {T : Type 0} where
   module _ (slots : ℕ) (old : Me (Option T) (Known T)) (sent : ℕ) (closed : Bool) (may : old.0.sends ≡ true)
       (seen : Me (Option T) (Known T)) (look : TailLooked slots old sent closed seen) where
     abbrev looked : Known T
-    looked = record old.0 { intake = intake_looked old.0.intake sent closed }
+    looked = record old.0 { intake = intake_looked old.0.intake sent closed seen.0.intake.log }
 
     seen_is : seen.0 ≡ looked
     seen_is = ap (λ (m : Me (Option T) (Known T)). m.0) look.looked
 
-    agree_looked : Agree old.0.port looked.intake slots
-    agree_looked = let a = look.agree may in record {
-      in_order = a.in_order;
-      bounded = a.bounded;
-      few = a.few;
-      seen_taken = a.seen_taken;
-      seen_sent = omega (arith, look.all_sent may);
-      seen_close = λ yes. sym (look.close may) ∙ yes;
-      taken_seen = look.taken_sent;
-      all_seen = λ _. look.all_sent may;
-      next = a.next;
-    }
+    may_still : seen.0.sends ≡ true
+    may_still = ap (λ (v : Known T). v.sends) seen_is ∙ may
+
+    agree_looked : Agree old.0.port seen.0.intake slots
+    agree_looked = look.agree_after may
+
+    same_port : seen.0.port ≡ old.0.port
+    same_port = ap (λ (v : Known T). v.port) seen_is
 
     ends : (new : Known T) (end : Bool) → new ≡ seen.0 → length seen.0.intake.taken ≡ seen.0.intake.seen_sent
         → seen.0.intake.seen_close ≡ end → Beside slots old.0 new (next_of [] end)
     ends new end same all close =
-        let is : new ≡ looked = same ∙ seen_is in
-        let taken_all : length old.0.intake.taken ≡ sent = subst
-        (λ (v : Known T). length v.intake.taken ≡ v.intake.seen_sent) seen_is all in
-        let found : closed ≡ end = subst (λ (v : Known T). v.intake.seen_close ≡ end) seen_is close in (
-          subst (λ (v : Known T). Agree old.0.port v.intake slots) (sym is) agree_looked,
-          ap (λ (v : Known T). v.port) is,
+        let taken_all : length old.0.intake.taken ≡ sent =
+        sym (ap (λ (v : Known T). length v.intake.taken) seen_is) ∙ all
+        ∙ ap (λ (v : Known T). v.intake.seen_sent) seen_is in
+        let found : closed ≡ end = sym (ap (λ (v : Known T). v.intake.seen_close) seen_is) ∙ close in (
+          subst (λ (v : Known T). Agree old.0.port v.intake slots) (sym same) agree_looked,
+          ap (λ (v : Known T). v.port) same ∙ same_port,
           λ i. next_of
               (sym (from_end old.0.port.sent (length old.0.intake.taken)
               (omega (arith, taken_all, look.all_sent may))) i)
               ((sym found ∙ look.close may) i),
         )
 
-    pub beside : (new : Known T) (answer : Taken T) → NextOf seen.0 new answer → Beside slots old.0 new answer
-    beside new (Item x) next =
-        let a = agree_looked in
-        let now : Known T = record looked { intake = intake_took looked.intake x } in
-        let is : new ≡ now = next.0 ∙ ap (λ (v : Known T). record v { intake = intake_took v.intake x }) seen_is in
-        let within : length old.0.intake.taken < sent = subst
-        (λ (v : Known T). length v.intake.taken < v.intake.seen_sent) seen_is next.1 in
-        let at : slice_get old.0.port.sent (length old.0.intake.taken) ≡ Some x = subst
-        (λ (v : Known T). v.sends ≡ true → slice_get v.port.sent (length v.intake.taken) ≡ Some x) seen_is next.2 may in
-        let more : length now.intake.taken ≡ length old.0.intake.taken + 1 =
-        length-append old.0.intake.taken (x ∷ []) in
-        let agree : Agree old.0.port now.intake slots = record {
-          in_order = goes_on old.0.intake.taken old.0.port.sent x a.in_order at;
-          bounded = omega (arith, more, a.bounded);
-          few = a.few;
-          seen_taken = omega (arith, more, a.seen_taken);
-          seen_sent = a.seen_sent;
-          seen_close = a.seen_close;
-          taken_seen = omega (arith, more, within);
-          all_seen = a.all_seen;
-          next = λ y e. absurd (none-some y e);
-        } in (
-          subst (λ (v : Known T). Agree old.0.port v.intake slots) (sym is) agree,
-          ap (λ (v : Known T). v.port) is,
+    pub beside : (there : ℕ) → there ≡ slots → (new : Known T) (answer : Taken T) → NextOf there seen.0 new answer
+        → Beside slots old.0 new answer
+    beside there same new (Item x) next =
+        let same_taken = ap (λ (v : Known T). v.intake.taken) seen_is in
+        let at : slice_get old.0.port.sent (length old.0.intake.taken) ≡ Some x =
+        (λ i. slice_get (sym same_port i).sent (length (sym same_taken i))) ∙ next.2 may_still in (
+          subst (λ p. Agree p new.intake slots) same_port
+              (subst (λ n. Agree seen.0.port new.intake n) same (next.3 may_still)),
+          ap (λ (v : Known T). v.port) next.0 ∙ same_port,
           ap (λ xs. next_of xs old.0.port.closed)
               (sym (from_item old.0.port.sent (length old.0.intake.taken) x at)),
         )
-    beside new Empty next = ends new false next.0 next.1 next.2
-    beside new End next = ends new true next.0 next.1 next.2
+    beside there same new Empty next = ends new false next.0 next.1 next.2
+    beside there same new End next = ends new true next.0 next.1 next.2

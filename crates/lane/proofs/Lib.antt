@@ -1,3 +1,4 @@
 mod Beside
 mod RingLists
+mod RingLog
 mod RingRule

@@ -15,10 +15,13 @@ use Rattle.atomic_table.proofs.Lists.{at_set, at_snoc, set_else, set_here}
 use Rattle.lane.specs.declared.ring.PortKnows.{PortKnows}
 use Rattle.lane.specs.declared.ring.IntakeKnows.{IntakeKnows}
 use Rattle.lane.specs.declared.ring.Known.{Known}
+use Rattle.lane.specs.declared.moves.Move.TheVariants.{Send, Take, PortLook, IntakeLook}
+use Rattle.lane.specs.Moves.{GoesOnBy, is_send, is_take}
 use Rattle.lane.specs.Ring.{tail_word, Agree, Stand, Fits, IsRing, at_first, idle, that_takes, that_sends, that_does_both}
 use Rattle.lane.specs.Steps.{HeadLooked, Claimed, Sent, Closed, TailFound, Found, Took, port_looked, port_sent}
 use Rattle.lane.specs.Steps.{intake_looked, intake_took}
 use Rattle.lane.proofs.RingLists.{item_there, item_last, item_before, goes_on, one_slot}
+use Rattle.lane.proofs.RingLog.{by_port, by_intake, goes_on_by, as_many_of}
 
 -- a load leaves the words as they are
 loaded : (words : List ℕ) (i : ℕ) → words ≡ slice_set words i (slice_index words i)
@@ -78,6 +81,15 @@ module _ {T : Type 0} where
             taken_seen = omega arith;
             all_seen = λ yes. refl;
             next = λ x e. absurd (none-some x e);
+            one_log = record {
+              log = [];
+              of_port = ([], refl);
+              of_intake = ([], refl);
+              of_sends = (refl, refl);
+              of_port_looks = (refl, refl);
+              of_takes = (refl, refl);
+              of_intake_looks = (refl, refl);
+            };
           };
           slots = λ k low high not_next not_held.
               filled None capacity (k % length homes) (omega (arith, width, mod-lt k {m = length homes} (omega (arith, width, some_slot))));
@@ -143,9 +155,11 @@ module _ {T : Type 0} where
   looks_at_head slots id me sends s h count at bound =
       let known = (h.each id me.0 at).sends sends in
       let n = slice_index s.words 0 in
-      let p = port_looked h.port n in
       let st = h.stand in
       let a = st.agree in
+      let log = a.one_log.log ++ PortLook ∷ [] in
+      let p = port_looked h.port n log in
+      let no_send : length h.port.sent ≡ length h.port.sent + 0 = omega arith in
       let head : n ≡ length h.intake.taken = st.head in
       let agree : Agree p h.intake (length s.homes) = record {
         in_order = a.in_order;
@@ -157,6 +171,7 @@ module _ {T : Type 0} where
         taken_seen = a.taken_seen;
         all_seen = a.all_seen;
         next = a.next;
+        one_log = by_port _ _ _ _ _ _ a.one_log PortLook (length h.port.sent) (h.port.looks + 1) no_send refl refl refl;
       } in
       let stand : Stand s.words s.homes p h.intake =
       record { count = st.count; head = st.head; tail = st.tail; agree = agree; slots = st.slots } in (
@@ -166,7 +181,10 @@ module _ {T : Type 0} where
         subst (λ ws. IsRing record { words = ws; homes = s.homes; views = set s.views id (record me.0 { port = p }) })
             (loaded s.words 0) (port_moves s h id me.0 p s.words s.homes at sends stand),
         record {
-          looked = ap (λ (q : PortKnows T). (record me.0 { port = port_looked q n }, me.1)) (sym known.1);
+          looked = ap (λ (q : PortKnows T). (record me.0 { port = port_looked q n log }, me.1)) (sym known.1);
+          goes_on = subst (λ (q : PortKnows T). GoesOnBy PortLook q.log log) (sym known.1)
+              (goes_on_by h.port.log a.one_log.log PortLook a.one_log.of_port);
+          moves = head ∙ sym (as_many_of is_take a.one_log.log PortLook _ refl a.one_log.of_takes.1);
           rises = omega (arith, head, a.seen_taken, ap (λ (q : PortKnows T). q.seen_taken) known.1);
           taken_sent = omega (
             arith,
@@ -177,6 +195,8 @@ module _ {T : Type 0} where
           );
           bounded = omega (arith, head, count, a.bounded, ap (λ (q : PortKnows T). length q.sent) known.1);
           all = λ yes. head ∙ ap (λ (t : IntakeKnows T). length t.taken) (sym ((h.each id me.0 at).takes yes).1);
+          agree = λ yes. subst (λ (q : IntakeKnows T). Agree p q slots) (sym ((h.each id me.0 at).takes yes).1)
+              (subst (λ m. Agree p h.intake m) count agree);
         },
       )
 
@@ -227,6 +247,7 @@ module _ {T : Type 0} where
         taken_seen = a.taken_seen;
         all_seen = a.all_seen;
         next = a.next;
+        one_log = a.one_log;
       } in
       let stand : Stand s.words homes p h.intake = record {
         count = st.count;
@@ -264,8 +285,10 @@ module _ {T : Type 0} where
       let sent = length h.port.sent in
       let taken = length h.intake.taken in
       let n = length s.homes in
-      let p = port_sent h.port x in
+      let log = a.one_log.log ++ Send ∷ [] in
+      let p = port_sent h.port x log in
       let t = h.intake in
+      let no_look : h.port.looks ≡ h.port.looks + 0 = omega arith in
       let same_sent = ap (λ (q : PortKnows T). length q.sent) known.1 in
       let started : taken ≤ sent = omega (arith, a.taken_seen, a.seen_sent) in
       let near : sent < taken + n =
@@ -292,6 +315,7 @@ module _ {T : Type 0} where
         next = λ y e. let is = a.next y e in
             item_before h.port.sent x taken
             (λ all. let within = slice_get_within h.port.sent taken y is in omega (arith, all, within)) ∙ is;
+        one_log = by_port _ _ _ _ _ _ a.one_log Send (length p.sent) h.port.looks more no_look refl refl;
       } in
       let words = slice_set s.words 16 new in
       let tail : new ≡ tail_word (length p.sent) h.port.closed =
@@ -328,7 +352,9 @@ module _ {T : Type 0} where
             (sym back) (port_moves s h id me.0 p words homes at may stand),
         record {
           holds = record { item = x; held = held };
-          sent = ap (λ (q : PortKnows T). (record me.0 { port = port_sent q x }, rest me.1)) (sym known.1);
+          sent = ap (λ (q : PortKnows T). (record me.0 { port = port_sent q x log }, rest me.1)) (sym known.1);
+          goes_on = subst (λ (q : PortKnows T). GoesOnBy Send q.log log) (sym known.1)
+              (goes_on_by h.port.log a.one_log.log Send a.one_log.of_port);
         },
       )
 
@@ -351,6 +377,7 @@ module _ {T : Type 0} where
         taken_seen = a.taken_seen;
         all_seen = a.all_seen;
         next = a.next;
+        one_log = a.one_log;
       } in
       let stand : Stand words s.homes p h.intake = record {
         count = length-set s.words 16 new ∙ st.count;
@@ -377,7 +404,9 @@ module _ {T : Type 0} where
       let st = h.stand in
       let a = st.agree in
       let sent = length h.port.sent in
-      let t = intake_looked h.intake sent h.port.closed in
+      let log = a.one_log.log ++ IntakeLook ∷ [] in
+      let t = intake_looked h.intake sent h.port.closed log in
+      let no_take : length h.intake.taken ≡ length h.intake.taken + 0 = omega arith in
       let same_taken = ap (λ (q : IntakeKnows T). length q.taken) known.1 in
       let agree : Agree h.port t (length s.homes) = record {
         in_order = a.in_order;
@@ -389,6 +418,8 @@ module _ {T : Type 0} where
         taken_seen = omega (arith, a.taken_seen, a.seen_sent);
         all_seen = λ _. refl;
         next = a.next;
+        one_log = by_intake _ _ _ _ _ _ a.one_log IntakeLook (length h.intake.taken) (h.intake.looks + 1) no_take refl refl
+            refl;
       } in
       let stand : Stand s.words s.homes h.port t =
       record { count = st.count; head = st.head; tail = st.tail; agree = agree; slots = st.slots } in (
@@ -403,8 +434,11 @@ module _ {T : Type 0} where
           word = st.tail;
           looked = record {
             few = a.few;
-            looked = ap (λ (q : IntakeKnows T). (record me.0 { intake = intake_looked q sent h.port.closed }, me.1))
+            looked = ap (λ (q : IntakeKnows T). (record me.0 { intake = intake_looked q sent h.port.closed log }, me.1))
                 (sym known.1);
+            goes_on = subst (λ (q : IntakeKnows T). GoesOnBy IntakeLook q.log log) (sym known.1)
+                (goes_on_by h.intake.log a.one_log.log IntakeLook a.one_log.of_intake);
+            moves = sym (as_many_of is_send a.one_log.log IntakeLook _ refl a.one_log.of_sends.1);
             rises = omega (arith, a.seen_sent, ap (λ (q : IntakeKnows T). q.seen_sent) known.1);
             stays = λ yes. a.seen_close (ap (λ (q : IntakeKnows T). q.seen_close) (sym known.1) ∙ yes);
             taken_sent = omega (arith, a.taken_seen, a.seen_sent, same_taken);
@@ -413,6 +447,8 @@ module _ {T : Type 0} where
             agree = λ yes. subst (λ (q : PortKnows T). Agree q me.0.intake slots) (sym (mine.sends yes).1)
                 (subst (λ (q : IntakeKnows T). Agree h.port q slots) (sym known.1)
                 (subst (λ m. Agree h.port h.intake m) count a));
+            agree_after = λ yes. subst (λ (q : PortKnows T). Agree q t slots) (sym (mine.sends yes).1)
+                (subst (λ m. Agree h.port t m) count agree);
           };
         },
       )
@@ -450,6 +486,7 @@ module _ {T : Type 0} where
         taken_seen = a.taken_seen;
         all_seen = a.all_seen;
         next = λ y e. it.1 ∙ e;
+        one_log = a.one_log;
       } in
       let stand : Stand s.words homes p t = record {
         count = st.count;
@@ -482,13 +519,16 @@ module _ {T : Type 0} where
       → me.1 ≡ (length me.0.intake.taken % slots, None) ∷ rest me.1 → new ≡ length me.0.intake.taken + 1
       → Allows IsRing slots id me 0 (λ _. new) (λ _ after. Took slots me after)
   takes_it slots id me x new may next seen held word s h count at bound =
-      let known = (h.each id me.0 at).takes may in
+      let mine = h.each id me.0 at in
+      let known = mine.takes may in
       let st = h.stand in
       let a = st.agree in
       let p = h.port in
       let taken = length h.intake.taken in
       let n = length s.homes in
-      let t = intake_took h.intake x in
+      let log = a.one_log.log ++ Take ∷ [] in
+      let t = intake_took h.intake x log in
+      let no_look : h.intake.looks ≡ h.intake.looks + 0 = omega arith in
       let same_taken = ap (λ (q : IntakeKnows T). length q.taken) known.1 in
       let here : slice_get p.sent taken ≡ Some x =
       a.next x (ap (λ (q : IntakeKnows T). q.next) (sym known.1) ∙ next) in
@@ -506,6 +546,7 @@ module _ {T : Type 0} where
         taken_seen = omega (arith, more, seen, same_taken, ap (λ (q : IntakeKnows T). q.seen_sent) known.1);
         all_seen = a.all_seen;
         next = λ y e. absurd (none-some y e);
+        one_log = by_intake _ _ _ _ _ _ a.one_log Take (length t.taken) h.intake.looks more no_look refl refl;
       } in
       let words = slice_set s.words 0 new in
       let slots_of : (k : ℕ) → length t.taken ≤ k → k < length t.taken + n → (k ≡ length t.taken → t.next ≡ None)
@@ -545,7 +586,11 @@ module _ {T : Type 0} where
             (sym back) (intake_moves s h id me.0 t words homes at may stand),
         record {
           holds = record { item = x; next = next; held = held };
-          took = ap (λ (q : IntakeKnows T). (record me.0 { intake = intake_took q x }, rest me.1)) (sym known.1);
+          took = ap (λ (q : IntakeKnows T). (record me.0 { intake = intake_took q x log }, rest me.1)) (sym known.1);
+          goes_on = subst (λ (q : IntakeKnows T). GoesOnBy Take q.log log) (sym known.1)
+              (goes_on_by h.intake.log a.one_log.log Take a.one_log.of_intake);
+          agree = λ yes. subst (λ (q : PortKnows T). Agree q t slots) (sym (mine.sends yes).1)
+              (subst (λ m. Agree p t m) count agree);
         },
       )
 

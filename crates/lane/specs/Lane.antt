@@ -1,10 +1,25 @@
 -- What is seen of the two ends of a lane, and *Lane*, which holds of them at every moment (this project's own).
 use Rattle.std.specs.Prelude.{◌≡◌, ℕ, ◌+◌, ◌<◌, ◌≤◌, Bool, true, false, List, [], ◌++◌, length}
 use Rattle.atomic_table.specs.Seated.{TableId}
+use Rattle.lane.specs.declared.moves.Move.{Move}
+use Rattle.lane.specs.Moves.{count, is_send, is_take, is_port_look, is_intake_look}
 
 -- the first list is a beginning of the second, which may be all of it
 abbrev pub IsBeginning : {T : Type 0} → List T → List T → Type 0
 IsBeginning {T} xs ys = (rest : List T) × (ys ≡ xs ++ rest)
+
+-- The logs of the port and of the intake are beginnings of one log, and each has all moves of its own
+-- end. That log has as many sends, takes and looks as there were. So an end can't say of a look that
+-- it came before a move of the other end which it came after.
+pub record OneLog (port intake : List Move) (sends port_looks takes intake_looks : ℕ) : Type 0 where
+  pub log : List Move
+  pub of_port : IsBeginning port log
+  pub of_intake : IsBeginning intake log
+  pub of_sends : (count is_send port ≡ sends) × (count is_send log ≡ sends)
+  pub of_port_looks : (count is_port_look port ≡ port_looks) × (count is_port_look log ≡ port_looks)
+  pub of_takes : (count is_take intake ≡ takes) × (count is_take log ≡ takes)
+  pub of_intake_looks :
+      (count is_intake_look intake ≡ intake_looks) × (count is_intake_look log ≡ intake_looks)
 
 -- Which lane an end is of. A caller only ever compares two of them: what one is made of belongs to the
 -- representation
@@ -21,6 +36,8 @@ pub record PortView (T : Type 0) : Type 0 where
   pub seen_taken : ℕ
   -- how often it has looked at the intake
   pub looks : ℕ
+  -- the moves of both ends up to its last look or send
+  pub log : List Move
 
 -- the intake of a lane
 pub record IntakeView (T : Type 0) : Type 0 where
@@ -33,6 +50,8 @@ pub record IntakeView (T : Type 0) : Type 0 where
   pub seen_close : Bool
   -- how often it has looked at the port
   pub looks : ℕ
+  -- the moves of both ends up to its last look or take
+  pub log : List Move
 
 module _ {T : Type 0} where
   -- the two ends are of one lane
@@ -54,6 +73,9 @@ module _ {T : Type 0} where
     pub taken_seen : length intake.taken ≤ intake.seen_sent
     -- where the close is seen, so is all that was sent
     pub all_seen : intake.seen_close ≡ true → intake.seen_sent ≡ length port.sent
+    -- what both did is one log
+    pub one_log :
+        OneLog port.log intake.log (length port.sent) port.looks (length intake.taken) intake.looks
 
   -- where an end has looked, what it has seen is what is
   pub record SeesWhatIs (old_port : PortView T) (old_intake : IntakeView T) (port : PortView T) (intake : IntakeView T)
@@ -65,11 +87,11 @@ module _ {T : Type 0} where
   -- the ends of a new lane: nothing was sent, taken or seen
   abbrev pub new_port : LaneId → ℕ → PortView T
   new_port lane capacity =
-      record { lane = lane; capacity = capacity; sent = []; closed = false; seen_taken = 0; looks = 0 }
+      record { lane = lane; capacity = capacity; sent = []; closed = false; seen_taken = 0; looks = 0; log = [] }
 
   abbrev pub new_intake : LaneId → ℕ → IntakeView T
   new_intake lane capacity =
-      record { lane = lane; capacity = capacity; taken = []; seen_sent = 0; seen_close = false; looks = 0 }
+      record { lane = lane; capacity = capacity; taken = []; seen_sent = 0; seen_close = false; looks = 0; log = [] }
 
   -- the same port later: what it has seen, and how often it looked, doesn't fall
   pub record PortGoesOn (old new : PortView T) : Type 0 where

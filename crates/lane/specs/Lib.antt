@@ -1,3 +1,4 @@
+pub mod Moves
 pub mod Lane
 pub mod Refused
 pub mod Taken

@@ -4,7 +4,7 @@ use lib.ListN.{get_elem?}
 use Rattle.std.specs.Prelude.{◌≡◌, ◌⊎◌, ℕ, ◌+◌, ◌%◌, ◌^◌, ◌<◌, ◌≤◌, Bool, true, false, if◌then◌else◌}
 use Rattle.std.specs.Prelude.{List, [], length, slice_get, slice_index, Option, Some, None}
 use Rattle.atomic_table.specs.Table.{State}
-use Rattle.lane.specs.Lane.{IsBeginning}
+use Rattle.lane.specs.Lane.{IsBeginning, OneLog}
 use Rattle.lane.specs.declared.ring.PortKnows.{PortKnows}
 use Rattle.lane.specs.declared.ring.IntakeKnows.{IntakeKnows}
 use Rattle.lane.specs.declared.ring.Known.{Known}
@@ -28,6 +28,9 @@ module _ {T : Type 0} where
     pub all_seen : intake.seen_close ≡ true → intake.seen_sent ≡ length port.sent
     -- the intake holds the slot of the next item, with that item
     pub next : (x : T) → intake.next ≡ Some x → slice_get port.sent (length intake.taken) ≡ Some x
+    -- what both did is one log
+    pub one_log :
+        OneLog port.log intake.log (length port.sent) port.looks (length intake.taken) intake.looks
 
   -- words and slots, where the two ends know so much
   pub record Stand (words : List ℕ) (homes : List (mathlib.Core.Option.Option (Option T))) (port : PortKnows T)
@@ -61,10 +64,10 @@ module _ {T : Type 0} where
     pub stand : Stand state.words state.homes port intake
 
   abbrev pub new_port_knows : PortKnows T
-  new_port_knows = record { sent = []; closed = false; seen_taken = 0; looks = 0; holds = false }
+  new_port_knows = record { sent = []; closed = false; seen_taken = 0; looks = 0; log = []; holds = false }
 
   abbrev pub new_intake_knows : IntakeKnows T
-  new_intake_knows = record { taken = []; seen_sent = 0; seen_close = false; looks = 0; next = None }
+  new_intake_knows = record { taken = []; seen_sent = 0; seen_close = false; looks = 0; log = []; next = None }
 
   -- the token of a new ring, which both sends and takes
   abbrev pub at_first : Known T

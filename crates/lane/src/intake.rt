@@ -4,7 +4,9 @@ ghost use Rattle.std.specs.Prelude.{◌≡◌, ◌<◌, ◌≤◌, ◌+◌, ◌^
 ghost use Rattle.std.specs.Arc.{arc_value};
 ghost use Rattle.lane.specs.Lane.{Lane, SameLane, SeesWhatIs, PortGoesOn, IntakeGoesOn, HasEnded, new_intake};
 ghost use Rattle.lane.specs.Ends.{IsIntake, AreTaken, IsTokenOf};
-ghost use Rattle.lane.specs.Ring.{new_intake_knows};
+ghost use Rattle.lane.specs.Moves.{GoesOnBy, sent_by};
+ghost use Rattle.lane.specs.declared.moves.Move.TheVariants.{IntakeLook};
+ghost use Rattle.lane.specs.Ring.{Agree, new_intake_knows};
 ghost use Rattle.lane.specs.Steps.{TailLooked, HoldsNext, Found, HoldsEmpty, Emptied, Took, intake_took, NextOf};
 ghost use Rattle.lane.specs.Taken.{items_of, next_of, IfEmpty, IfEnd};
 ghost use Rattle.lane.specs.declared.intake.Taken.TheVariants.{Item, Empty, End};
@@ -63,6 +65,7 @@ impl<T> Model for Intake<T> {
       seen_sent = t.token.me.0.intake.seen_sent;
       seen_close = t.token.me.0.intake.seen_close;
       looks = t.token.me.0.intake.looks;
+      log = t.token.me.0.intake.log;
     } };
 
     ghost invariant = { λ t. IsIntake (arc_value t.ring).shared.table_id t.token (padded_value t.counts) };
@@ -98,6 +101,9 @@ impl<T> Intake<T> {
         ensures empty_looks { IfEmpty result (self.old.looks < self.new.looks) }
         ensures empty { IfEmpty result (length self.new.taken ≡ self.new.seen_sent) }
         ensures empty_before_close { IfEmpty result (self.new.seen_close ≡ false) }
+        // The look is the last move of the log. At that moment all that was sent was taken.
+        ensures empty_look { IfEmpty result (GoesOnBy IntakeLook self.old.log self.new.log) }
+        ensures empty_then { IfEmpty result (sent_by self.new.log ≡ length self.new.taken) }
         ensures end { IfEnd result (HasEnded self.new) }
         ensures ended { HasEnded self.old → result ≡ Taken.End }
     {
@@ -160,7 +166,7 @@ pub(crate) fn look<T>(ring: &Ring<T>, token: &mut Token<T>, counts: &mut IntakeC
 fn next<T>(ring: &Ring<T>, token: &mut Token<T>, counts: &mut IntakeCounts) -> Taken<T>
     requires intake { IsIntake ring.now.shared.table_id token.old counts.old }
     ensures intake { IsIntake ring.now.shared.table_id token.new counts.new }
-    ensures next { NextOf token.old.me.0 token.new.me.0 result }
+    ensures next { NextOf ring.now.shared.table_id.slots token.old.me.0 token.new.me.0 result }
 {
     if counts.taken < counts.seen_sent {
         Taken::Item(pop(ring, token, counts))
@@ -177,7 +183,9 @@ fn pop<T>(ring: &Ring<T>, token: &mut Token<T>, counts: &mut IntakeCounts) -> T
     requires seen { counts.old.taken < counts.old.seen_sent }
     ensures intake { IsIntake ring.now.shared.table_id token.new counts.new }
     ensures took { token.new.me.0
-        ≡ record token.old.me.0 { intake = intake_took token.old.me.0.intake result } }
+        ≡ record token.old.me.0 { intake = intake_took token.old.me.0.intake result token.new.me.0.intake.log } }
+    ensures agree { token.old.me.0.sends ≡ true
+        → Agree token.old.me.0.port token.new.me.0.intake ring.now.shared.table_id.slots }
     ensures sent { token.old.me.0.sends ≡ true
         → slice_get token.old.me.0.port.sent (length token.old.me.0.intake.taken) ≡ Some result }
 {

@@ -4,6 +4,8 @@ ghost use Rattle.std.specs.Prelude.{◌≡◌, ◌+◌, ◌^◌, ◌<◌, ◌≤
 ghost use Rattle.std.specs.Prelude.{Err, IsOk, OnOk, OnErr, IfErr, IsTrue};
 ghost use Rattle.std.specs.Arc.{arc_value};
 ghost use Rattle.lane.specs.Lane.{PortGoesOn, new_port};
+ghost use Rattle.lane.specs.Moves.{GoesOnBy, taken_by};
+ghost use Rattle.lane.specs.declared.moves.Move.TheVariants.{PortLook};
 ghost use Rattle.lane.specs.Ends.{IsPort, AreSent, IsTokenOf};
 ghost use Rattle.lane.specs.Ring.{new_port_knows};
 ghost use Rattle.lane.specs.Steps.{HeadLooked, HoldsVacant, Claimed, HoldsItem, Filled, Sent, port_sent};
@@ -68,6 +70,7 @@ impl<T> Model for Port<T> {
       closed = (port_of p.token).closed;
       seen_taken = (port_of p.token).seen_taken;
       looks = (port_of p.token).looks;
+      log = (port_of p.token).log;
     } };
 
     ghost invariant = { λ p. HasPort (arc_value p.ring).shared.table_id p.token (padded_value p.counts) };
@@ -111,6 +114,10 @@ impl<T> Port<T> {
         ensures full_looks { result ≡ Err (Refused.Full item) → self.old.looks < self.new.looks }
         ensures full { result ≡ Err (Refused.Full item)
             → length self.new.sent ≡ self.new.seen_taken + self.new.capacity }
+        // That look is the last move of the log. At that moment the lane held `capacity` items.
+        ensures full_look { result ≡ Err (Refused.Full item) → GoesOnBy PortLook self.old.log self.new.log }
+        ensures full_then { result ≡ Err (Refused.Full item)
+            → length self.new.sent ≡ taken_by self.new.log + self.new.capacity }
 
         // An open lane with room by what the port has seen taken refuses nothing but the item after the last.
         ensures room { self.old.closed ≡ false → length self.old.sent < MAX_SENT
@@ -181,7 +188,8 @@ fn push<T>(ring: &Ring<T>, token: &mut Token<T>, counts: &mut PortCounts, item: 
     requires few { counts.old.sent < MAX_SENT }
     requires room { counts.old.sent < counts.old.seen_taken + counts.old.capacity }
     ensures port { IsPort ring.now.shared.table_id token.new counts.new }
-    ensures sent { token.new.me.0 ≡ record token.old.me.0 { port = port_sent token.old.me.0.port item } }
+    ensures sent { token.new.me.0
+        ≡ record token.old.me.0 { port = port_sent token.old.me.0.port item token.new.me.0.port.log } }
 {
     claim(ring, token, counts);
     fill(ring, token, counts, item);

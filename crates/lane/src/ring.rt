@@ -7,6 +7,7 @@ ghost use Rattle.std.specs.Arc.{arc_value};
 ghost use Rattle.lane.specs.Ring.{IsRing, at_first, that_takes, that_sends};
 ghost use Rattle.lane.specs.Ends.{IsTokenOf};
 
+use crate::moves::Move;
 use atomic_table::{Seat, Table, TableRule};
 use std::alloc::{AllocError, Global};
 use std::collections::LinkedList;
@@ -27,22 +28,26 @@ const WORDS: usize = 17;
 pub(crate) const CLOSING_BIT: u64 = 1 << 63;
 
 /// What the port's token knows: what was sent, and whether the lane is closed; how many items its last look found
-/// taken, and how many looks there were; whether it holds the slot of the next item. No value of it is made.
+/// taken, and how many looks there were; the moves up to its last look or send; whether it holds the slot of the next
+/// item. No value of it is made.
 pub(crate) struct PortKnows<T> {
     pub(crate) sent: LinkedList<T>,
     pub(crate) closed: bool,
     pub(crate) seen_taken: u64,
     pub(crate) looks: u64,
+    pub(crate) log: LinkedList<Move>,
     pub(crate) holds: bool,
 }
 
 /// What the intake's token knows: what was taken; how many items its last look found sent, whether it found the
-/// close, and how many looks there were; the item whose slot it holds. No value of it is made.
+/// close, and how many looks there were; the moves up to its last look or take; the item whose slot it holds. No value
+/// of it is made.
 pub(crate) struct IntakeKnows<T> {
     pub(crate) taken: LinkedList<T>,
     pub(crate) seen_sent: u64,
     pub(crate) seen_close: bool,
     pub(crate) looks: u64,
+    pub(crate) log: LinkedList<Move>,
     pub(crate) next: Option<T>,
 }
 

@@ -8,7 +8,7 @@ ghost use Rattle.replay_output.specs.declared.options.form.Form.TheVariants.{Kep
 
 use keyspace::Reply;
 use replay_output::{Ending, Options, Status, fail_to_start};
-use replay_workers::{Gatekeeper, Outcome, run};
+use replay_workers::{Gatekeeper, Outcome, ShareKeeper, run};
 use resolver::MAX_PROXIES;
 use std::alloc::Global;
 use std::sync::{Arc, Wait};
@@ -26,7 +26,7 @@ pub use report::{CheckReport, print_check};
 /// `error`.
 pub fn check_over<
     S: Source + Send + Drop + 'static,
-    G: Gatekeeper + Send + Sync + Drop + 'static,
+    G: Gatekeeper + ShareKeeper + Send + Sync + Drop + 'static,
     R: Threads + Wait + Copy + Send + 'static,
     O: Sink,
     E: Sink,

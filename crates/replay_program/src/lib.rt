@@ -25,4 +25,6 @@ pub use replay_output::{
     Ending, Form, Line, Options, PackedText, PrintError, ProxyFailure, Report, StartError, Status,
     fail_to_start, print_answers, print_report,
 };
-pub use replay_workers::{AlwaysOpen, Assignment, Finished, Gatekeeper, work};
+pub use replay_workers::{
+    AlwaysOpen, Assignment, Finished, Gatekeeper, ShareKeeper, Unshared, work,
+};

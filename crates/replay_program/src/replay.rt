@@ -5,7 +5,7 @@ ghost use Rattle.std.specs.Io.KnownBytes.{Keeps};
 ghost use Rattle.replay_program.specs.Replayed.{IsReplayed, FailsToReplay, written};
 
 use replay_output::{Ending, Options, Status, fail_to_start, print_report};
-use replay_workers::{Gatekeeper, Outcome, run};
+use replay_workers::{Gatekeeper, Outcome, ShareKeeper, run};
 use resolver::MAX_PROXIES;
 use std::alloc::Global;
 use std::sync::{Arc, Wait};
@@ -19,7 +19,7 @@ use wire::{Sink, Source};
 /// A batch that is still held when all files have ended is answered `Held`. After a stop it isn't answered.
 pub fn replay_over<
     S: Source + Send + Drop + 'static,
-    G: Gatekeeper + Send + Sync + Drop + 'static,
+    G: Gatekeeper + ShareKeeper + Send + Sync + Drop + 'static,
     R: Threads + Wait + Copy + Send + 'static,
     O: Sink,
     E: Sink,

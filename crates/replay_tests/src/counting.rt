@@ -1,6 +1,5 @@
 //! A gatekeeper that counts.
 
-use flow::{Stand, Told};
 use replay_program::Gatekeeper;
 use std::sync::atomic::{AtomicU64, Ordering};
 
@@ -31,10 +30,6 @@ impl Counting {
 }
 
 impl Gatekeeper for Counting {
-    ghost use Rattle.std.specs.Prelude.{⊤};
-
-    ghost lets_through = { λ _ _ _. ⊤ };
-
     fn may_send(&self, proxy: usize, place: u64) -> bool {
         count_to(&self.read, proxy, place);
         true
@@ -43,18 +38,6 @@ impl Gatekeeper for Counting {
     fn answered(&self, proxy: usize, place: u64) {
         count_to(&self.taken, proxy, place);
     }
-
-    fn stands(&self, _proxy: usize, _stand: Stand) -> bool {
-        true
-    }
-
-    fn closed(&self, _proxy: usize) {}
-
-    fn told(&self, _proxy: usize) -> Told {
-        Told::Goes
-    }
-
-    fn let_through(&self, _proxy: usize) {}
 }
 
 fn count(counts: &[AtomicU64; 2], proxy: usize) -> u64 {

@@ -4,9 +4,8 @@
 //! the other was answered.
 
 use crate::runs::{file_of, opened, reader, replayed_from};
-use flow::{Stand, Told};
 use lane::MAX_CAPACITY;
-use replay_program::{Gatekeeper, Options};
+use replay_program::{Gatekeeper, Options, Unshared};
 use std::alloc::{AllocError, Global};
 use std::process::Abort;
 use std::sync::atomic::{AtomicU64, Ordering};
@@ -55,10 +54,6 @@ impl Meeting {
 }
 
 impl Gatekeeper for Meeting {
-    ghost use Rattle.std.specs.Prelude.{⊤};
-
-    ghost lets_through = { λ _ _ _. ⊤ };
-
     fn may_send(&self, proxy: usize, place: u64) -> bool {
         if proxy == 0 {
             self.batch.store(place, Ordering::SeqCst);
@@ -79,18 +74,6 @@ impl Gatekeeper for Meeting {
             answered.store(1, Ordering::SeqCst);
         }
     }
-
-    fn stands(&self, _proxy: usize, _stand: Stand) -> bool {
-        true
-    }
-
-    fn closed(&self, _proxy: usize) {}
-
-    fn told(&self, _proxy: usize) -> Told {
-        Told::Goes
-    }
-
-    fn let_through(&self, _proxy: usize) {}
 }
 
 // Replays a file for each of the two, and returns what comes of it, and whether they have met.
@@ -102,9 +85,9 @@ fn met<R: Threads + Wait + Copy + Send + 'static>(
     let first = opened(alloc, &["100>200"], b"")?;
     let second = file_of(alloc, &["0>100"], b"")?;
     let readers = vec![in alloc; reader(first), reader(second)].map_err(AllocError::from)?;
-    let meeting = Arc::new(alloc, Meeting::new()).map_err(AllocError::from)?;
+    let meeting = Arc::new(alloc, Unshared(Meeting::new())).map_err(AllocError::from)?;
     let text = replayed_from(rt, alloc, readers, options, &meeting)?;
-    Ok((text, meeting.has_met()))
+    Ok((text, meeting.0.has_met()))
 }
 
 // Replays by lanes of this capacity.

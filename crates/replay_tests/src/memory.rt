@@ -6,7 +6,7 @@ use crate::rows::{
     SECOND_FILE_CONTINUES_CHAIN, SNAPSHOT_AT_WRITE,
 };
 use crate::runs::{Reader, file_of, reader, replay_into};
-use replay_program::{Options, Status};
+use replay_program::{Options, Status, Unshared};
 use std::alloc::{AllocError, Global};
 use std::process::Abort;
 use std::str;
@@ -108,7 +108,7 @@ impl Row<'_> {
 #[derive(Drop)]
 struct Run {
     readers: Vec<Reader>,
-    gatekeeper: Arc<Counting, Global>,
+    gatekeeper: Arc<Unshared<Counting>, Global>,
     out: StdSink<Vec<u8>>,
     error: StdSink<Vec<u8>>,
 }
@@ -126,7 +126,7 @@ impl Run {
         }
         Ok(Run {
             readers,
-            gatekeeper: Arc::new(alloc, Counting::new()).map_err(AllocError::from)?,
+            gatekeeper: Arc::new(alloc, Unshared(Counting::new())).map_err(AllocError::from)?,
             out: StdSink::new(Vec::with_capacity(alloc, ROOM)?),
             error: StdSink::new(Vec::with_capacity(alloc, ROOM)?),
         })
@@ -168,7 +168,7 @@ fn ends_as_promised<R: Threads + Wait + Copy + Send + 'static>(
     let (Ok(out), Ok(error)) = (str::from_utf8(&out), str::from_utf8(&error)) else {
         return Err(Unmade::Text("UTF-8"));
     };
-    let counts: &Counting = &gatekeeper;
+    let counts: &Counting = &gatekeeper.0;
     Ok(row.promises(&Ended {
         status,
         out,

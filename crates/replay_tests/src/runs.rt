@@ -1,7 +1,7 @@
 //! A run over files in memory, and what it gives.
 
 use flow::WaitingRoom;
-use replay_program::{Gatekeeper, Options, Status, replay_over};
+use replay_program::{Gatekeeper, Options, ShareKeeper, Status, replay_over};
 use resolver::MAX_PROXIES;
 use std::alloc::{AllocError, Global};
 use std::io::Cursor;
@@ -72,7 +72,7 @@ pub fn waiting_room(alloc: Global, proxies: usize) -> Result<Arc<WaitingRoom, Gl
 /// Replays as the program does, from these readers, and puts what comes of it into words.
 pub fn replayed_from<
     S: Source + Send + Drop + 'static,
-    G: Gatekeeper + Send + Sync + Drop + 'static,
+    G: Gatekeeper + ShareKeeper + Send + Sync + Drop + 'static,
     R: Threads + Wait + Copy + Send + 'static,
 >(
     rt: &R,
@@ -92,7 +92,7 @@ pub fn replayed_from<
 /// Replays as the program does, from these readers to these writers. No other test calls what it calls, whose contract is long.
 pub fn replay_into<
     S: Source + Send + Drop + 'static,
-    G: Gatekeeper + Send + Sync + Drop + 'static,
+    G: Gatekeeper + ShareKeeper + Send + Sync + Drop + 'static,
     R: Threads + Wait + Copy + Send + 'static,
     O: Sink,
 >(

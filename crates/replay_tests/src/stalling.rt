@@ -2,7 +2,7 @@
 
 use crate::runs::{push_batch, replayed_from};
 use flow::{Stand, Told, WaitingRoom};
-use replay_program::{Gatekeeper, Options};
+use replay_program::{Gatekeeper, Options, ShareKeeper};
 use std::alloc::{AllocError, Global};
 use std::io::{Cursor, Read};
 use std::process::Abort;
@@ -63,18 +63,20 @@ impl Releasing {
 }
 
 impl Gatekeeper for Releasing {
-    ghost use Rattle.std.specs.Prelude.{⊤};
-
-    ghost lets_through = { λ _ _ _. ⊤ };
-
     fn may_send(&self, _proxy: usize, _place: u64) -> bool {
         true
     }
 
     fn answered(&self, _proxy: usize, _place: u64) {}
+}
+
+impl ShareKeeper for Releasing {
+    ghost use Rattle.std.specs.Prelude.{⊤};
+
+    ghost lets_through = { λ _ _ _. ⊤ };
 
     fn stands(&self, proxy: usize, stand: Stand) -> bool {
-        if !self.keeps_shares || <WaitingRoom as Gatekeeper>::stands(&self.room, proxy, stand) {
+        if !self.keeps_shares || <WaitingRoom as ShareKeeper>::stands(&self.room, proxy, stand) {
             return true;
         }
         self.release(proxy);
@@ -83,15 +85,15 @@ impl Gatekeeper for Releasing {
 
     fn closed(&self, proxy: usize) {
         self.release(proxy);
-        <WaitingRoom as Gatekeeper>::closed(&self.room, proxy);
+        <WaitingRoom as ShareKeeper>::closed(&self.room, proxy);
     }
 
     fn told(&self, proxy: usize) -> Told {
-        <WaitingRoom as Gatekeeper>::told(&self.room, proxy)
+        <WaitingRoom as ShareKeeper>::told(&self.room, proxy)
     }
 
     fn let_through(&self, proxy: usize) {
-        <WaitingRoom as Gatekeeper>::let_through(&self.room, proxy);
+        <WaitingRoom as ShareKeeper>::let_through(&self.room, proxy);
     }
 }
 

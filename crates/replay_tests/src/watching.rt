@@ -3,7 +3,7 @@
 
 use crate::runs::{file_of, reader, replayed_from};
 use flow::{Stand, Told};
-use replay_program::{Gatekeeper, Options};
+use replay_program::{Gatekeeper, Options, ShareKeeper};
 use std::alloc::{AllocError, Global};
 use std::process::Abort;
 use std::sync::atomic::{AtomicU64, Ordering};
@@ -53,16 +53,18 @@ impl Watched {
 }
 
 impl Gatekeeper for Watched {
-    ghost use Rattle.std.specs.Prelude.{⊤};
-
-    ghost lets_through = { λ _ _ _. ⊤ };
-
     fn may_send(&self, _proxy: usize, place: u64) -> bool {
         self.read.store(place.saturating_add(1), Ordering::SeqCst);
         place < self.open.load(Ordering::SeqCst)
     }
 
     fn answered(&self, _proxy: usize, _place: u64) {}
+}
+
+impl ShareKeeper for Watched {
+    ghost use Rattle.std.specs.Prelude.{⊤};
+
+    ghost lets_through = { λ _ _ _. ⊤ };
 
     fn stands(&self, _proxy: usize, _stand: Stand) -> bool {
         true

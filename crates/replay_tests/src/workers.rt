@@ -3,7 +3,7 @@
 use crate::runs::{file_of, push_batch, reader};
 use keyspace::{Answer, Batch};
 use lane::{Intake, Port, Taken, lane};
-use replay_program::{AlwaysOpen, Assignment, Finished, Form, work};
+use replay_program::{AlwaysOpen, Assignment, Finished, Form, Unshared, work};
 use resolver::Client;
 use std::alloc::Global;
 use std::process::Abort;
@@ -90,7 +90,14 @@ fn told(
         mut replies,
     } = connected;
     let are_sent = send_two(&mut replies);
-    let finished = work(rt, alloc, FIRST, client, reader(file), &AlwaysOpen);
+    let finished = work(
+        rt,
+        alloc,
+        FIRST,
+        client,
+        reader(file),
+        &Unshared(AlwaysOpen),
+    );
     let has_ended = matches!(requests.take(), Taken::End);
     (handed_back(alloc, &finished), are_sent && has_ended)
 }
@@ -182,7 +189,14 @@ fn sends_every_batch_in_order(rt: HostRuntime) -> Result<(), Fail> {
     let (is_clean, is_same) = thread::join(
         &rt,
         move || {
-            let finished = work(&rt, alloc, FIRST, client, reader(file), &AlwaysOpen);
+            let finished = work(
+                &rt,
+                alloc,
+                FIRST,
+                client,
+                reader(file),
+                &Unshared(AlwaysOpen),
+            );
             finished.lines.is_empty() && finished.fault.is_none() && finished.unsent.is_none()
         },
         || takes_versions(&rt, requests, replies, 20),

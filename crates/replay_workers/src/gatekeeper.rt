@@ -5,22 +5,25 @@ ghost use Rattle.flow.specs.declared.told.Stand.{Stand as InHand};
 
 use flow::{Stand, Told, WaitingRoom};
 
-/// Says when workers may send their batches, and whose batch is let through where all have used up their share. The program's
-/// is a [`WaitingRoom`]. A test holds workers back through one of its own.
+/// Says when workers may send their batches. A test holds workers back through one of its own.
 ///
 /// Places count from 0, those of the batches of a proxy and those of its answers alike.
 pub trait Gatekeeper {
-    // A proxy whose share is used up may send this batch all the same.
-    ghost lets_through: { Self → ℕ → InHand → Type 0 };
-
     /// Returns whether the proxy may send its batch at this place now. It is asked before each try.
     fn may_send(&self, proxy: usize, place: u64) -> bool;
 
     /// Tells that the proxy has taken its answer at this place.
     fn answered(&self, proxy: usize, place: u64);
+}
 
-    /// Tells that the proxy stands with a batch in hand, since its share is used up. Returns whether the batch may be sent all
-    /// the same. It is asked before each try.
+/// Keeps shares: says whose batch is let through where all have used up their share. The program's is a
+/// [`WaitingRoom`]. [`Unshared`] keeps none, for any [`Gatekeeper`].
+pub trait ShareKeeper {
+    // A proxy whose share is used up may send this batch all the same.
+    ghost lets_through: { Self → ℕ → InHand → Type 0 };
+
+    /// Tells that the proxy stands with a batch in hand, since its share is used up. Returns
+    /// whether the batch may be sent all the same. It is asked before each try.
     fn stands(&self, proxy: usize, stand: Stand) -> bool
         ensures through { IsTrue result → lets_through self.now proxy stand };
 
@@ -35,10 +38,6 @@ pub trait Gatekeeper {
 }
 
 impl Gatekeeper for WaitingRoom {
-    ghost use Rattle.std.specs.Prelude.{⊤};
-
-    ghost lets_through = { λ _ _ _. ⊤ };
-
     fn may_send(&self, _proxy: usize, _place: u64) -> bool
         ensures open { IsTrue result }
     {
@@ -46,6 +45,12 @@ impl Gatekeeper for WaitingRoom {
     }
 
     fn answered(&self, _proxy: usize, _place: u64) {}
+}
+
+impl ShareKeeper for WaitingRoom {
+    ghost use Rattle.std.specs.Prelude.{⊤};
+
+    ghost lets_through = { λ _ _ _. ⊤ };
 
     fn stands(&self, proxy: usize, stand: Stand) -> bool {
         WaitingRoom::stands(self, proxy, stand)
@@ -69,10 +74,6 @@ impl Gatekeeper for WaitingRoom {
 pub struct AlwaysOpen;
 
 impl Gatekeeper for AlwaysOpen {
-    ghost use Rattle.std.specs.Prelude.{⊤};
-
-    ghost lets_through = { λ _ _ _. ⊤ };
-
     fn may_send(&self, _proxy: usize, _place: u64) -> bool
         ensures open { IsTrue result }
     {
@@ -80,6 +81,26 @@ impl Gatekeeper for AlwaysOpen {
     }
 
     fn answered(&self, _proxy: usize, _place: u64) {}
+}
+
+/// A gatekeeper without shares: what it lets pass may be sent, however many batches are unanswered.
+#[derive(Drop)]
+pub struct Unshared<G>(pub G);
+
+impl<G: Gatekeeper> Gatekeeper for Unshared<G> {
+    fn may_send(&self, proxy: usize, place: u64) -> bool {
+        self.0.may_send(proxy, place)
+    }
+
+    fn answered(&self, proxy: usize, place: u64) {
+        self.0.answered(proxy, place);
+    }
+}
+
+impl<G> ShareKeeper for Unshared<G> {
+    ghost use Rattle.std.specs.Prelude.{⊤};
+
+    ghost lets_through = { λ _ _ _. ⊤ };
 
     fn stands(&self, _proxy: usize, _stand: Stand) -> bool
         ensures open { IsTrue result }

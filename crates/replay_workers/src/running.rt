@@ -10,7 +10,7 @@ ghost use Rattle.resolver.specs.Resolver.{IsResolving, IsThrough};
 ghost use Rattle.replay_workers.specs.Run.{HasCapacity, IsRun, is_complete};
 ghost use Rattle.replay_workers.specs.Stops.{IsAccountedFor};
 
-use crate::gatekeeper::Gatekeeper;
+use crate::gatekeeper::{Gatekeeper, ShareKeeper};
 use crate::outcome::Outcome;
 use crate::threads::{join_all, start_workers};
 use crate::watch::Watch;
@@ -28,7 +28,7 @@ use wire::Source;
 /// Once a thread was started, this one takes no memory but in turns and in starting threads. After an error no thread is joined.
 pub fn run<
     S: Source + Send + Drop + 'static,
-    G: Gatekeeper + Send + Sync + Drop + 'static,
+    G: Gatekeeper + ShareKeeper + Send + Sync + Drop + 'static,
     R: Threads + Wait + Copy + Send + 'static,
 >(
     rt: &R,
@@ -62,7 +62,7 @@ pub fn run<
 
 // Turns the resolver until it is done; after a stop, until a turn leaves nothing owed. Where all proxies wait for each other a
 // batch is let through.
-fn turn_to_end<G: Gatekeeper, R: Wait>(
+fn turn_to_end<G: ShareKeeper, R: Wait>(
     rt: &R,
     resolver: &mut Resolver,
     gatekeeper: &G,
@@ -92,7 +92,7 @@ fn turn_to_end<G: Gatekeeper, R: Wait>(
 
 // Lets the batch of the proxy through that is next, after a turn that took nothing. What all proxies have told twice, with such
 // a turn between, is so at once: none of them has gone on meanwhile, and all that they have sent was taken.
-fn let_through<G: Gatekeeper>(resolver: &Resolver, gatekeeper: &G, watch: &mut Watch)
+fn let_through<G: ShareKeeper>(resolver: &Resolver, gatekeeper: &G, watch: &mut Watch)
     ensures proxies { length watch.new.told ≡ length watch.old.told }
 {
     if resolver.owed() > 0 {
@@ -105,7 +105,7 @@ fn let_through<G: Gatekeeper>(resolver: &Resolver, gatekeeper: &G, watch: &mut W
 }
 
 // Lets the batch of a proxy through, which by the last look is next where all wait for each other.
-fn let_next_through<G: Gatekeeper>(gatekeeper: &G, watch: &Watch, proxy: usize)
+fn let_next_through<G: ShareKeeper>(gatekeeper: &G, watch: &Watch, proxy: usize)
     requires waits { AllWait watch.now.told watch.now.sent }
     requires next { IsNext watch.now.told proxy }
 {

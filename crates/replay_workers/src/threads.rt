@@ -7,7 +7,7 @@ ghost use Rattle.replay_workers.specs.declared.worker.Finished.{Finished as Hand
 ghost use Rattle.replay_workers.specs.Worker.{HasWorked};
 ghost use Rattle.replay_workers.specs.Threads.{given_each, given_by, given_to, HasWorkedOn, IsOutcomeOf};
 
-use crate::gatekeeper::Gatekeeper;
+use crate::gatekeeper::{Gatekeeper, ShareKeeper};
 use crate::outcome::Outcome;
 use crate::worker::{Assignment, Finished, work};
 use replay_output::{Form, StartError};
@@ -47,7 +47,7 @@ struct Task<S, G> {
     gatekeeper: Arc<G, Global>,
 }
 
-impl<S: Source + Drop, G: Gatekeeper + Drop> Task<S, G> {
+impl<S: Source + Drop, G: Gatekeeper + ShareKeeper + Drop> Task<S, G> {
     fn run<R: Wait>(self, rt: &R, alloc: Global) -> Finished
         ensures worked { HasWorkedOn S.remaining (given_by self) result }
     {
@@ -67,7 +67,7 @@ impl<S: Source + Drop, G: Gatekeeper + Drop> Task<S, G> {
 /// After an error the workers that were started are not joined.
 pub fn start_workers<
     S: Source + Send + Drop + 'static,
-    G: Gatekeeper + Send + Sync + Drop + 'static,
+    G: Gatekeeper + ShareKeeper + Send + Sync + Drop + 'static,
     R: Threads + Wait + Copy + Send + 'static,
 >(
     rt: &R,
@@ -126,7 +126,7 @@ fn make_tasks<S: Drop, G: Drop>(
 
 fn start<
     S: Source + Send + Drop + 'static,
-    G: Gatekeeper + Send + Sync + Drop + 'static,
+    G: Gatekeeper + ShareKeeper + Send + Sync + Drop + 'static,
     R: Threads + Wait + Copy + Send + 'static,
 >(rt: &R, alloc: Global, task: Task<S, G>) -> Result<Started<S>, StartError>
     ensures given { IfOk result (λ worker. given_to worker ≡ given_by task) }

@@ -4,7 +4,7 @@ ghost use Rattle.std.specs.Prelude.{◌≡◌, ◌<◌, ◌↔◌, All, length, 
 ghost use Rattle.flow.specs.Next.{AllWait, IsNext, NoneStands};
 ghost use Rattle.replay_workers.specs.Watch.{SeesSent};
 
-use crate::gatekeeper::Gatekeeper;
+use crate::gatekeeper::ShareKeeper;
 use flow::{Told, next_through};
 use resolver::Resolver;
 use std::alloc::{AllocError, Global};
@@ -50,7 +50,7 @@ impl Watch {
     }
 
     /// Looks at all proxies. Returns the one whose batch is to be let through, if the last look has found the same.
-    pub fn look<G: Gatekeeper>(&mut self, resolver: &Resolver, gatekeeper: &G) -> Option<usize>
+    pub fn look<G: ShareKeeper>(&mut self, resolver: &Resolver, gatekeeper: &G) -> Option<usize>
         ensures same { IfSome result (λ _. self.new ≡ self.old) }
         ensures sent { SeesSent resolver.now.lanes self.new }
         ensures next { IfSome result (λ proxy. AllWait self.new.told self.new.sent × IsNext self.new.told proxy) }
@@ -65,7 +65,7 @@ impl Watch {
     }
 
     // Looks at all proxies, and returns whether the last look has found the same.
-    fn finds_the_same<G: Gatekeeper>(&mut self, resolver: &Resolver, gatekeeper: &G) -> bool
+    fn finds_the_same<G: ShareKeeper>(&mut self, resolver: &Resolver, gatekeeper: &G) -> bool
         ensures same { IsTrue result ↔ (self.new ≡ self.old) }
         ensures sent { SeesSent resolver.now.lanes self.new }
         ensures proxies { length self.new.told ≡ length self.old.told }

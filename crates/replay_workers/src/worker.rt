@@ -8,7 +8,7 @@ ghost use Rattle.wire.specs.Frames.{frames_reader, refusal_of};
 ghost use Rattle.replay_workers.specs.Inbox.{Keeps, InboxGoesOn};
 ghost use Rattle.replay_workers.specs.Worker.{HasWorked, SendsFrames, CannotSend, IsBelowShare, fault_of, stand_with, unsent_of};
 
-use crate::gatekeeper::Gatekeeper;
+use crate::gatekeeper::{Gatekeeper, ShareKeeper};
 use crate::inbox::Inbox;
 use crate::pause::pause;
 use flow::{Stand, is_below_share};
@@ -73,7 +73,7 @@ struct Worker {
 ///
 /// Where as many of its batches are unanswered as is its share, it stands: it sends the next one only where the gatekeeper
 /// lets it through, or once it has taken an answer.
-pub fn work<S: Source + Drop, G: Gatekeeper, R: Wait>(
+pub fn work<S: Source + Drop, G: Gatekeeper + ShareKeeper, R: Wait>(
     rt: &R,
     alloc: Global,
     assignment: Assignment,
@@ -112,7 +112,7 @@ impl Worker {
     }
 
     // Sends the batches of the frames, in order.
-    fn send_frames<S: Source, G: Gatekeeper, R: Wait>(
+    fn send_frames<S: Source, G: Gatekeeper + ShareKeeper, R: Wait>(
         &mut self,
         rt: &R,
         gatekeeper: &G,
@@ -143,7 +143,7 @@ impl Worker {
 
     // Sends a batch as soon as the gatekeeper and the lane let it, and takes answers before each try. Hands the batch back
     // where the answers have ended, or where the lane takes no more.
-    fn send<G: Gatekeeper, R: Wait>(
+    fn send<G: Gatekeeper + ShareKeeper, R: Wait>(
         &mut self,
         rt: &R,
         gatekeeper: &G,
@@ -172,7 +172,7 @@ impl Worker {
     }
 
     // Tries once. A batch that the gatekeeper or the share holds back is refused as by a full lane.
-    fn try_send<G: Gatekeeper>(
+    fn try_send<G: Gatekeeper + ShareKeeper>(
         &mut self,
         gatekeeper: &G,
         batch: Batch,
@@ -197,7 +197,7 @@ impl Worker {
 
     // Returns whether the batch may be sent now: it may where the share isn't used up, and else where the gatekeeper lets it
     // through.
-    fn may_send<G: Gatekeeper>(&self, gatekeeper: &G, batch: &Batch) -> bool
+    fn may_send<G: Gatekeeper + ShareKeeper>(&self, gatekeeper: &G, batch: &Batch) -> bool
         ensures share { IsTrue result → IsBelowShare self.now.share self.now.requests self.now.inbox.replies
             ⊎ G.lets_through gatekeeper.now self.now.proxy (stand_with batch.now self.now.inbox.replies) }
     {

@@ -79,6 +79,13 @@ fn calls_of_a_waiting_room(rt: HostRuntime) -> Result<(), Fail> {
     // An answer later it stands with another batch.
     assert!(rt; !room.stands(0, second));
     assert_eq!(rt; room.told(0), Told::Stands(second));
+
+    // Two stand at once, each with its own batch. One of them is let through.
+    assert!(rt; !room.stands(1, first));
+    assert_eq!(rt; room.told(1), Told::Stands(first));
+    room.let_through(1);
+    assert_eq!(rt; room.told(0), Told::Stands(second));
+    assert_eq!(rt; room.told(1), GOES);
     room.closes(0);
     assert_eq!(rt; room.told(0), CLOSED);
 

@@ -11,7 +11,8 @@ pub returns-clause-lane : goal.returns-clause-lane
 returns-clause-lane g c =
     let T = g.row.T.Denot in
     let sends = ap (λ (v : Known T). v.sends) c.join.ensures.both in
-    let now = beside _ _ _ _ sends _ c.look.ensures.looked _ _ c.next-taken.ensures.next in
+    let same = (λ i. (c.deref-3.ensures i).shared.table_id.slots) ∙ sym (λ i. (c.deref-2.ensures i).shared.table_id.slots) in
+    let now = beside _ _ _ _ sends _ c.look.ensures.looked _ same _ _ c.next-taken.ensures.next in
     let port = ap (λ (v : Known T). v.port) c.part.ensures.port ∙ now.1 in
     let intake = ap (λ (v : Known T). v.intake) c.part.ensures.intake in
     let slots = c.deref-2.result.now.shared.table_id.slots in
@@ -24,7 +25,8 @@ pub returns-clause-next : goal.returns-clause-next
 returns-clause-next g c =
     let T = g.row.T.Denot in
     let sends = ap (λ (v : Known T). v.sends) c.join.ensures.both in
-    let now = beside _ _ _ _ sends _ c.look.ensures.looked _ _ c.next-taken.ensures.next in
+    let same = (λ i. (c.deref-3.ensures i).shared.table_id.slots) ∙ sym (λ i. (c.deref-2.ensures i).shared.table_id.slots) in
+    let now = beside _ _ _ _ sends _ c.look.ensures.looked _ same _ _ c.next-taken.ensures.next in
     let taken = ap (λ (v : Known T). v.intake.taken) c.join.ensures.both
     ∙ ap (λ (v : IntakeView T). v.taken) c.self.view_is in
     let token = sym c.in-Some.is ∙ c.take.ensures.value in
