@@ -12,7 +12,7 @@ use Rattle.wire.specs.Fields.{batch_fields}
 use Rattle.wire.specs.Spelling.{SpellsBatch}
 use Rattle.wire.specs.FrameLength.{frame_length}
 use Rattle.wire.specs.NextFrame.{TakesFrame, IsFaultOf}
-use Rattle.wire.specs.Reading.{read_batch, refusal, version_told}
+use Rattle.wire.specs.Reading.{read_batch, batch_fault, refusal, version_told}
 use Rattle.wire.proofs.Taken.{AreBytes}
 use Rattle.wire.proofs.Batches.{batch_is_spelled}
 use Rattle.wire.proofs.FrameLengths.{at_most_whole, same_read}
@@ -47,13 +47,13 @@ not_nil (b ∷ held) rest some e = cc
 
 pub is_fault : (e : WireError) (old new : Option (List ℕ)) (held : List ℕ)
     → Consumes old new held
-    → held ≢ [] → (length held < frame_length held → IsAtEnd new) → read_batch held ≡ Err e
+    → held ≢ [] → (length held < frame_length held → IsAtEnd new) → batch_fault held ≡ Some e
     → IfSome old (IsFaultOf e)
-is_fault e None new held taken some end read = tt
-is_fault e (Some xs) None held taken some end read = absurd taken
-is_fault e (Some xs) (Some ys) held taken some end read =
-    let read_again = ap refusal (same_read held ys end ∙ read) in
-    subst (λ (bytes : List ℕ). IsFaultOf e bytes) (sym taken) (not_nil held ys some, read_again)
+is_fault e None new held taken some end fault = tt
+is_fault e (Some xs) None held taken some end fault = absurd taken
+is_fault e (Some xs) (Some ys) held taken some end fault =
+    let same : batch_fault (held ++ ys) ≡ Some e = ap refusal (same_read held ys end) ∙ fault in
+    subst (λ (bytes : List ℕ). IsFaultOf e bytes) (sym taken) (not_nil held ys some, same)
 
 pub each_byte : (bytes : List ℕ) → ((i d : ℕ) → i < length bytes → get_or bytes i d < 256) → AreBytes bytes
 each_byte bytes small i = elim (cases_lt i (length bytes)) [

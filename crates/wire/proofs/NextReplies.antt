@@ -11,7 +11,7 @@ use Rattle.wire.specs.Fields.{reply_fields}
 use Rattle.wire.specs.Spelling.{SpellsReply}
 use Rattle.wire.specs.FrameLength.{frame_length}
 use Rattle.wire.specs.NextReply.{TakesReply, IsReplyFaultOf}
-use Rattle.wire.specs.Reading.{◌>>=◌, reply_at, all_of, read_reply, refusal}
+use Rattle.wire.specs.Reading.{◌>>=◌, reply_at, all_of, read_reply, reply_fault, refusal}
 use Rattle.wire.proofs.Taken.{AreBytes}
 use Rattle.wire.proofs.Replies.{reply_decoded}
 use Rattle.wire.proofs.FrameLengths.{at_most_whole, same_body}
@@ -38,10 +38,10 @@ takes_reply old new held reply n fits taken within read used =
 
 pub is_reply_fault : (e : WireError) (old new : Option (List ℕ)) (held : List ℕ)
     → Consumes old new held
-    → held ≢ [] → (length held < frame_length held → IsAtEnd new) → read_reply held ≡ Err e
+    → held ≢ [] → (length held < frame_length held → IsAtEnd new) → reply_fault held ≡ Some e
     → IfSome old (IsReplyFaultOf e)
-is_reply_fault e None new held taken some end read = tt
-is_reply_fault e (Some xs) None held taken some end read = absurd taken
-is_reply_fault e (Some xs) (Some ys) held taken some end read =
-    let read_again = ap refusal (same_reply held ys end ∙ read) in
-    subst (λ (bytes : List ℕ). IsReplyFaultOf e bytes) (sym taken) (not_nil held ys some, read_again)
+is_reply_fault e None new held taken some end fault = tt
+is_reply_fault e (Some xs) None held taken some end fault = absurd taken
+is_reply_fault e (Some xs) (Some ys) held taken some end fault =
+    let same : reply_fault (held ++ ys) ≡ Some e = ap refusal (same_reply held ys end) ∙ fault in
+    subst (λ (bytes : List ℕ). IsReplyFaultOf e bytes) (sym taken) (not_nil held ys some, same)

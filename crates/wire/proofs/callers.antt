@@ -7,3 +7,5 @@ pub mod Held
 pub mod Known
 pub mod Given
 pub mod Filling
+pub mod Frames
+pub mod ReplyLengths

@@ -6,7 +6,7 @@ use Rattle.wire.specs.Fields.{BatchFields, batch_fields}
 use Rattle.wire.specs.Spelling.{BatchHolds}
 use Rattle.wire.specs.Lying.{AreApart, batch_told}
 use Rattle.wire.specs.FrameLength.{frame_length}
-use Rattle.wire.specs.Reading.{read_batch}
+use Rattle.wire.specs.Reading.{read_batch, refusal}
 use Rattle.wire.proofs.FrameLengths.{at_least_four}
 use Rattle.wire.proofs.callers.Known.{none_before}
 use Rattle.wire.proofs.NextFrames.{takes_frame, whole_frame, is_fault, each_byte}
@@ -37,7 +37,7 @@ returns-in_err-tables-clause-fault g c =
     ap read_batch (sym c.deref.ensures.value) ∙ c.in_err-tables.ensures.reads.2 not_memory in
     is_fault c.in_err-tables.field-0.0 (g.R.Source.remaining c.args.reader.now)
     (g.R.Source.remaining c.fill_frame.new.reader) held c.in_ok-fill_frame.ensures.taken some
-    (λ lt. c.in_ok-fill_frame.ensures.end (omega arith)) read)
+    (λ lt. c.in_ok-fill_frame.ensures.end (omega arith)) (ap refusal read))
 
 pub batch_of-requires-clause-apart : goal.batch_of-requires-clause-apart
 batch_of-requires-clause-apart g c =

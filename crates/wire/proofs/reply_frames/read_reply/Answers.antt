@@ -4,7 +4,7 @@ use Rattle.std.proofs.lemmas.List.{nil_from_length}
 use Rattle.std.proofs.lemmas.Result.{err_from_is_err_and}
 use Rattle.byteorder.specs.Endian.{big_number}
 use Rattle.wire.specs.FrameLength.{frame_length}
-use Rattle.wire.specs.Reading.{read_reply}
+use Rattle.wire.specs.Reading.{read_reply, refusal}
 use Rattle.wire.proofs.FrameLengths.{at_least_four}
 use Rattle.wire.proofs.callers.Known.{none_before}
 use Rattle.wire.proofs.NextFrames.{each_byte}
@@ -36,7 +36,7 @@ returns-in_err-reply-clause-fault g c =
     ap read_reply (sym c.deref.ensures.value) ∙ c.in_err-reply.ensures.reads.2 not_memory in
     is_reply_fault c.in_err-reply.field-0.0 (g.R.Source.remaining c.args.reader.now)
     (g.R.Source.remaining c.fill_frame.new.reader) held c.in_ok-fill_frame.ensures.taken some
-    (λ lt. c.in_ok-fill_frame.ensures.end (omega arith)) read)
+    (λ lt. c.in_ok-fill_frame.ensures.end (omega arith)) (ap refusal read))
 
 pub returns-clause-reply : goal.returns-clause-reply
 returns-clause-reply g c =
