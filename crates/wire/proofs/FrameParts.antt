@@ -1,14 +1,14 @@
 -- What a refusal leaves of the next frame.
-use Rattle.std.proofs.Common.{◌≡◌, ◌≢◌, ℕ, ◌+◌, ◌-◌, ◌<◌, ◌≤◌, List, [], ◌++◌, length, take, Option, Some, None, sym, ap, subst, ◌∙◌, arith}
+use Rattle.std.proofs.Common.{◌≡◌, ◌≢◌, ◌⊎◌, inl, inr, ℕ, ◌+◌, ◌-◌, ◌<◌, ◌≤◌, List, [], ◌++◌, length, take, Option, Some, None, sym, ap, subst, ◌∙◌, arith}
 use Rattle.std.specs.Io.KnownBytes.{Consumes}
 use Rattle.std.proofs.lemmas.List.{length-append, take-append-le, take_all}
 use Rattle.keyspace.specs.declared.batch.Batch.{Batch}
 use Rattle.wire.specs.declared.error.WireError.{WireError}
-use Rattle.wire.specs.declared.error.WireError.TheVariants.{Read}
+use Rattle.wire.specs.declared.error.WireError.TheVariants.{Long, Memory, Read}
 use Rattle.wire.specs.Fields.{batch_fields}
 use Rattle.wire.specs.Spelling.{batch_body, frame}
 use Rattle.wire.specs.Reading.{version_told}
-use Rattle.wire.specs.Filling.{TakesFewer}
+use Rattle.wire.specs.Filling.{MovesInto, TakesFewer}
 use Rattle.wire.specs.FrameLength.{frame_length}
 use Rattle.wire.specs.NextFrame.{IsPartOfFrame, TakesPart, TakesFrame}
 use Rattle.wire.proofs.FrameLengths.{short_length, at_least_four, same_length, settled_frame}
@@ -23,6 +23,15 @@ cut_in_front e old None fewer = tt
 cut_in_front e old (Some ys) fewer =
     let part = fewer.0 in
     (part, less_than_frame e part (omega (arith, short_length part fewer.1, fewer.1)), fewer.2)
+
+-- more bytes leave the length that the front tells
+pub longer_front : (old new : Option (List ℕ)) (front all : List ℕ) → MovesInto old new front all → 4 < frame_length front
+    → frame_length all ≡ frame_length front
+longer_front old new front all moved more =
+    let fronts : take (length front) all ≡ front =
+    ap (take (length front)) moved.1 ∙ take-append-le (length front) front moved.0 (omega arith)
+    ∙ take_all (length front) front (omega arith) in
+    same_length front all fronts more
 
 -- the front was, and the frame wasn't
 pub cut_behind_front : (e : WireError) (old now new : Option (List ℕ)) (front : List ℕ) → Consumes old now front
@@ -57,3 +66,7 @@ pub no_part : (e : WireError) (now : Option (List ℕ)) → TakesPart now now e
 no_part e None = tt
 no_part e (Some xs) = let four = at_least_four [] in
     ([], less_than_frame e [] (omega (arith, four)), consumes_none (Some xs))
+
+pub not_read : (e : WireError) → (e ≡ Long) ⊎ (e ≡ Memory) → e ≢ Read
+not_read e (inl is) read = let bad : Long ≡ Read = sym is ∙ read in cc
+not_read e (inr is) read = let bad : Memory ≡ Read = sym is ∙ read in cc

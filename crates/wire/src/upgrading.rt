@@ -69,7 +69,7 @@ pub fn upgrade<R: Source, W: Sink>(
     ensures end { OnOk result (IsAtEnd (R.remaining reader.new)) }
     ensures refused { IfErr result (λ e. e ≢ WireError.Write
         → StopsAt (R.remaining reader.old) (R.remaining reader.new)
-            (W.given writer.old) (W.given writer.new) e) }
+        (W.given writer.old) (W.given writer.new) e) }
     ensures broken_off { IfErr result (λ e. e ≡ WireError.Write
         → BreaksOff (R.remaining reader.old) (W.given writer.old) (W.given writer.new)) }
     ensures read { IsErrOf result WireError.Read ↔ (R.failures reader.old < R.failures reader.new) }

@@ -19,6 +19,12 @@ keeps_consumes (Some xs) None c bs h k = absurd h
 keeps_consumes (Some xs) (Some ys) None bs h k = absurd k
 keeps_consumes (Some xs) (Some ys) (Some zs) bs h k = sym h ∙ k
 
+pub consumes_keeps : (a b c : Option (List ℕ)) (bs : List ℕ) → Consumes a b bs → Keeps b c → Consumes a c bs
+consumes_keeps None b c bs h k = tt
+consumes_keeps (Some xs) None c bs h k = absurd h
+consumes_keeps (Some xs) (Some ys) None bs h k = absurd k
+consumes_keeps (Some xs) (Some ys) (Some zs) bs h k = h ∙ ap (λ (x : List ℕ). bs ++ x) (sym k)
+
 pub consumes_none : (a : Option (List ℕ)) → Consumes a a []
 consumes_none None = tt
 consumes_none (Some xs) = refl
