@@ -9,6 +9,7 @@ mod lane;
 mod limits;
 mod lines;
 mod resolver;
+mod retries;
 mod serving;
 mod shards;
 mod step_map;

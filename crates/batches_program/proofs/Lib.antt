@@ -1,2 +1,3 @@
-pub mod Known
-pub mod Turning
+mod Turning
+mod Failures
+mod Telling

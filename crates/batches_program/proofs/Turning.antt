@@ -1,19 +1,11 @@
 -- Part after part.
-use Rattle.std.proofs.Common.{◌≡◌, ℕ, List, [], ◌∷◌, ◌++◌, Option, Some, None, refl, sym, ap, IfSome, subst, ◌∙◌, append_assoc}
-use Rattle.std.proofs.lemmas.List.{append-nil}
+use Rattle.std.proofs.Common.{◌≡◌, ℕ, ◌+◌, List, [], ◌∷◌, ◌++◌, length, Option, Some, None, refl, sym, ap, IfSome, subst, ◌∙◌, append_assoc, arith}
+use Rattle.std.proofs.lemmas.List.{append-nil, length-append}
 use Rattle.std.specs.Io.KnownBytes.{Consumes, Appends, IsAtEnd}
+use Rattle.wire.proofs.callers.Given.{appends_none, appends_then}
 use Rattle.wire.proofs.callers.Known.{consumes_none, consumes_then}
-use Rattle.batches_program.specs.Turned.{BecomeEach, joined, Turns, TurnsAll}
-
-appends_none : (a : Option (List ℕ)) → Appends a a []
-appends_none None = tt
-appends_none (Some xs) = sym (append-nil xs)
-
-appends_then : (a b c : Option (List ℕ)) (xs ys : List ℕ) → Appends a b xs → Appends b c ys → Appends a c (xs ++ ys)
-appends_then None b c xs ys h k = tt
-appends_then (Some us) None c xs ys h k = absurd h
-appends_then (Some us) (Some vs) None xs ys h k = absurd k
-appends_then (Some us) (Some vs) (Some ws) xs ys h k = k ∙ ap (λ (t : List ℕ). t ++ ys) h ∙ append_assoc us xs ys
+use Rattle.batches_program.specs.declared.failure.Failure.{Failure}
+use Rattle.batches_program.specs.Turned.{BecomeEach, joined, Turns, TurnsAll, Stops}
 
 joined_last : (parts : List (List ℕ)) (part : List ℕ) → joined parts ++ part ≡ joined (parts ++ part ∷ [])
 joined_last [] part = sym (append-nil part)
@@ -34,49 +26,68 @@ each_last Becomes (first ∷ parts) part text last each becomes =
       each_last Becomes parts part others last each.4 becomes,
     )
 
-pub nothing_yet : (Becomes : List ℕ → List ℕ → Type 0) (left before : Option (List ℕ)) → Turns Becomes left left before before
+-- what was turned so far, and the number of the next part, counted from 1
+pub record SoFar (Becomes : List ℕ → List ℕ → Type 0) (left now before after : Option (List ℕ)) (number : ℕ) : Type 0 where
+  pub turned : Turns Becomes left now before after
+  pub counted : number ≡ length turned.parts + 1
+
+pub nothing_yet : (Becomes : List ℕ → List ℕ → Type 0) (left before : Option (List ℕ)) → SoFar Becomes left left before before 1
 nothing_yet Becomes left before = record {
-  parts = [];
-  text = [];
-  read = consumes_none left;
-  each = refl;
-  written = appends_none before;
+  turned = record {
+    parts = [];
+    text = [];
+    read = consumes_none left;
+    each = refl;
+    written = appends_none before;
+  };
+  counted = refl;
 }
 
-pub one_more : (Becomes : List ℕ → List ℕ → Type 0) (left now next before after later : Option (List ℕ)) (part last : List ℕ)
-    → Turns Becomes left now before after → Consumes now next part → Becomes part last → Appends after later last
-    → Turns Becomes left next before later
-one_more Becomes left now next before after later part last so_far read becomes written = record {
-  parts = so_far.parts ++ part ∷ [];
-  text = so_far.text ++ last;
-  read = subst (Consumes left next) (joined_last so_far.parts part)
-      (consumes_then left now next (joined so_far.parts) part so_far.read read);
-  each = each_last Becomes so_far.parts part so_far.text last so_far.each becomes;
-  written = appends_then before after later so_far.text last so_far.written written;
-}
+pub one_more : (Becomes : List ℕ → List ℕ → Type 0) (left now next before after later : Option (List ℕ)) (number : ℕ)
+    (part last : List ℕ) → SoFar Becomes left now before after number → Consumes now next part → Becomes part last
+    → Appends after later last → SoFar Becomes left next before later (number + 1)
+one_more Becomes left now next before after later number part last so_far read becomes written =
+    let turned = so_far.turned in record {
+      turned = record {
+        parts = turned.parts ++ part ∷ [];
+        text = turned.text ++ last;
+        read = subst (Consumes left next) (joined_last turned.parts part)
+            (consumes_then left now next (joined turned.parts) part turned.read read);
+        each = each_last Becomes turned.parts part turned.text last turned.each becomes;
+        written = appends_then before after later turned.text last turned.written written;
+      };
+      counted = omega (arith, so_far.counted, length-append turned.parts (part ∷ []));
+    }
 
-pub same_output : (Becomes : List ℕ → List ℕ → Type 0) (left now before after later : Option (List ℕ)) → later ≡ after
-    → Turns Becomes left now before after → Turns Becomes left now before later
-same_output Becomes left now before after later same so_far =
-    subst (λ (out : Option (List ℕ)). Turns Becomes left now before out) (sym same) so_far
-
--- the parts are all, where nothing is left
+-- the parts are all, if nothing is left
 all_parts : (left now : Option (List ℕ)) (bytes : List ℕ) → Consumes left now bytes → IsAtEnd now → IfSome left (λ all. all ≡ bytes)
 all_parts None now bytes read end = tt
 all_parts (Some xs) None bytes read end = absurd read
 all_parts (Some xs) (Some ys) bytes read end = read ∙ ap (λ (t : List ℕ). bytes ++ t) end ∙ append-nil bytes
 
-pub at_the_end : (Becomes : List ℕ → List ℕ → Type 0) (left now before after : Option (List ℕ))
-    → Turns Becomes left now before after → IsAtEnd now → TurnsAll Becomes left before after
-at_the_end Becomes left now before after so_far end = record {
-  parts = so_far.parts;
-  text = so_far.text;
-  read = all_parts left now (joined so_far.parts) so_far.read end;
-  each = so_far.each;
-  written = so_far.written;
-}
+pub at_the_end : (Becomes : List ℕ → List ℕ → Type 0) (left now before after later : Option (List ℕ)) (number : ℕ)
+    → SoFar Becomes left now before after number → IsAtEnd now → later ≡ after → TurnsAll Becomes left before later
+at_the_end Becomes left now before after later number so_far end same =
+    let turned = so_far.turned in record {
+      parts = turned.parts;
+      text = turned.text;
+      read = all_parts left now (joined turned.parts) turned.read end;
+      each = turned.each;
+      written = subst (λ (out : Option (List ℕ)). Appends before out turned.text) (sym same) turned.written;
+    }
 
-pub end_before : (a b : Option (List ℕ)) (bytes : List ℕ) → bytes ≡ [] → Consumes a b bytes → IsAtEnd b → IsAtEnd a
-end_before None b bytes none read end = tt
-end_before (Some xs) None bytes none read end = absurd read
-end_before (Some xs) (Some ys) bytes none read end = read ∙ ap (λ (t : List ℕ). t ++ ys) none ∙ end
+pub stops : (Becomes : List ℕ → List ℕ → Type 0) (Fails : ℕ → Option (List ℕ) → Failure → Type 0)
+    (left now before after later : Option (List ℕ)) (number : ℕ) (e : Failure) → SoFar Becomes left now before after number
+    → later ≡ after → Fails number now e → Stops Becomes Fails left before later e
+stops Becomes Fails left now before after later number e so_far same fails =
+    let turned = so_far.turned in record {
+      now = now;
+      turned = record {
+        parts = turned.parts;
+        text = turned.text;
+        read = turned.read;
+        each = turned.each;
+        written = subst (λ (out : Option (List ℕ)). Appends before out turned.text) (sym same) turned.written;
+      };
+      fails = subst (λ (n : ℕ). Fails n now e) so_far.counted fails;
+    }

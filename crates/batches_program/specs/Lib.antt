@@ -1,2 +1,5 @@
 pub mod Turned
 pub mod Lines
+pub mod Failing
+pub mod Told
+pub mod Task

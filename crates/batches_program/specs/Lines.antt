@@ -7,10 +7,12 @@ use Rattle.keyspace.specs.declared.reply.Reply.{Reply}
 use Rattle.wire.specs.declared.version.WireVersion.TheVariants.{Two}
 use Rattle.wire.specs.Fields.{batch_fields, reply_fields}
 use Rattle.wire.specs.Spelling.{SpellsBatch, SpellsReply}
-use Rattle.wire.specs.Reading.{version_told}
+use Rattle.wire.specs.NextFrame.{IsFrameOf}
 use Rattle.json_lines.specs.Batches.{batch_of}
 use Rattle.json_lines.specs.Replies.{reply_of}
 use Rattle.json_lines.specs.Written.{batch_line, reply_line}
+use Rattle.batches_program.specs.declared.form.Form.{Form}
+use Rattle.batches_program.specs.declared.form.Form.TheVariants.{Line, Table}
 use Rattle.batches_program.specs.declared.kind.Kind.{Kind}
 use Rattle.batches_program.specs.declared.kind.Kind.TheVariants.{Batches, Replies}
 
@@ -37,8 +39,7 @@ BecomesFrame kind line text = (IsTrue (is_blank line) × (text ≡ [])) ⊎ IsFr
 
 -- the line, with its line feed, is that of the batch whose frame this is
 abbrev pub IsBatchLine : List ℕ → List ℕ → Type 0
-IsBatchLine frame line = (batch : Batch) × SpellsBatch (version_told frame) frame batch
-    × (line ≡ batch_line (batch_fields batch) ++ 10 ∷ [])
+IsBatchLine frame line = (batch : Batch) × IsFrameOf frame batch × (line ≡ batch_line (batch_fields batch) ++ 10 ∷ [])
 
 abbrev pub IsReplyLine : List ℕ → List ℕ → Type 0
 IsReplyLine frame line = (reply : Reply) × SpellsReply frame reply
@@ -47,3 +48,13 @@ IsReplyLine frame line = (reply : Reply) × SpellsReply frame reply
 abbrev pub BecomesLine : Kind → List ℕ → List ℕ → Type 0
 BecomesLine Batches = IsBatchLine
 BecomesLine Replies = IsReplyLine
+
+-- the bytes are a frame; no definition says what its table has
+abbrev pub IsShown : Kind → List ℕ → List ℕ → Type 0
+IsShown Batches frame table = (batch : Batch) × IsFrameOf frame batch
+IsShown Replies frame table = (reply : Reply) × SpellsReply frame reply
+
+-- what is printed of a frame
+abbrev pub IsPrinted : Kind → Form → List ℕ → List ℕ → Type 0
+IsPrinted kind Line = BecomesLine kind
+IsPrinted kind (Table full) = IsShown kind

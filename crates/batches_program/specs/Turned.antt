@@ -1,6 +1,7 @@
 -- What the program reads, part by part, and what it writes for each part.
-use Rattle.std.specs.Prelude.{◌≡◌, ℕ, List, [], ◌∷◌, ◌++◌, Option, IfSome}
+use Rattle.std.specs.Prelude.{◌≡◌, ℕ, ◌+◌, List, [], ◌∷◌, ◌++◌, length, Option, IfSome}
 use Rattle.std.specs.Io.KnownBytes.{Consumes, Appends}
+use Rattle.batches_program.specs.declared.failure.Failure.{Failure}
 
 -- the bytes are what these parts become, one after the other
 abbrev pub BecomeEach : (List ℕ → List ℕ → Type 0) → List (List ℕ) → List ℕ → Type 0
@@ -29,6 +30,9 @@ pub record TurnsAll (Becomes : List ℕ → List ℕ → Type 0) (left before af
   pub each : BecomeEach Becomes parts text
   pub written : Appends before after text
 
--- After a failure the same of the parts before it, whatever is left of the others.
-abbrev pub TurnsSome : (List ℕ → List ℕ → Type 0) → Option (List ℕ) → Option (List ℕ) → Option (List ℕ) → Type 0
-TurnsSome Becomes left before after = (now : Option (List ℕ)) × Turns Becomes left now before after
+-- Some parts were turned, and the failure is that of the part after them, counted from 1.
+pub record Stops (Becomes : List ℕ → List ℕ → Type 0) (Fails : ℕ → Option (List ℕ) → Failure → Type 0)
+    (left before after : Option (List ℕ)) (failure : Failure) : Type 0 where
+  pub now : Option (List ℕ)
+  pub turned : Turns Becomes left now before after
+  pub fails : Fails (length turned.parts + 1) now failure

@@ -1,6 +1,7 @@
 //! What goes wrong, and how it is told.
 
-ghost use Rattle.std.specs.Prelude.{◌≡◌, ◌≢◌};
+ghost use Rattle.std.specs.Prelude.{◌≡◌, ◌≢◌, IfOk, string_bytes};
+ghost use Rattle.batches_program.specs.Told.{IsLine, TellsLine};
 ghost use Rattle.batches_program.specs.declared.failure.Failure.TheVariants.{Memory, Write};
 
 use crate::status::Status;
@@ -39,7 +40,8 @@ pub enum Failure {
 impl Failure {
     /// Creates the failure of a refused line.
     pub fn of_line(number: u64, refusal: Refusal) -> Self
-        ensures never_write { result ≢ Failure.Write }
+        ensures memory { refusal.cause ≡ Cause.Memory → result ≡ Failure.Memory }
+        ensures line { refusal.cause ≢ Cause.Memory → result ≡ Failure.Line number refusal }
     {
         match refusal.cause {
             Cause::Memory => Failure::Memory,
@@ -49,18 +51,19 @@ impl Failure {
 
     /// Creates the failure of a refused frame.
     pub fn of_frame(number: u64, refusal: WireError) -> Self
-        ensures never_write { result ≢ Failure.Write }
+        ensures memory { refusal ≡ WireError.Memory → result ≡ Failure.Memory }
+        ensures frame { refusal ≢ WireError.Memory → result ≡ Failure.Frame number refusal }
     {
         match refusal {
             WireError::Memory => Failure::Memory,
-            WireError::Read => Failure::Read,
             refusal => Failure::Frame(number, refusal),
         }
     }
 
     /// Creates the failure of what a line says, where it has no frame.
     pub fn of_long(number: u64, refusal: WireError) -> Self
-        ensures never_write { result ≢ Failure.Write }
+        ensures long { refusal ≡ WireError.Long → result ≡ Failure.Long number }
+        ensures memory { refusal ≢ WireError.Long → result ≡ Failure.Memory }
     {
         match refusal {
             WireError::Long => Failure::Long(number),
@@ -104,17 +107,23 @@ impl From<io::Error> for Failure {
     }
 }
 
-/// Tells the failure in a line, and returns how the program ends. Where the line can't be written, nothing is told.
+/// Tells the failure in a line, and returns how the program ends. A failed write changes nothing.
 pub fn fail<E: Sink>(error: &mut E, alloc: Global, failure: &Failure) -> Status
     ensures failed { result ≡ Status.Failed }
+    ensures told { TellsLine (E.given error.old) (E.given error.new) (E.failures error.old) (E.failures error.new) }
 {
-    match format!(in alloc; "{failure}\n") {
-        Ok(line) => {
-            let _ = write_all(error, line.as_bytes());
-        }
-        Err(_) => {
-            let _ = write_all(error, b"memory was refused\n");
-        }
-    }
+    let _ = match line_of(alloc, failure) {
+        Ok(line) => write_all(error, line.as_bytes()),
+        Err(_) => write_all(error, b"memory was refused\n"),
+    };
     Status::Failed
+}
+
+// Returns the line of a failure, with its line feed.
+fn line_of(alloc: Global, failure: &Failure) -> Result<String, AllocError>
+    ensures line { IfOk result (λ line. IsLine (string_bytes line)) }
+{
+    let mut line = format!(in alloc; "{failure}")?;
+    line.push('\n')?;
+    Ok(line)
 }

@@ -1,81 +1,56 @@
-//! Frames, one after the other.
+//! The next frame, and what it says.
 
-ghost use Rattle.std.specs.Prelude.{◌≡◌, ◌≢◌, ◌<◌, ◌≤◌, ◌+◌, ◌++◌, [], ℕ, List, vec_len, IfErr, IfOk, OnOk};
-ghost use Rattle.std.specs.Io.KnownBytes.{Keeps, Consumes, IsAtEnd, prepend_known};
-ghost use Rattle.batches_program.specs.declared.failure.Failure.TheVariants.{Write};
+ghost use Rattle.std.specs.Prelude.{◌≡◌, ◌⊎◌, ◌<◌, ◌≤◌, length, vec_len, IfErr, IfOk, OnOk};
+ghost use Rattle.std.specs.Io.KnownBytes.{Consumes, IsAtEnd};
+ghost use Rattle.wire.specs.FrameLength.{frame_length};
+ghost use Rattle.wire.specs.NextFrame.{IsFrameOf};
+ghost use Rattle.wire.specs.Spelling.{SpellsReply};
+ghost use Rattle.batches_program.specs.Failing.{IsFailureOfFrame};
+ghost use Rattle.batches_program.specs.declared.failure.Failure.TheVariants.{Memory, Read};
+ghost use Rattle.batches_program.specs.declared.kind.Kind.TheVariants.{Batches, Replies};
 
 use crate::failure::Failure;
-use wire::{MAX_BODY_LENGTH, Source};
+use keyspace::{Batch, Reply};
+use std::alloc::Global;
+use wire::{Source, WireError, decode_batch, decode_reply, fill_frame};
 
-// The most bytes asked of the reader at once, as long as the buffer holds fewer.
-const CHUNK_LENGTH: usize = 65_536;
-
-/// Reads the bytes of the next frame into the buffer: as many as settle what it says, or all that are left. It is empty at
-/// the end of the input.
-#[tactic(auto, using(crate::proofs::Known::keeps_then, crate::proofs::Known::prepended_none, crate::proofs::Known::held_consumes))]
-pub fn read_frame<R: Source>(reader: &mut R, buffer: &mut Vec<u8>) -> Result<(), Failure>
-    ensures bytes { OnOk result (Consumes (R.remaining reader.old) (R.remaining reader.new) buffer.new.items) }
-    ensures end { OnOk result (vec_len buffer.new ≡ 0 → IsAtEnd (R.remaining reader.new)) }
-    ensures never_write { IfErr result (λ e. e ≢ Write) }
+/// Reads the bytes of the next frame into the buffer, as [`fill_frame`] does.
+pub fn next_frame<R: Source>(reader: &mut R, frame: &mut Vec<u8>) -> Result<(), Failure>
+    ensures taken { OnOk result (Consumes (R.remaining reader.old) (R.remaining reader.new) frame.new.items) }
+    ensures within { OnOk result (vec_len frame.new ≤ frame_length frame.new.items) }
+    ensures end { OnOk result
+        (vec_len frame.new < frame_length frame.new.items → IsAtEnd (R.remaining reader.new)) }
+    ensures err { IfErr result (λ e. (e ≡ Memory) ⊎ (e ≡ Read)) }
+    ensures ok { OnOk result (R.failures reader.new ≡ R.failures reader.old) }
+    ensures read { IfErr result (λ e. e ≡ Read → R.failures reader.old < R.failures reader.new) }
 {
-    buffer.clear();
-    fill(reader, buffer, 4)?;
-    let length = length_told(buffer);
-    fill(reader, buffer, length)
-}
-
-// Returns how many bytes of the frame with this front settle what it says: all, unless its length isn't there or is too great.
-fn length_told(front: &[u8]) -> usize
-    ensures least { 4 ≤ result }
-{
-    let Some(head) = front.first_chunk::<4>() else {
-        return 4;
-    };
-    let length = u32::from_be_bytes(*head) as usize;
-    if length > MAX_BODY_LENGTH {
-        4
-    } else {
-        4 + length
+    match fill_frame(reader, frame) {
+        Ok(()) => Ok(()),
+        Err(WireError::Read) => Err(Failure::Read),
+        Err(_) => Err(Failure::Memory),
     }
 }
 
-// Reads until the buffer holds `target` bytes or the input ends.
-#[tactic(auto, using(crate::proofs::Known::keeps_same, crate::proofs::Known::keeps_then))]
-fn fill<R: Source>(reader: &mut R, buffer: &mut Vec<u8>, target: usize) -> Result<(), Failure>
-    requires room { vec_len buffer.old ≤ target }
-    ensures joined { OnOk result (Keeps (prepend_known buffer.old.items (R.remaining reader.old))
-        (prepend_known buffer.new.items (R.remaining reader.new))) }
-    ensures longer { OnOk result (vec_len buffer.old ≤ vec_len buffer.new) }
-    ensures within { OnOk result (vec_len buffer.new ≤ target) }
-    ensures end { OnOk result (vec_len buffer.new < target → IsAtEnd (R.remaining reader.new)) }
-    ensures never_write { IfErr result (λ e. e ≢ Write) }
+/// Returns the batch of a frame, which has this number.
+pub fn batch_in(alloc: Global, number: u64, frame: &[u8]) -> Result<Batch, Failure>
+    requires settled { length frame.now ≤ frame_length frame.now }
+    ensures batch { IfOk result (IsFrameOf frame.now) }
+    ensures fails { IfErr result (IsFailureOfFrame Batches number frame.now) }
 {
-    while buffer.len() < target {
-        let count = read_more(reader, buffer, target - buffer.len())?;
-        if count == 0 {
-            return Ok(());
-        }
+    match decode_batch(alloc, frame) {
+        Ok((batch, _)) => Ok(batch),
+        Err(refusal) => Err(Failure::of_frame(number, refusal)),
     }
-    Ok(())
 }
 
-// Reads once into the memory behind what the buffer holds, at most `most` bytes, and returns how many.
-#[tactic(auto, using(crate::proofs::Known::prepended))]
-fn read_more<R: Source>(reader: &mut R, buffer: &mut Vec<u8>, most: usize) -> Result<usize, Failure>
-    requires some { 0 < most }
-    ensures joined { OnOk result (Keeps (prepend_known buffer.old.items (R.remaining reader.old))
-        (prepend_known buffer.new.items (R.remaining reader.new))) }
-    ensures count { IfOk result (λ n. vec_len buffer.new ≡ vec_len buffer.old + n) }
-    ensures few { IfOk result (λ n. n ≤ most) }
-    ensures end { IfOk result (λ n. n ≡ 0 → IsAtEnd (R.remaining reader.new)) }
-    ensures never_write { IfErr result (λ e. e ≢ Write) }
+/// Returns the reply of a frame, which has this number.
+pub fn reply_in(alloc: Global, number: u64, frame: &[u8]) -> Result<Reply, Failure>
+    requires settled { length frame.now ≤ frame_length frame.now }
+    ensures reply { IfOk result (SpellsReply frame.now) }
+    ensures fails { IfErr result (IsFailureOfFrame Replies number frame.now) }
 {
-    let held = buffer.len();
-    let wanted = most.min(CHUNK_LENGTH.max(held));
-    buffer.resize(held + wanted, 0)?;
-    let Ok(count) = reader.read(&mut buffer[held..]) else {
-        return Err(Failure::Read);
-    };
-    buffer.truncate(held + count);
-    Ok(count)
+    match decode_reply(alloc, frame) {
+        Ok((reply, _)) => Ok(reply),
+        Err(refusal) => Err(Failure::of_frame(number, refusal)),
+    }
 }

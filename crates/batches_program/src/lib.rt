@@ -5,23 +5,29 @@
 #![tactic(auto)]
 
 mod command;
-mod decoding;
-mod encoding;
+mod converter;
+mod decoder;
+mod encoder;
 mod failure;
+mod form;
 mod frame;
 mod kind;
+mod printer;
 mod program;
 mod progress;
-mod showing;
 mod status;
 mod table;
+mod task;
+mod viewer;
 mod words;
 
-pub use decoding::decode;
-pub use encoding::encode;
+pub use converter::convert;
+pub use decoder::decode;
+pub use encoder::encode;
 pub use failure::{Failure, fail};
 pub use kind::Kind;
 pub use program::run;
 pub use progress::Progress;
-pub use showing::show;
 pub use status::Status;
+pub use task::Task;
+pub use viewer::show;

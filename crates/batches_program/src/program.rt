@@ -1,18 +1,19 @@
 //! What the command line asks for, done.
 
-use crate::decoding::decode;
-use crate::encoding::encode;
+ghost use Rattle.std.specs.Prelude.{◌≡◌, IsTrue, OnOk, not};
+ghost use Rattle.batches_program.specs.Told.{Tells, TellsLine};
+
+use crate::converter::convert;
 use crate::failure::{Failure, fail};
 use crate::progress::{LONG_FILE, Progress};
-use crate::showing::show;
 use crate::status::Status;
-use crate::words::{CommandLine, Stop, Task, read_words};
+use crate::words::{CommandLine, Stop, read_words};
 use std::alloc::Global;
 use std::fs::{File, Files};
-use std::io::{BufRead, BufReader};
+use std::io::BufReader;
 use std::rt::Env;
 use std::{env, io};
-use wire::{Failed, Sink, StdSource, write_all};
+use wire::{Failed, Sink, write_all, write_and_flush};
 
 /// Runs the program on the words and the streams of the process. The progress through a long file is told where `watched`
 /// says that people read standard error.
@@ -21,7 +22,12 @@ pub fn run<R: Files<File = File> + Env + Input + AllocGlobal, O: Sink, E: Sink>(
     watched: bool,
     out: &mut O,
     error: &mut E,
-) -> Status {
+) -> Status
+    ensures ok { result ≡ Status.Done → O.failures out.new ≡ O.failures out.old }
+    ensures quiet { result ≡ Status.Done → IsTrue (not watched) → error.new ≡ error.old }
+    ensures told { result ≡ Status.Failed
+        → TellsLine (E.given error.old) (E.given error.new) (E.failures error.old) (E.failures error.new) }
+{
     let alloc = rt.alloc();
     let words = match command_line(rt) {
         Ok(words) => words,
@@ -49,11 +55,16 @@ fn command_line<R: Env + AllocGlobal>(rt: &R) -> Result<Vec<String>, Failure> {
 }
 
 // Prints the text in place of doing anything, and returns how the program ends.
-fn end<O: Sink, E: Sink>(stop: &Stop, alloc: Global, out: &mut O, error: &mut E) -> Status {
+fn end<O: Sink, E: Sink>(stop: &Stop, alloc: Global, out: &mut O, error: &mut E) -> Status
+    ensures ok { result ≡ Status.Done → O.failures out.new ≡ O.failures out.old }
+    ensures quiet { result ≡ Status.Done → error.new ≡ error.old }
+    ensures told { result ≡ Status.Failed
+        → TellsLine (E.given error.old) (E.given error.new) (E.failures error.old) (E.failures error.new) }
+{
     match stop {
-        Stop::Shown(text) => match print(out, text) {
+        Stop::Shown(text) => match write_and_flush(out, text.as_bytes()) {
             Ok(()) => Status::Done,
-            Err(_) => Status::Failed,
+            Err(Failed) => fail(error, alloc, &Failure::Write),
         },
         Stop::Refused(text) => {
             let _ = write_all(error, text.as_bytes());
@@ -63,11 +74,6 @@ fn end<O: Sink, E: Sink>(stop: &Stop, alloc: Global, out: &mut O, error: &mut E)
     }
 }
 
-fn print<W: Sink>(out: &mut W, text: &str) -> Result<(), Failed> {
-    write_all(out, text.as_bytes())?;
-    out.flush()
-}
-
 // Opens what is to be read, and does the task.
 fn do_line<R: Files<File = File> + Input + AllocGlobal, O: Sink, E: Sink>(
     rt: &R,
@@ -75,21 +81,25 @@ fn do_line<R: Files<File = File> + Input + AllocGlobal, O: Sink, E: Sink>(
     watched: bool,
     out: &mut O,
     error: &mut E,
-) -> Result<(), Failure> {
+) -> Result<(), Failure>
+    ensures ok { OnOk result (O.failures out.new ≡ O.failures out.old) }
+    ensures told { Tells (E.given error.old) (E.given error.new) (E.failures error.old) (E.failures error.new) }
+    ensures quiet { IsTrue (not watched) → error.new ≡ error.old }
+{
     let alloc = rt.alloc();
     let Some(name) = line.file else {
         let mut reader = rt.reader();
-        let mut progress = Progress::new(alloc, error, None);
-        return do_task(alloc, line, &mut reader, out, &mut progress);
+        let mut progress = Progress::new(alloc, None);
+        return convert(alloc, line.task, line.kind, &mut reader, out, error, &mut progress);
     };
     let Ok(file) = File::open(rt, name) else {
         return Err(Failure::Open);
     };
     let length = if watched { length_of(&file) } else { None };
     let mut reader = BufReader::new(alloc, file)?;
-    let mut progress = Progress::new(alloc, error, length);
-    let done = do_task(alloc, line, &mut reader, out, &mut progress);
-    progress.finish();
+    let mut progress = Progress::new(alloc, length);
+    let done = convert(alloc, line.task, line.kind, &mut reader, out, error, &mut progress);
+    progress.finish(error);
     done
 }
 
@@ -100,36 +110,5 @@ fn length_of(file: &File) -> Option<u64> {
         Some(length)
     } else {
         None
-    }
-}
-
-// Does the task, and passes on all that was written, after a failure too.
-fn do_task<R: BufRead, O: Sink, E: Sink>(
-    alloc: Global,
-    line: &CommandLine<'_>,
-    reader: &mut R,
-    out: &mut O,
-    progress: &mut Progress<'_, E>,
-) -> Result<(), Failure> {
-    let done = do_over(alloc, line, reader, out, progress);
-    let flushed = out.flush();
-    done?;
-    Ok(flushed?)
-}
-
-fn do_over<R: BufRead, O: Sink, E: Sink>(
-    alloc: Global,
-    line: &CommandLine<'_>,
-    reader: &mut R,
-    out: &mut O,
-    progress: &mut Progress<'_, E>,
-) -> Result<(), Failure> {
-    match line.task {
-        Task::Encode => encode(alloc, line.kind, reader, out, progress),
-        Task::Decode => decode(alloc, line.kind, &mut StdSource::new(reader), out, progress),
-        Task::Show { full } => {
-            let mut source = StdSource::new(reader);
-            show(alloc, line.kind, full, &mut source, out, progress)
-        }
     }
 }

@@ -1,27 +1,30 @@
 //! How far a long file has come, for people.
 
+ghost use Rattle.std.specs.Prelude.{◌≡◌, None};
+ghost use Rattle.batches_program.specs.Told.{Tells, length_told};
+
 use std::alloc::Global;
 use wire::{Sink, write_all};
 
 /// Files above this many bytes are long enough for their progress to be told.
 pub const LONG_FILE: u64 = 64 << 20;
 
-/// Tells the progress through a file in hundredths, on a line that is written over. Tells nothing where the length isn't
-/// known, or nobody watches.
+/// Tells the progress through a file in hundredths, on a line that is written over. Tells nothing if the length isn't known,
+/// or nobody watches.
 #[derive(Debug, Drop)]
-pub struct Progress<'e, E> {
-    error: &'e mut E,
+pub struct Progress {
     alloc: Global,
     length: Option<u64>,
     done: u64,
     told: u64,
 }
 
-impl<'e, E: Sink> Progress<'e, E> {
+impl Progress {
     /// Creates the progress through a file of this length, if it is to be told.
-    pub fn new(alloc: Global, error: &'e mut E, length: Option<u64>) -> Self {
+    pub fn new(alloc: Global, length: Option<u64>) -> Self
+        ensures length { length_told result ≡ length }
+    {
         Progress {
-            error,
             alloc,
             length,
             done: 0,
@@ -29,8 +32,12 @@ impl<'e, E: Sink> Progress<'e, E> {
         }
     }
 
-    /// Goes on by so many bytes. A failed write is passed over.
-    pub fn advance(&mut self, bytes: usize) {
+    /// Counts so many bytes more. A failed write changes nothing.
+    pub fn advance<E: Sink>(&mut self, error: &mut E, bytes: usize)
+        ensures length { length_told self.new ≡ length_told self.old }
+        ensures told { Tells (E.given error.old) (E.given error.new) (E.failures error.old) (E.failures error.new) }
+        ensures quiet { length_told self.old ≡ None → error.new ≡ error.old }
+    {
         self.done = self.done.saturating_add(bytes as u64);
         let Some(length) = self.length else {
             return;
@@ -42,14 +49,17 @@ impl<'e, E: Sink> Progress<'e, E> {
         self.told = hundredths;
         let shown = hundredths.min(100);
         if let Ok(text) = format!(in self.alloc; "\r{shown} %") {
-            let _ = write_all(self.error, text.as_bytes());
+            let _ = write_all(error, text.as_bytes());
         }
     }
 
     /// Ends the line of the progress, if anything was told.
-    pub fn finish(&mut self) {
-        if self.told > 0 {
-            let _ = write_all(self.error, b"\n");
+    pub fn finish<E: Sink>(&self, error: &mut E)
+        ensures told { Tells (E.given error.old) (E.given error.new) (E.failures error.old) (E.failures error.new) }
+        ensures quiet { length_told self.now ≡ None → error.new ≡ error.old }
+    {
+        if self.length.is_some() && self.told > 0 {
+            let _ = write_all(error, b"\n");
         }
     }
 }

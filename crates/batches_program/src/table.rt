@@ -4,6 +4,7 @@ use json_lines::put_key_form;
 use keyspace::{Batch, RangeRef, RangesRef, Reply, TxnRef, Verdict};
 use std::alloc::{AllocError, Global};
 use std::fmt::Write as _;
+use wire::is_single_key;
 
 // The most characters of a key that are shown where keys are cut.
 const MAX_WIDTH: usize = 32;
@@ -58,20 +59,12 @@ fn put_range(
     full: bool,
 ) -> Result<(), AllocError> {
     let begin = shown(alloc, range.begin(), full)?;
-    if is_single(range.begin(), range.end()) {
+    if is_single_key(range.begin(), range.end()) {
         writeln!(table, "        {what}  {begin}")
     } else {
         let end = shown(alloc, range.end(), full)?;
         writeln!(table, "        {what}  {begin} .. {end}")
     }
-}
-
-// Returns whether the range of these keys is a single key: it ends with its begin and one zero byte.
-fn is_single(begin: &[u8], end: &[u8]) -> bool {
-    let Some((last, front)) = end.split_last() else {
-        return false;
-    };
-    *last == 0 && front == begin
 }
 
 // Returns the printed form of a key, cut where it is wide and not wanted in full.

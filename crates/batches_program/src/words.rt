@@ -2,20 +2,10 @@
 
 use crate::command::command;
 use crate::kind::Kind;
+use crate::task::Task;
 use clap::ArgMatches;
 use clap::error::ErrorKind;
 use std::alloc::{AllocError, Global};
-
-/// What is done with the input.
-#[derive(Clone, Copy, Debug, PartialEq, Eq)]
-pub enum Task {
-    /// Lines become frames.
-    Encode,
-    /// Frames become lines.
-    Decode,
-    /// Frames become a table, with wide keys whole or cut.
-    Show { full: bool },
-}
 
 /// What the command line asks for.
 #[derive(Debug, Drop)]

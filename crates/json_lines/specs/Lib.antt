@@ -1,5 +1,6 @@
 pub mod KeyForm
 pub mod Values
+pub mod Memory
 pub mod Names
 pub mod Ranges
 pub mod Batches

@@ -7,9 +7,9 @@ use Rattle.keys.specs.declared.key.TheConstants.{MAX_KEY_LENGTH}
 use Rattle.keyspace.specs.Fields.{RangeFields}
 use Rattle.keyspace.specs.declared.txn.TheConstants.{MAX_RANGES}
 use Rattle.wire.specs.Spelling.{single_key}
+use Rattle.wire.specs.declared.single.TheConstants.{MAX_SINGLE_KEY_LENGTH}
 use Rattle.json_lines.specs.KeyForm.{spelled}
 use Rattle.json_lines.specs.Values.{◌>>=◌, list_in}
-use Rattle.json_lines.specs.declared.key_form.TheConstants.{MAX_SINGLE_KEY_LENGTH}
 
 -- a key of at most so many bytes
 unfoldable pub key_within : ℕ → List ℕ → Option (List ℕ)

@@ -2,9 +2,12 @@
 
 ghost use Rattle.std.specs.Prelude.{◌≡◌, ◌≢◌, IfOk, IfErr, OnOk, Some, None};
 ghost use Rattle.std.specs.Str.{IsUtf8};
+ghost use Rattle.json.specs.Json.{document};
+ghost use Rattle.json.specs.Scratch.{room};
 ghost use Rattle.json.specs.Value.{value_view};
 ghost use Rattle.wire.specs.Fields.{batch_fields};
 ghost use Rattle.json_lines.specs.Batches.{batch_in, batch_members, batch_of, received_in, are_versions};
+ghost use Rattle.json_lines.specs.Memory.{TakesMemory};
 ghost use Rattle.json_lines.specs.Values.{Reads, if_so};
 ghost use Rattle.json_lines.specs.declared.cause.Cause.TheVariants as cause;
 
@@ -33,6 +36,10 @@ pub fn read_batch(alloc: Global, line: &[u8], scratch: &mut Scratch) -> Result<B
     ensures text { OnOk result (IsUtf8 line.now) }
     ensures refused { IfErr result (λ refusal. refusal.cause ≢ cause.Memory → IsUtf8 line.now
         → batch_of line.now ≡ None) }
+
+    // A line that isn't JSON, and takes no memory, isn't reported as a failed allocation.
+    ensures memory { IfErr result (λ refusal. refusal.cause ≡ cause.Memory → document line.now ≡ None
+        → TakesMemory line.now (room scratch.old)) }
 {
     let value = value_of(alloc, line, scratch)?;
     batch_in_value(alloc, &value)

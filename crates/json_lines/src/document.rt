@@ -3,7 +3,9 @@
 ghost use Rattle.std.specs.Prelude.{◌≡◌, ◌≢◌, IfOk, IfErr, OnOk, Some, None};
 ghost use Rattle.std.specs.Str.{IsUtf8};
 ghost use Rattle.json.specs.Json.{document};
+ghost use Rattle.json.specs.Scratch.{room};
 ghost use Rattle.json.specs.Value.{value_view};
+ghost use Rattle.json_lines.specs.Memory.{TakesMemory};
 ghost use Rattle.json_lines.specs.declared.cause.Cause.TheVariants as cause;
 
 use crate::cause::Cause;
@@ -22,6 +24,8 @@ pub fn value_of<'a>(
     ensures text { OnOk result (IsUtf8 line.now) }
     ensures refused { IfErr result (λ refusal. refusal.cause ≢ cause.Memory → IsUtf8 line.now
         → document line.now ≡ None) }
+    ensures memory { IfErr result (λ refusal. refusal.cause ≡ cause.Memory
+        → TakesMemory line.now (room scratch.old)) }
 {
     match Value::from_slice(alloc, line, scratch) {
         Ok(value) => Ok(value),

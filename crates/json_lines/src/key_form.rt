@@ -12,9 +12,6 @@ use crate::refusal::Refusal;
 use keys::MAX_KEY_LENGTH;
 use std::alloc::{AllocError, Global};
 
-/// The greatest length of a single key, in bytes. The end of its range has one byte more.
-pub const MAX_SINGLE_KEY_LENGTH: usize = MAX_KEY_LENGTH - 1;
-
 /// Appends the printed form of a key.
 pub fn put_key_form(out: &mut Vec<u8>, key: &[u8]) -> Result<(), AllocError>
     ensures text { OnOk result (out.new.items ≡ out.old.items ++ key_form key.now) }

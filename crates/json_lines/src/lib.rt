@@ -29,7 +29,7 @@ pub use batch::read_batch;
 pub use batch_writer::write_batch;
 pub use cause::Cause;
 pub use json::Scratch;
-pub use key_form::{MAX_SINGLE_KEY_LENGTH, put_key_form};
+pub use key_form::put_key_form;
 pub use member::Member;
 pub use place::Place;
 pub use refusal::Refusal;

@@ -10,13 +10,14 @@ ghost use Rattle.json_lines.specs.Values.{Reads, each};
 
 use crate::cause::Cause;
 use crate::items::few_items_of;
-use crate::key_form::{MAX_SINGLE_KEY_LENGTH, key_of};
+use crate::key_form::key_of;
 use crate::place::Place;
 use crate::refusal::Refusal;
 use json::Value;
 use keys::{Key, MAX_KEY_LENGTH, Range};
 use keyspace::MAX_RANGES;
 use std::alloc::Global;
+use wire::MAX_SINGLE_KEY_LENGTH;
 
 /// Reads the ranges of a list.
 #[tactic(auto, unfolding(crate::specs::Values::list_in))]

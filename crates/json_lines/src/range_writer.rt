@@ -4,13 +4,13 @@ ghost use Rattle.std.specs.Prelude.{◌≡◌, ◌<◌, ◌++◌, map, All, IsAs
 ghost use Rattle.json.specs.Tree.{json_tokens};
 ghost use Rattle.keyspace.specs.Fields.{range_fields};
 ghost use Rattle.json_lines.specs.Written.{all_tokens, key_json, pair_json, range_json, list_json};
-ghost use Rattle.wire.specs.Spelling.{is_single_key};
 
 use crate::key_form::put_key_form;
 use json::Writer;
 use keyspace::{RangeRef, RangesRef};
 use std::alloc::AllocError;
 use std::str;
+use wire::is_single_key;
 
 /// Writes the ranges of a list.
 pub fn put_ranges(
@@ -51,7 +51,7 @@ fn put_range(
     ensures tokens { OnOk result (writer.new.tokens ≡ writer.old.tokens ++ (json_tokens (range_json (range_fields range.now)))) }
     ensures before { writer.new.before ≡ writer.old.before }
 {
-    if is_single(range.begin(), range.end()) {
+    if is_single_key(range.begin(), range.end()) {
         put_key(writer, form, range.begin())
     } else {
         put_pair(writer, form, range.begin(), range.end())
@@ -93,14 +93,4 @@ fn as_text(form: &[u8]) -> &str
         Ok(text) => text,
         Err(_) => "",
     }
-}
-
-// Returns whether the range of these keys is a single key: it ends with its begin and one zero byte.
-fn is_single(begin: &[u8], end: &[u8]) -> bool
-    ensures exact { result ≡ is_single_key (record { begin = begin.now; end = end.now }) }
-{
-    let Some((last, front)) = end.split_last() else {
-        return false;
-    };
-    *last == 0 && front == begin
 }

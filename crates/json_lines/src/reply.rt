@@ -2,11 +2,14 @@
 
 ghost use Rattle.std.specs.Prelude.{◌≡◌, ◌≢◌, ◌≤◌, ◌<◌, map, length, IfOk, IfErr, IfSome, OnOk, Some, None};
 ghost use Rattle.std.specs.Str.{IsUtf8};
+ghost use Rattle.json.specs.Json.{document};
+ghost use Rattle.json.specs.Scratch.{room};
 ghost use Rattle.json.specs.Value.{value_view, items_view};
 ghost use Rattle.keyspace.specs.Places.{ArePlaces};
 ghost use Rattle.keyspace.specs.declared.batch.TheConstants.{MAX_TXNS};
 ghost use Rattle.wire.specs.Fields.{entry_fields, reply_fields};
 ghost use Rattle.json_lines.specs.Replies.{verdict_names, place_from, rising, places_in, report_in, entry_in, entries_in, reply_members, reply_in, reply_of, place_in, plain_in};
+ghost use Rattle.json_lines.specs.Memory.{TakesMemory};
 ghost use Rattle.json_lines.specs.Values.{Reads, each};
 ghost use Rattle.json_lines.specs.declared.cause.Cause.TheVariants as cause;
 
@@ -33,6 +36,10 @@ pub fn read_reply(alloc: Global, line: &[u8], scratch: &mut Scratch) -> Result<R
     ensures text { OnOk result (IsUtf8 line.now) }
     ensures refused { IfErr result (λ refusal. refusal.cause ≢ cause.Memory → IsUtf8 line.now
         → reply_of line.now ≡ None) }
+
+    // A line that isn't JSON, and takes no memory, isn't reported as a failed allocation.
+    ensures memory { IfErr result (λ refusal. refusal.cause ≡ cause.Memory → document line.now ≡ None
+        → TakesMemory line.now (room scratch.old)) }
 {
     let value = value_of(alloc, line, scratch)?;
     reply_in_value(alloc, &value)

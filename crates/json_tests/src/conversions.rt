@@ -17,18 +17,18 @@ enum Way {
 // What is written, and behind it the failure as text, if there is one.
 fn outcome(alloc: Global, way: Way, input: &[u8]) -> Result<Vec<u8>, AllocError> {
     let mut error = StdSink::new(Vec::new(alloc));
-    let mut progress = Progress::new(alloc, &mut error, None);
+    let mut progress = Progress::new(alloc, None);
     let mut out = StdSink::new(Vec::new(alloc));
     let mut reader = input;
     let done = match way {
-        Way::Encode(kind) => encode(alloc, kind, &mut reader, &mut out, &mut progress),
+        Way::Encode(kind) => encode(alloc, kind, &mut reader, &mut out, &mut error, &mut progress),
         Way::Decode(kind) => {
             let mut source = StdSource::new(reader);
-            decode(alloc, kind, &mut source, &mut out, &mut progress)
+            decode(alloc, kind, &mut source, &mut out, &mut error, &mut progress)
         }
         Way::Show(kind, full) => {
             let mut source = StdSource::new(reader);
-            show(alloc, kind, full, &mut source, &mut out, &mut progress)
+            show(alloc, kind, full, &mut source, &mut out, &mut error, &mut progress)
         }
     };
     let mut written = out.into_inner();

@@ -16,27 +16,11 @@ use Rattle.keyspace.specs.Writes.{Write, counted}
 use Rattle.keyspace.specs.Judged.{Judged, edge}
 use Rattle.keyspace.specs.Judge.{is_too_old, is_in_conflict, is_hit, meets_earlier, places_from, hits_or_first, report, without_places, in_conflict_at, judge_txn, judge_txns}
 use Rattle.keyspace.proofs.callers.Judging.{only_judge}
+use Rattle.wire.proofs.callers.ReplyLengths.{places_few, hits_or_first_few, entry_length}
 use Rattle.wire.specs.declared.version.WireVersion.{WireVersion}
 use Rattle.wire.specs.declared.version.WireVersion.TheVariants.{One, Two}
 use Rattle.wire.specs.Fields.{RangeFields, EntryFields, range_fields, txn_fields, entry_fields, batch_fields, reply_fields}
 use Rattle.wire.specs.Spelling.{key_text, ends_text, is_single_key, formed_text, range_text, txn_text, batch_body, entry_text, verdict_text, places_text, reply_body, signed_text, marks_text, header_text, IsShort}
-
-places_few : (i : ℕ) (test : Range → Bool) (ranges : List Range)
-    → length (places_from i test ranges) ≤ length ranges
-places_few i test [] = omega arith
-places_few i test (r ∷ rs) =
-    let more = places_few (i + 1) test rs in
-    elim (test r) as (λ b. length (cond b (i ∷ places_from (i + 1) test rs) (places_from (i + 1) test rs))
-    ≤ length (r ∷ rs)) [ true ↦ omega (arith, more) | false ↦ omega (arith, more) ]
-
-take_one_few : (xs : List ℕ) → length (take 1 xs) ≤ length xs
-take_one_few [] = omega arith
-take_one_few (x ∷ xs) = omega arith
-
-hits_or_first_few : (hits met : List ℕ) (n : ℕ) → length hits ≤ n → length met ≤ n
-    → length (hits_or_first hits met) ≤ n
-hits_or_first_few [] met n h m = omega (arith, take_one_few met)
-hits_or_first_few (x ∷ xs) met n h m = h
 
 -- no more places than read ranges
 report_few : (ws : List Write) (earlier : List Range) (t : Txn)
@@ -64,33 +48,6 @@ entry_few edge ws earlier t =
             | false ↦ omega arith
           ]
     ]
-
-places_length : (places : List ℕ) → length (places_text places) ≡ 2 * length places
-places_length [] = refl
-places_length (p ∷ ps) = omega (
-  arith,
-  length-append (big_bytes 2 p) (places_text ps),
-  length-bytes_high_first 2 p,
-  places_length ps,
-)
-
-verdict_length : (v : Verdict) → length (verdict_text v) ≡ 1
-verdict_length Conflict = refl
-verdict_length TooOld = refl
-verdict_length Committed = refl
-
-entry_length : (e : EntryFields) → length (entry_text e) ≡ 3 + 2 * length e.places
-unfolding entry_text
-entry_length e =
-    let count = big_bytes 2 (length e.places) in
-    omega (
-      arith,
-      length-append (verdict_text e.verdict) (count ++ places_text e.places),
-      length-append count (places_text e.places),
-      length-bytes_high_first 2 (length e.places),
-      verdict_length e.verdict,
-      places_length e.places,
-    )
 
 key_least : (key : List ℕ) → 2 ≤ length (key_text key)
 key_least key = omega (

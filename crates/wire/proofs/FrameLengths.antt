@@ -1,15 +1,16 @@
 -- A frame that was read far enough is settled, whatever follows it.
-use Rattle.std.proofs.Common.{◌≡◌, ℕ, ◌+◌, ◌<◌, ◌≤◌, true, false, ltb, List, [], ◌++◌, length, take, drop, Result, refl, sym, ap, ◌∙◌, arith, inl, inr}
+use Rattle.std.proofs.Common.{◌≡◌, ℕ, ◌+◌, ◌^◌, ◌<◌, ◌≤◌, true, false, ltb, List, [], ◌++◌, length, take, drop, Result, refl, sym, ap, ◌∙◌, arith, inl, inr}
 use Rattle.std.proofs.lemmas.Bool.{cases_lt, lt-ltb, le-ltb}
-use Rattle.std.proofs.lemmas.List.{append-nil, length-append, length-take, drop-append-le, take-append-le, length-drop}
-use Rattle.byteorder.specs.Endian.{big_number}
-use Rattle.byteorder.specs.Numbers.{big_from-take, big_from-append}
+use Rattle.std.proofs.lemmas.List.{append-nil, length-append, length-take, drop-append-le, take_all, take-append-le, length-drop}
+use Rattle.byteorder.specs.Endian.{big_number, big_bytes}
+use Rattle.byteorder.specs.Numbers.{big_from-take, big_from-append, big_number-reads_back}
 use Rattle.wire.specs.declared.error.WireError.{WireError}
 use Rattle.wire.specs.FrameLength.{frame_length}
+use Rattle.wire.specs.Spelling.{frame, IsShort}
 use Rattle.wire.specs.Reading.{◌>>=◌, body_at, batch_at, all_of, read_batch}
 
 -- the three cases of a front
-short_length : (bytes : List ℕ) → length bytes < 4 → frame_length bytes ≡ 4
+pub short_length : (bytes : List ℕ) → length bytes < 4 → frame_length bytes ≡ 4
 unfolding frame_length
 short_length bytes lt = let a = lt-ltb _ _ lt in rw a refl
 
@@ -95,3 +96,25 @@ same_read front rest end =
       | inr le ↦ ap (λ (r : Result (List ℕ) WireError). r
           >>= λ body. all_of (batch_at body)) (same_body front rest le)
     ]
+
+-- a frame is as long as its front says
+pub settled_frame : (body : List ℕ) → IsShort body → frame_length (frame body) ≡ length (frame body)
+settled_frame body short =
+    let n = length body in
+    let small : n < 256 ^ 4 = omega arith in
+    let number : big_number 4 (frame body) ≡ n = big_number-reads_back 4 n body small in
+    let len : length (frame body) ≡ 4 + n = length-append (big_bytes 4 n) body in
+    whole_length (frame body) (omega (arith, len)) (omega (arith, number)) ∙ ap (λ (l : ℕ). 4 + l) number ∙ sym len
+
+-- bytes that begin with a frame, and are no longer than their front says, are that frame
+pub whole_is_frame : (body bytes : List ℕ) (used : ℕ) → IsShort body → take used bytes ≡ frame body
+    → used ≤ length bytes → length bytes ≤ frame_length bytes → take used bytes ≡ bytes
+whole_is_frame body bytes used short text there within =
+    let n = length body in
+    let small : n < 256 ^ 4 = omega arith in
+    let len : length (take used bytes) ≡ 4 + n = ap length text ∙ length-append (big_bytes 4 n) body in
+    let is : used ≡ 4 + n = omega (arith, len, length-take used bytes) in
+    let number : big_number 4 bytes ≡ n =
+    sym (big_from-take 0 4 used bytes (omega arith)) ∙ ap (big_number 4) text ∙ big_number-reads_back 4 n body small in
+    let most = at_most_whole bytes (omega arith) in
+    take_all used bytes (omega (arith, most, number))

@@ -15,7 +15,9 @@ pub mod PlaceLists
 pub mod Replies
 pub mod Fields
 pub mod OneSpelling
+pub mod Moving
 pub mod FrameLengths
+pub mod FrameParts
 pub mod NextFrames
 pub mod NewFrames
 pub mod Fitting

@@ -11,8 +11,8 @@ use Rattle.wire.specs.declared.field.TheConstants.{MAX_BODY_LENGTH}
 use Rattle.wire.specs.declared.version.WireVersion.TheVariants.{Two}
 use Rattle.wire.specs.Fields.{batch_fields}
 use Rattle.wire.specs.Spelling.{batch_body}
-use Rattle.wire.specs.NextFrame.{IsFrameOf, TakesFrame}
-use Rattle.wire.specs.Upgrade.{new_frame, new_frames, AreFrames, BeginWithFrames, ComesFrom, Upgrades, StopsAt, BreaksOff}
+use Rattle.wire.specs.NextFrame.{IsFrameOf, TakesFrame, TakesPart}
+use Rattle.wire.specs.Upgrade.{new_frame, new_frames, AreFrames, BeginWithFrames, ComesFrom, TakesFramesAndPart, Upgrades, StopsAt, BreaksOff}
 use Rattle.wire.proofs.callers.Given.{appends_none, appends_then}
 use Rattle.wire.proofs.callers.Known.{consumes_none, consumes_then}
 
@@ -116,12 +116,19 @@ ends left now before after count so_far end = record {
   written = so_far.written;
 }
 
-pub stops : (left now before after : Option (List ℕ)) (count : ℕ) (e : WireError)
+taken_with : (left now next : Option (List ℕ)) (bytes : List ℕ) (batches : List Batch) (e : WireError)
+    → AreFrames bytes batches → Consumes left now bytes → TakesPart now next e → TakesFramesAndPart batches e left next
+taken_with left now None bytes batches e frames taken part = tt
+taken_with left now (Some zs) bytes batches e frames taken part =
+    (bytes, part.0, frames, part.1, consumes_then left now (Some zs) bytes part.0 taken part.2)
+
+pub stops : (left now next before after : Option (List ℕ)) (count : ℕ) (e : WireError)
     → SoFar left now before after count
-    → IfSome now (ComesFrom e) → StopsAt left before after e
-stops left now before after count e so_far comes = record {
+    → IfSome now (ComesFrom e) → TakesPart now next e → StopsAt left next before after e
+stops left now next before after count e so_far comes part = record {
   batches = so_far.batches;
   read = begin_with left now so_far.bytes so_far.batches (ComesFrom e) so_far.frames so_far.taken comes;
+  taken = taken_with left now next so_far.bytes so_far.batches e so_far.frames so_far.taken part;
   written = so_far.written;
 }
 

@@ -1,7 +1,7 @@
 -- What is held of the next frame, as far as it was read, tells what the bytes left say.
-use Rattle.std.proofs.Common.{◌≡◌, ◌≢◌, ℕ, ◌+◌, ◌<◌, ◌≤◌, List, [], ◌∷◌, ◌++◌, length, get_or, take, inl, inr, Option, Some, None, Ok, Err, refl, ap, subst, ◌∙◌, arith}
+use Rattle.std.proofs.Common.{◌≡◌, ◌≢◌, ℕ, ◌+◌, ◌<◌, ◌≤◌, List, [], ◌∷◌, ◌++◌, length, get_or, take, inl, inr, Option, Some, None, Ok, Err, refl, sym, ap, subst, ◌∙◌, arith}
 use Rattle.std.specs.Prelude.{IfSome}
-use Rattle.std.specs.Io.KnownBytes.{Keeps, IsAtEnd, prepend_known}
+use Rattle.std.specs.Io.KnownBytes.{Consumes, IsAtEnd}
 use Rattle.std.proofs.lemmas.List.{take_all, length-take, get_or_past}
 use Rattle.std.proofs.lemmas.Bool.{cases_lt}
 use Rattle.byteorder.specs.Endian.{big_number}
@@ -12,11 +12,10 @@ use Rattle.wire.specs.Fields.{batch_fields}
 use Rattle.wire.specs.Spelling.{SpellsBatch}
 use Rattle.wire.specs.FrameLength.{frame_length}
 use Rattle.wire.specs.NextFrame.{TakesFrame, IsFaultOf}
-use Rattle.wire.specs.Reading.{read_batch, refusal, version_told}
+use Rattle.wire.specs.Reading.{read_batch, batch_fault, refusal, version_told}
 use Rattle.wire.proofs.Taken.{AreBytes}
 use Rattle.wire.proofs.Batches.{batch_is_spelled}
 use Rattle.wire.proofs.FrameLengths.{at_most_whole, same_read}
-use Rattle.wire.proofs.callers.Known.{held_consumes}
 
 -- what is held is no more than its first frame
 pub whole_frame : (held bytes frame : List ℕ) → bytes ≡ held → frame ≡ take (4 + big_number 4 bytes) bytes
@@ -31,30 +30,30 @@ whole_frame held bytes frame same front count within =
 
 pub takes_frame : (old new : Option (List ℕ)) (held : List ℕ) (version : WireVersion) (batch : Batch)
     → AreBytes held
-    → Keeps old (prepend_known held new) → length held ≤ frame_length held
+    → Consumes old new held → length held ≤ frame_length held
     → read_batch held ≡ Ok (version, batch_fields batch) → TakesFrame old new batch
-takes_frame old new held version batch fits joined within read =
+takes_frame old new held version batch fits taken within read =
     let n = 4 + big_number 4 held in
     let found = batch_is_spelled held version batch n fits read refl in
     let four : 4 ≤ length held = omega (arith, found.1) in
     let whole : take n held ≡ held = take_all n held (omega (arith, at_most_whole held four)) in
     let spelled : SpellsBatch (version_told held) held batch =
     subst (λ (bytes : List ℕ). SpellsBatch (version_told held) bytes batch) whole found.0 in
-    (held, spelled, held_consumes old new held joined)
+    (held, spelled, taken)
 
 pub not_nil : (held rest : List ℕ) → held ≢ [] → held ++ rest ≢ []
 not_nil [] rest some e = some refl
 not_nil (b ∷ held) rest some e = cc
 
 pub is_fault : (e : WireError) (old new : Option (List ℕ)) (held : List ℕ)
-    → Keeps old (prepend_known held new)
-    → held ≢ [] → (length held < frame_length held → IsAtEnd new) → read_batch held ≡ Err e
+    → Consumes old new held
+    → held ≢ [] → (length held < frame_length held → IsAtEnd new) → batch_fault held ≡ Some e
     → IfSome old (IsFaultOf e)
-is_fault e None new held joined some end read = tt
-is_fault e (Some xs) None held joined some end read = absurd joined
-is_fault e (Some xs) (Some ys) held joined some end read =
-    let read_again = ap refusal (same_read held ys end ∙ read) in
-    subst (λ (bytes : List ℕ). IsFaultOf e bytes) joined (not_nil held ys some, read_again)
+is_fault e None new held taken some end fault = tt
+is_fault e (Some xs) None held taken some end fault = absurd taken
+is_fault e (Some xs) (Some ys) held taken some end fault =
+    let same : batch_fault (held ++ ys) ≡ Some e = ap refusal (same_read held ys end) ∙ fault in
+    subst (λ (bytes : List ℕ). IsFaultOf e bytes) (sym taken) (not_nil held ys some, same)
 
 pub each_byte : (bytes : List ℕ) → ((i d : ℕ) → i < length bytes → get_or bytes i d < 256) → AreBytes bytes
 each_byte bytes small i = elim (cases_lt i (length bytes)) [

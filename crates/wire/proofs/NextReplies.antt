@@ -1,7 +1,7 @@
 -- What is held of the next frame of a reply, as far as it was read, tells what the bytes left say.
-use Rattle.std.proofs.Common.{◌≡◌, ◌≢◌, ℕ, ◌+◌, ◌<◌, ◌≤◌, List, [], ◌++◌, length, take, inl, inr, Option, Some, None, Result, Ok, Err, ap, subst, ◌∙◌, arith}
+use Rattle.std.proofs.Common.{◌≡◌, ◌≢◌, ℕ, ◌+◌, ◌<◌, ◌≤◌, List, [], ◌++◌, length, take, inl, inr, Option, Some, None, Result, Ok, Err, sym, ap, subst, ◌∙◌, arith}
 use Rattle.std.specs.Prelude.{IfSome}
-use Rattle.std.specs.Io.KnownBytes.{Keeps, IsAtEnd, prepend_known}
+use Rattle.std.specs.Io.KnownBytes.{Consumes, IsAtEnd}
 use Rattle.std.proofs.lemmas.List.{append-nil, take_all}
 use Rattle.std.proofs.lemmas.Bool.{cases_lt}
 use Rattle.byteorder.specs.Endian.{big_number}
@@ -11,11 +11,10 @@ use Rattle.wire.specs.Fields.{reply_fields}
 use Rattle.wire.specs.Spelling.{SpellsReply}
 use Rattle.wire.specs.FrameLength.{frame_length}
 use Rattle.wire.specs.NextReply.{TakesReply, IsReplyFaultOf}
-use Rattle.wire.specs.Reading.{◌>>=◌, reply_at, all_of, read_reply, refusal}
+use Rattle.wire.specs.Reading.{◌>>=◌, reply_at, all_of, read_reply, reply_fault, refusal}
 use Rattle.wire.proofs.Taken.{AreBytes}
 use Rattle.wire.proofs.Replies.{reply_decoded}
 use Rattle.wire.proofs.FrameLengths.{at_most_whole, same_body}
-use Rattle.wire.proofs.callers.Known.{held_consumes}
 use Rattle.wire.proofs.NextFrames.{not_nil}
 
 same_reply : (front rest : List ℕ) → (length front < frame_length front → rest ≡ [])
@@ -29,20 +28,20 @@ same_reply front rest end =
     ]
 
 pub takes_reply : (old new : Option (List ℕ)) (held : List ℕ) (reply : Reply) (n : ℕ) → AreBytes held
-    → Keeps old (prepend_known held new) → length held ≤ frame_length held
+    → Consumes old new held → length held ≤ frame_length held
     → read_reply held ≡ Ok (reply_fields reply) → n ≡ 4 + big_number 4 held → TakesReply old new reply
-takes_reply old new held reply n fits joined within read used =
+takes_reply old new held reply n fits taken within read used =
     let found = reply_decoded held (Ok (reply, n)) fits read used in
     let four : 4 ≤ length held = omega (arith, found.1) in
     let whole : take n held ≡ held = take_all n held (omega (arith, at_most_whole held four)) in
-    (held, subst (λ (bytes : List ℕ). SpellsReply bytes reply) whole found.0, held_consumes old new held joined)
+    (held, subst (λ (bytes : List ℕ). SpellsReply bytes reply) whole found.0, taken)
 
 pub is_reply_fault : (e : WireError) (old new : Option (List ℕ)) (held : List ℕ)
-    → Keeps old (prepend_known held new)
-    → held ≢ [] → (length held < frame_length held → IsAtEnd new) → read_reply held ≡ Err e
+    → Consumes old new held
+    → held ≢ [] → (length held < frame_length held → IsAtEnd new) → reply_fault held ≡ Some e
     → IfSome old (IsReplyFaultOf e)
-is_reply_fault e None new held joined some end read = tt
-is_reply_fault e (Some xs) None held joined some end read = absurd joined
-is_reply_fault e (Some xs) (Some ys) held joined some end read =
-    let read_again = ap refusal (same_reply held ys end ∙ read) in
-    subst (λ (bytes : List ℕ). IsReplyFaultOf e bytes) joined (not_nil held ys some, read_again)
+is_reply_fault e None new held taken some end fault = tt
+is_reply_fault e (Some xs) None held taken some end fault = absurd taken
+is_reply_fault e (Some xs) (Some ys) held taken some end fault =
+    let same : reply_fault (held ++ ys) ≡ Some e = ap refusal (same_reply held ys end) ∙ fault in
+    subst (λ (bytes : List ℕ). IsReplyFaultOf e bytes) (sym taken) (not_nil held ys some, same)

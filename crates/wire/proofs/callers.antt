@@ -6,4 +6,5 @@ pub mod Singles
 pub mod Held
 pub mod Known
 pub mod Given
-pub mod Filling
+pub mod Frames
+pub mod ReplyLengths

@@ -3,6 +3,7 @@ pub mod Spelling
 pub mod Reading
 pub mod Lying
 pub mod Source
+pub mod Filling
 pub mod FrameLength
 pub mod NextFrame
 pub mod Frames

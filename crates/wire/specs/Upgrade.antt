@@ -1,7 +1,7 @@
 -- What an upgrade reads, and what it writes.
 use Rattle.std.specs.Prelude.{◌≡◌, ◌≢◌, ◌⊎◌, ℕ, ◌<◌, List, [], ◌∷◌, ◌++◌, length, Option, IfSome}
 use Rattle.std.specs.List.{flat_map}
-use Rattle.std.specs.Io.KnownBytes.{Appends}
+use Rattle.std.specs.Io.KnownBytes.{Appends, Consumes}
 use Rattle.keyspace.specs.declared.batch.Batch.{Batch}
 use Rattle.wire.specs.declared.error.WireError.{WireError}
 use Rattle.wire.specs.declared.error.WireError.TheVariants.{Long, Memory, Read}
@@ -9,7 +9,7 @@ use Rattle.wire.specs.declared.field.TheConstants.{MAX_BODY_LENGTH}
 use Rattle.wire.specs.declared.version.WireVersion.TheVariants.{Two}
 use Rattle.wire.specs.Fields.{batch_fields}
 use Rattle.wire.specs.Spelling.{batch_body, frame}
-use Rattle.wire.specs.NextFrame.{IsFrameOf, IsFaultOf}
+use Rattle.wire.specs.NextFrame.{IsFrameOf, IsFaultOf, IsPartOfFrame}
 
 -- the frame of a batch in wire version 2
 abbrev pub new_frame : Batch → List ℕ
@@ -46,10 +46,17 @@ pub record Upgrades (left before after : Option (List ℕ)) (count : ℕ) : Type
   pub read : IfSome left (λ bytes. AreFrames bytes batches)
   pub written : Appends before after (new_frames batches)
 
--- The frames of some batches stand at the front, and then what is refused. The new frames of those batches were written.
-pub record StopsAt (left before after : Option (List ℕ)) (e : WireError) : Type 0 where
+-- the frames of these batches leave, and a part of the frame after them, if the reader still reports its bytes
+abbrev pub TakesFramesAndPart : List Batch → WireError → Option (List ℕ) → Option (List ℕ) → Type 0
+TakesFramesAndPart batches e old new = IfSome new (λ _. (front part : List ℕ)
+    × AreFrames front batches × IsPartOfFrame e part × Consumes old new (front ++ part))
+
+-- The frames of some batches stand at the front, and then what is refused. Nothing else was taken but a part of the next
+-- frame, and the new frames of those batches were written.
+pub record StopsAt (left now before after : Option (List ℕ)) (e : WireError) : Type 0 where
   pub batches : List Batch
   pub read : IfSome left (BeginWithFrames batches (ComesFrom e))
+  pub taken : TakesFramesAndPart batches e left now
   pub written : Appends before after (new_frames batches)
 
 -- The frames of some batches stand at the front. Where the sink still tells what it was given, that grew by a beginning

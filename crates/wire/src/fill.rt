@@ -1,33 +1,56 @@
 //! Reads the bytes of one frame, and none beyond it.
 
-ghost use Rattle.std.specs.Prelude.{◌≡◌, ◌≢◌, ◌<◌, ◌≤◌, ◌+◌, length, take, vec_len, IfOk, IfErr, OnOk};
-ghost use Rattle.std.specs.Io.KnownBytes.{Keeps, IsAtEnd, prepend_known};
+ghost use Rattle.std.specs.Prelude.{◌≡◌, ◌≢◌, ◌<◌, ◌≤◌, ◌+◌, ◌-◌, length, take, vec_len, not, IfOk, IfErr, IsTrue, OnErr, OnOk};
+ghost use Rattle.std.specs.Io.KnownBytes.{Consumes, IsAtEnd};
 ghost use Rattle.keys.specs.Key.{IsBytes};
+ghost use Rattle.wire.specs.Filling.{MovesInto, TakesFewer};
 ghost use Rattle.wire.specs.FrameLength.{frame_length};
+ghost use Rattle.wire.specs.NextFrame.{TakesPart};
 
 use crate::error::WireError;
 use crate::field::MAX_BODY_LENGTH;
-use crate::source::Source;
+use crate::source::{Failed, Source};
 use byteorder::{BigEndian, ByteOrder};
 
-// The most bytes asked of the reader at once, as long as the buffer holds fewer. So a length that no body follows takes little
-// memory.
+// The most bytes of a chunk, as long as the buffer holds fewer. So a length that no body follows takes little memory.
 const CHUNK_LENGTH: usize = 262_144;
 
-// Reads once into the memory behind what the buffer holds, at most `most` bytes, and returns how many.
-#[tactic(auto, using(crate::proofs::callers::Known::prepended))]
-fn read_more<R: Source>(
+// Reads into the slice until it is full or the input ends. Returns how many bytes it read.
+fn read_into<R: Source>(reader: &mut R, room: &mut [u8]) -> Result<usize, Failed>
+    ensures within { IfOk result (λ n. n ≤ length room.new) }
+    ensures bytes { IfOk result (λ n.
+        Consumes (R.remaining reader.old) (R.remaining reader.new) (take n room.new)) }
+    ensures end { IfOk result (λ n. n < length room.new → IsAtEnd (R.remaining reader.new)) }
+    ensures cut { OnErr result
+        (TakesFewer (length room.new) (R.remaining reader.old) (R.remaining reader.new)) }
+    ensures ok { OnOk result (R.failures reader.new ≡ R.failures reader.old) }
+    ensures failed { OnErr result (R.failures reader.old < R.failures reader.new) }
+{
+    let mut count = 0;
+    while count < room.len() {
+        let more = reader.read(&mut room[count..])?;
+        if more == 0 {
+            return Ok(count);
+        }
+        count += more;
+    }
+    Ok(count)
+}
+
+// Appends a chunk of at most `most` bytes to the buffer, whose memory is filled once per chunk, however few bytes each
+// read gives. Returns whether there was a complete chunk before the end of the input.
+fn read_chunk<R: Source>(
     reader: &mut R,
     buffer: &mut Vec<u8>,
     most: usize,
-) -> Result<usize, WireError>
+) -> Result<bool, WireError>
     requires some { 0 < most }
-    ensures joined { OnOk result (Keeps (prepend_known buffer.old.items (R.remaining reader.old))
-        (prepend_known buffer.new.items (R.remaining reader.new))) }
-    ensures front { OnOk result (take (vec_len buffer.old) buffer.new.items ≡ buffer.old.items) }
-    ensures count { IfOk result (λ n. vec_len buffer.new ≡ vec_len buffer.old + n) }
-    ensures few { IfOk result (λ n. n ≤ most) }
-    ensures end { IfOk result (λ n. n ≡ 0 → IsAtEnd (R.remaining reader.new)) }
+    ensures bytes { OnOk result
+        (MovesInto (R.remaining reader.old) (R.remaining reader.new) buffer.old.items buffer.new.items) }
+    ensures within { OnOk result (vec_len buffer.new ≤ vec_len buffer.old + most) }
+    ensures more { IfOk result (λ more. IsTrue more → vec_len buffer.old < vec_len buffer.new) }
+    ensures end { IfOk result (λ more. IsTrue (not more) → IsAtEnd (R.remaining reader.new)) }
+    ensures cut { OnErr result (TakesFewer most (R.remaining reader.old) (R.remaining reader.new)) }
     ensures ok { OnOk result (R.failures reader.new ≡ R.failures reader.old) }
     ensures read { IfErr result (λ e. e ≡ WireError.Read → R.failures reader.old < R.failures reader.new) }
     ensures memory { IfErr result (λ e. e ≢ WireError.Read
@@ -38,28 +61,27 @@ fn read_more<R: Source>(
     // Room for one byte more, the end of a single key that stands last, and for none beyond it, since a batch keeps the buffer.
     buffer.reserve_exact(wanted + 1)?;
     buffer.resize(held + wanted, 0)?;
-    let count = reader.read(&mut buffer[held..])?;
+    let count = read_into(reader, &mut buffer[held..])?;
     buffer.truncate(held + count);
-    Ok(count)
+    Ok(count == wanted)
 }
 
 // Reads until the buffer holds `target` bytes or the input ends.
-#[tactic(auto, using(crate::proofs::callers::Known::keeps_same, crate::proofs::callers::Known::keeps_then))]
 fn fill<R: Source>(reader: &mut R, buffer: &mut Vec<u8>, target: usize) -> Result<(), WireError>
     requires room { vec_len buffer.old ≤ target }
-    ensures joined { OnOk result (Keeps (prepend_known buffer.old.items (R.remaining reader.old))
-        (prepend_known buffer.new.items (R.remaining reader.new))) }
-    ensures front { OnOk result (take (vec_len buffer.old) buffer.new.items ≡ buffer.old.items) }
+    ensures bytes { OnOk result
+        (MovesInto (R.remaining reader.old) (R.remaining reader.new) buffer.old.items buffer.new.items) }
     ensures within { OnOk result (vec_len buffer.new ≤ target) }
     ensures end { OnOk result (vec_len buffer.new < target → IsAtEnd (R.remaining reader.new)) }
+    ensures cut { OnErr result
+        (TakesFewer (target - vec_len buffer.old) (R.remaining reader.old) (R.remaining reader.new)) }
     ensures ok { OnOk result (R.failures reader.new ≡ R.failures reader.old) }
     ensures read { IfErr result (λ e. e ≡ WireError.Read → R.failures reader.old < R.failures reader.new) }
     ensures memory { IfErr result (λ e. e ≢ WireError.Read
         → (e ≡ WireError.Memory) × (R.failures reader.new ≡ R.failures reader.old)) }
 {
     while buffer.len() < target {
-        let count = read_more(reader, buffer, target - buffer.len())?;
-        if count == 0 {
+        if !read_chunk(reader, buffer, target - buffer.len())? {
             return Ok(());
         }
     }
@@ -81,15 +103,16 @@ fn settled_by(front: &[u8]) -> usize
     4 + length
 }
 
-/// Reads the bytes of the next frame into the buffer: as many as settle what it says, or all that are left.
-#[tactic(auto, using(crate::proofs::callers::Known::prepended_none, crate::proofs::callers::Known::keeps_then, crate::proofs::FrameLengths::same_length, crate::proofs::FrameLengths::at_least_four))]
+/// Reads the bytes of the next frame into the buffer: as many as settle what it says, or all that are left. The buffer is
+/// empty at the end of the input. Memory is filled once per chunk of 256 KiB, however few bytes each read gives.
 pub fn fill_frame<R: Source>(reader: &mut R, buffer: &mut Vec<u8>) -> Result<(), WireError>
-    ensures joined { OnOk result
-        (Keeps (R.remaining reader.old) (prepend_known buffer.new.items (R.remaining reader.new))) }
+    ensures taken { OnOk result
+        (Consumes (R.remaining reader.old) (R.remaining reader.new) buffer.new.items) }
     ensures bytes { OnOk result (IsBytes buffer.new.items) }
     ensures within { OnOk result (vec_len buffer.new ≤ frame_length buffer.new.items) }
     ensures end { OnOk result
         (vec_len buffer.new < frame_length buffer.new.items → IsAtEnd (R.remaining reader.new)) }
+    ensures part { IfErr result (TakesPart (R.remaining reader.old) (R.remaining reader.new)) }
     ensures ok { OnOk result (R.failures reader.new ≡ R.failures reader.old) }
     ensures read { IfErr result (λ e. e ≡ WireError.Read → R.failures reader.old < R.failures reader.new) }
     ensures memory { IfErr result (λ e. e ≢ WireError.Read

@@ -2,7 +2,7 @@
 
 ghost use Rattle.std.specs.Prelude.{◌≡◌, ◌≢◌, ◌<◌, ◌↔◌, IfOk, IfErr, IfSome, IfNone, OnOk, IsSome, IsErrOf, Some, None};
 ghost use Rattle.std.specs.Io.KnownBytes.{IsAtEnd};
-ghost use Rattle.wire.specs.NextFrame.{TakesFrame, IsFaultOf};
+ghost use Rattle.wire.specs.NextFrame.{TakesFrame, TakesPart, IsFaultOf};
 ghost use Rattle.wire.specs.Frames.{frames_reader, refusal_of};
 
 use crate::batch::{batch_of, tables_of};
@@ -43,6 +43,7 @@ pub fn read_next<R: Source>(alloc: Global, reader: &mut R) -> Result<Option<Batc
         (IsAtEnd (R.remaining reader.old) × IsAtEnd (R.remaining reader.new))) }
     ensures fault { IfErr result (λ e. e ≢ WireError.Memory → e ≢ WireError.Read
         → IfSome (R.remaining reader.old) (IsFaultOf e)) }
+    ensures part { IfErr result (TakesPart (R.remaining reader.old) (R.remaining reader.new)) }
     ensures ok { OnOk result (R.failures reader.new ≡ R.failures reader.old) }
     ensures read { IfErr result (λ e. e ≡ WireError.Read → R.failures reader.old < R.failures reader.new) }
     ensures others { IfErr result (λ e. e ≢ WireError.Read → R.failures reader.new ≡ R.failures reader.old) }
@@ -74,6 +75,8 @@ impl<R: Source> Frames<R> {
         ensures fault { refusal_of self.old ≡ None → IfErr result (λ e.
             e ≢ WireError.Memory → e ≢ WireError.Read
             → IfSome (R.remaining (frames_reader self.old)) (IsFaultOf e)) }
+        ensures part { refusal_of self.old ≡ None → IfErr result
+            (TakesPart (R.remaining (frames_reader self.old)) (R.remaining (frames_reader self.new))) }
         ensures read { refusal_of self.old ≡ None → (IsErrOf result WireError.Read ↔
             (R.failures (frames_reader self.old) < R.failures (frames_reader self.new))) }
 

@@ -6,7 +6,7 @@ ghost use Rattle.keys.specs.declared.key.TheConstants.{MAX_KEY_LENGTH};
 ghost use Rattle.wire.specs.Fields.{range_fields, txn_fields, batch_fields, entry_fields, reply_fields};
 ghost use Rattle.wire.specs.Spelling.{key_text, ends_text, range_text, txn_text, batch_body, entry_text, reply_body};
 
-use crate::single::is_single;
+use crate::single::is_single_key;
 use crate::version::WireVersion;
 use keyspace::{Batch, Entry, MAX_RANGES, MAX_TXNS, RangeRef, RangesRef, Reply, TxnRef, Txns};
 
@@ -33,7 +33,7 @@ fn range_length(version: WireVersion, range: &RangeRef<'_>) -> usize
     match version {
         WireVersion::One => ends_length(range),
         WireVersion::Two => {
-            if is_single(range.begin(), range.end()) {
+            if is_single_key(range.begin(), range.end()) {
                 1 + key_length(range.begin())
             } else {
                 1 + ends_length(range)

@@ -10,7 +10,7 @@ ghost use Rattle.keyspace.specs.Places.{ArePlaces};
 ghost use Rattle.wire.specs.Fields.{range_fields, txn_fields, entry_fields};
 ghost use Rattle.wire.specs.Spelling.{signed_text, key_text, ends_text, formed_text, range_text, marks_text, txn_text, verdict_text, places_text, entry_text};
 
-use crate::single::is_single;
+use crate::single::is_single_key;
 use crate::version::WireVersion;
 use keyspace::{Entry, RangeRef, RangesRef, TxnRef, Txns, Verdict};
 use std::alloc::AllocError;
@@ -67,7 +67,7 @@ fn put_ends(out: &mut Vec<u8>, range: &RangeRef<'_>) -> Result<(), AllocError>
 fn put_formed(out: &mut Vec<u8>, range: &RangeRef<'_>) -> Result<(), AllocError>
     ensures text { OnOk result (out.new.items ≡ out.old.items ++ formed_text (range_fields range.now)) }
 {
-    if is_single(range.begin(), range.end()) {
+    if is_single_key(range.begin(), range.end()) {
         out.push(1)?;
         put_key(out, range.begin())
     } else {

@@ -8,7 +8,7 @@ ghost use Rattle.wire.specs.declared.field.TheConstants.{MAX_BODY_LENGTH};
 
 use crate::error::WireError;
 use crate::field::{key_of, room_for, u8_at};
-use crate::single::{MAX_SINGLE_KEY_LENGTH, is_single};
+use crate::single::{MAX_SINGLE_KEY_LENGTH, is_single_key};
 use crate::version::WireVersion;
 use keys::MAX_KEY_LENGTH;
 use keyspace::Span;
@@ -52,7 +52,7 @@ fn form_0_of<'a>(frame: &[u8], bytes: &'a [u8]) -> Result<(Span, &'a [u8]), Wire
     let (span, rest) = ends_of(frame, bytes)?;
     let begin = part_of(frame, span.begin, span.begin_length);
     let end = part_of(frame, span.end, span.end_length);
-    if is_single(begin, end) {
+    if is_single_key(begin, end) {
         return Err(WireError::Spelling);
     }
     Ok((span, rest))

@@ -2,6 +2,7 @@
 
 ghost use Rattle.std.specs.Prelude.{◌≡◌, ◌≢◌, ◌<◌, IfErr, IfNone, IfOk, IfSome, OnOk};
 ghost use Rattle.std.specs.Io.KnownBytes.{IsAtEnd};
+ghost use Rattle.wire.specs.NextFrame.{TakesPart};
 ghost use Rattle.wire.specs.NextReply.{IsReplyFaultOf, TakesReply};
 
 use crate::error::WireError;
@@ -22,6 +23,7 @@ pub fn read_reply<R: Source>(alloc: Global, reader: &mut R) -> Result<Option<Rep
         (IsAtEnd (R.remaining reader.old) × IsAtEnd (R.remaining reader.new))) }
     ensures fault { IfErr result (λ e. e ≢ WireError.Memory → e ≢ WireError.Read
         → IfSome (R.remaining reader.old) (IsReplyFaultOf e)) }
+    ensures part { IfErr result (TakesPart (R.remaining reader.old) (R.remaining reader.new)) }
     ensures ok { OnOk result (R.failures reader.new ≡ R.failures reader.old) }
     ensures read { IfErr result (λ e. e ≡ WireError.Read → R.failures reader.old < R.failures reader.new) }
     ensures others { IfErr result (λ e. e ≢ WireError.Read → R.failures reader.new ≡ R.failures reader.old) }

@@ -49,6 +49,18 @@ pub fn write_all<W: Sink>(writer: &mut W, bytes: &[u8]) -> Result<(), Failed>
     Ok(())
 }
 
+/// Writes all of the bytes, as [`write_all`] does, and flushes the sink.
+pub fn write_and_flush<W: Sink>(writer: &mut W, bytes: &[u8]) -> Result<(), Failed>
+    ensures whole { OnOk result (Appends (W.given writer.old) (W.given writer.new) bytes.now) }
+    ensures beginning { OnErr result (IfSome (W.given writer.new) (λ _.
+        (n : ℕ) × Appends (W.given writer.old) (W.given writer.new) (take n bytes.now))) }
+    ensures ok { OnOk result (W.failures writer.new ≡ W.failures writer.old) }
+    ensures failed { OnErr result (W.failures writer.old < W.failures writer.new) }
+{
+    write_all(writer, bytes)?;
+    writer.flush()
+}
+
 /// A [`Sink`] over any writer of `std`. After an interruption it tries again, at most 1,000 times in one
 /// call. A writer that takes none of a non-empty slice has failed. Its count of failures stops at `u64::MAX`:
 /// from then on it tells no bytes and passes none on.

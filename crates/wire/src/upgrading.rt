@@ -3,7 +3,7 @@
 ghost use Rattle.std.specs.Prelude.{◌≡◌, ◌≢◌, ◌++◌, ◌<◌, ◌↔◌, ℕ, List, IfOk, IfErr, IfSome, OnOk, IsErrOf, IsTrue, not};
 ghost use Rattle.std.specs.Io.KnownBytes.{Appends, Keeps, IsAtEnd};
 ghost use Rattle.keyspace.specs.declared.batch.Batch.{Batch as BatchValue};
-ghost use Rattle.wire.specs.NextFrame.{TakesFrame};
+ghost use Rattle.wire.specs.NextFrame.{TakesFrame, TakesPart};
 ghost use Rattle.wire.specs.Upgrade.{new_frame, ComesFrom, Upgrades, StopsAt, BreaksOff};
 
 use crate::encode::encode_batch;
@@ -27,6 +27,8 @@ fn upgrade_next<R: Source, W: Sink>(
         × (W.given writer.new ≡ W.given writer.old)) }
     ensures refused { IfErr result (λ e. e ≢ WireError.Write
         → IfSome (R.remaining reader.old) (ComesFrom e) × (W.given writer.new ≡ W.given writer.old)) }
+    ensures part { IfErr result (λ e. e ≢ WireError.Write
+        → TakesPart (R.remaining reader.old) (R.remaining reader.new) e) }
     ensures broken_off { IfErr result (λ e. e ≡ WireError.Write → (batch : BatchValue)
         × TakesFrame (R.remaining reader.old) (R.remaining reader.new) batch
         × IfSome (W.given writer.new) (λ _. (bytes rest : List ℕ) × (new_frame batch ≡ bytes ++ rest)
@@ -54,8 +56,9 @@ fn upgrade_next<R: Source, W: Sink>(
 /// returns how many there were. Takes memory for one frame at a time.
 ///
 /// Is refused as [`Frames::next`](crate::Frames::next) and [`encode_batch`] are, and returns `Write` only
-/// where the writer failed in this call. `Memory` also says that 2^64 - 1 frames are written. After any other refusal than
-/// `Write` the frames of the batches before it are written whole. After `Write` a beginning of the new frames is.
+/// if the writer failed in this call. `Memory` also says that 2^64 - 1 frames are written. After any other refusal than
+/// `Write` the frames of the batches before it are written completely, and nothing beyond the next frame was read. After
+/// `Write` a prefix of the new frames is written.
 pub fn upgrade<R: Source, W: Sink>(
     alloc: Global,
     reader: &mut R,
@@ -65,7 +68,8 @@ pub fn upgrade<R: Source, W: Sink>(
         (Upgrades (R.remaining reader.old) (W.given writer.old) (W.given writer.new)) }
     ensures end { OnOk result (IsAtEnd (R.remaining reader.new)) }
     ensures refused { IfErr result (λ e. e ≢ WireError.Write
-        → StopsAt (R.remaining reader.old) (W.given writer.old) (W.given writer.new) e) }
+        → StopsAt (R.remaining reader.old) (R.remaining reader.new)
+        (W.given writer.old) (W.given writer.new) e) }
     ensures broken_off { IfErr result (λ e. e ≡ WireError.Write
         → BreaksOff (R.remaining reader.old) (W.given writer.old) (W.given writer.new)) }
     ensures read { IsErrOf result WireError.Read ↔ (R.failures reader.old < R.failures reader.new) }

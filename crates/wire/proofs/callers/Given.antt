@@ -1,6 +1,6 @@
 -- Lemmas for callers: bytes that a writer tells it was given, from one write to the next.
 use Rattle.std.proofs.Common.{◌≡◌, ℕ, ◌+◌, Bool, true, false, List, [], ◌++◌, take, drop, Option, Some, None, sym, ap, ◌∙◌, append_assoc}
-use Rattle.std.specs.Prelude.{if◌then◌else◌, IfSome}
+use Rattle.std.specs.Prelude.{if◌then◌else◌, IfSome, Result, Ok, Err, IfErr, OnErr}
 use Rattle.std.specs.Io.KnownBytes.{Keeps, Appends}
 use Rattle.std.proofs.Math.Seq.{take-add}
 use Rattle.std.proofs.lemmas.List.{append-nil}
@@ -55,3 +55,17 @@ beginning a b None bytes written h k = tt
 beginning None b (Some zs) bytes written h k = (written, tt)
 beginning (Some xs) None (Some zs) bytes written h k = absurd h
 beginning (Some xs) (Some ys) (Some zs) bytes written h k = (written, k ∙ h)
+
+-- what is known at an error, weakened
+pub on_err_weaker : {T E P Q : Type 0} (r : Result T E) → (P → Q) → OnErr r P → OnErr r Q
+on_err_weaker (Ok x) weaker holds = tt
+on_err_weaker (Err e) weaker holds = weaker holds
+
+pub on_err : {T E P : Type 0} (r : Result T E) → P → OnErr r P
+on_err (Ok x) holds = tt
+on_err (Err e) holds = holds
+
+-- what is known at every error
+pub at_any_err : {T E : Type 0} {P : E → Type 0} (r : Result T E) → ((e : E) → P e) → IfErr r P
+at_any_err (Ok x) holds = tt
+at_any_err (Err e) holds = holds e

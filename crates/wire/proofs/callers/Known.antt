@@ -1,7 +1,7 @@
 -- Lemmas for callers: bytes that a reader tells, from one read to the next.
 use Rattle.std.proofs.Common.{◌≡◌, ℕ, Bool, true, false, List, [], ◌++◌, Option, Some, None, refl, sym, ap, ◌∙◌, append_assoc}
 use Rattle.std.specs.Prelude.{if◌then◌else◌}
-use Rattle.std.specs.Io.KnownBytes.{Keeps, Consumes, IsAtEnd, prepend_known}
+use Rattle.std.specs.Io.KnownBytes.{Keeps, Consumes, IsAtEnd}
 
 pub keeps_same : (a : Option (List ℕ)) → Keeps a a
 keeps_same None = tt
@@ -18,6 +18,12 @@ keeps_consumes None b c bs h k = tt
 keeps_consumes (Some xs) None c bs h k = absurd h
 keeps_consumes (Some xs) (Some ys) None bs h k = absurd k
 keeps_consumes (Some xs) (Some ys) (Some zs) bs h k = sym h ∙ k
+
+pub consumes_keeps : (a b c : Option (List ℕ)) (bs : List ℕ) → Consumes a b bs → Keeps b c → Consumes a c bs
+consumes_keeps None b c bs h k = tt
+consumes_keeps (Some xs) None c bs h k = absurd h
+consumes_keeps (Some xs) (Some ys) None bs h k = absurd k
+consumes_keeps (Some xs) (Some ys) (Some zs) bs h k = h ∙ ap (λ (x : List ℕ). bs ++ x) (sym k)
 
 pub consumes_none : (a : Option (List ℕ)) → Consumes a a []
 consumes_none None = tt
@@ -37,26 +43,8 @@ pub told_consumes : (hidden : Bool) (a b c : Option (List ℕ)) (bs : List ℕ) 
 told_consumes true a b c bs h k = tt
 told_consumes false a b c bs h k = keeps_consumes a b c bs h k
 
--- what was read joins what is held
-pub prepended : (a b : Option (List ℕ)) (old new bs : List ℕ) → new ≡ old ++ bs → Consumes a b bs
-    → Keeps (prepend_known old a) (prepend_known new b)
-prepended None b old new bs e h = tt
-prepended (Some xs) None old new bs e h = absurd h
-prepended (Some xs) (Some ys) old new bs e h =
-    ap (λ (x : List ℕ). x ++ ys) e ∙ append_assoc old bs ys ∙ ap (λ (x : List ℕ). old ++ x) (sym h)
-
-pub prepended_none : (a : Option (List ℕ)) (old : List ℕ) → old ≡ [] → Keeps a (prepend_known old a)
-prepended_none None old e = tt
-prepended_none (Some xs) old e = ap (λ (x : List ℕ). x ++ xs) e
-
--- what is held was taken
-pub held_consumes : (a b : Option (List ℕ)) (bs : List ℕ) → Keeps a (prepend_known bs b) → Consumes a b bs
-held_consumes None b bs h = tt
-held_consumes (Some xs) None bs h = absurd h
-held_consumes (Some xs) (Some ys) bs h = sym h
-
-pub held_end : (a b : Option (List ℕ)) (bs : List ℕ) → Keeps a (prepend_known bs b) → bs ≡ [] → IsAtEnd b
-    → IsAtEnd a
-held_end None b bs h e end = tt
-held_end (Some xs) None bs h e end = absurd h
-held_end (Some xs) (Some ys) bs h e end = sym h ∙ ap (λ (x : List ℕ). x ++ ys) e ∙ end
+-- nothing was left, if nothing is left after nothing was taken
+pub none_before : (a b : Option (List ℕ)) (bs : List ℕ) → Consumes a b bs → bs ≡ [] → IsAtEnd b → IsAtEnd a
+none_before None b bs h e end = tt
+none_before (Some xs) None bs h e end = absurd h
+none_before (Some xs) (Some ys) bs h e end = h ∙ ap (λ (x : List ℕ). x ++ ys) e ∙ end

@@ -1,12 +1,10 @@
-use Rattle.std.proofs.Common.{◌≡◌, ◌≤◌, ◌-◌, take, vec_len}
-use Rattle.std.specs.Io.KnownBytes.{Keeps, prepend_known}
+use Rattle.std.proofs.Common.{◌≡◌, ◌≤◌, ◌-◌, vec_len}
+use Rattle.wire.specs.Filling.{MovesInto}
 use Rattle.wire.proofs.fill.fill.Given as goal
 
 abbrev pub invariant-loop-reader : goal.invariant-loop-reader
 invariant-loop-reader g l =
-    Keeps (prepend_known l.fn.buffer.items (g.R.Source.remaining l.fn.reader))
-    (prepend_known l.buffer.items (g.R.Source.remaining l.reader))
-    × (take (vec_len l.fn.buffer) l.buffer.items ≡ l.fn.buffer.items)
+    MovesInto (g.R.Source.remaining l.fn.reader) (g.R.Source.remaining l.reader) l.fn.buffer.items l.buffer.items
     × (vec_len l.buffer ≤ l.target)
     × (g.R.Source.failures l.reader ≡ g.R.Source.failures l.fn.reader)
 

@@ -6,9 +6,9 @@ use Rattle.wire.specs.Fields.{BatchFields, batch_fields}
 use Rattle.wire.specs.Spelling.{BatchHolds}
 use Rattle.wire.specs.Lying.{AreApart, batch_told}
 use Rattle.wire.specs.FrameLength.{frame_length}
-use Rattle.wire.specs.Reading.{read_batch}
+use Rattle.wire.specs.Reading.{read_batch, refusal}
 use Rattle.wire.proofs.FrameLengths.{at_least_four}
-use Rattle.wire.proofs.callers.Known.{held_end}
+use Rattle.wire.proofs.callers.Known.{none_before}
 use Rattle.wire.proofs.NextFrames.{takes_frame, whole_frame, is_fault, each_byte}
 use Rattle.wire.proofs.frames.read_next.Goals as goal
 
@@ -19,8 +19,8 @@ returns-then-is_empty-clause-end g c =
     let four = at_least_four held in
     let at_end : IsAtEnd (g.R.Source.remaining c.fill_frame.new.reader) =
     c.in_ok-fill_frame.ensures.end (omega arith) in (
-      held_end (g.R.Source.remaining c.args.reader.now)
-          (g.R.Source.remaining c.fill_frame.new.reader) held c.in_ok-fill_frame.ensures.joined
+      none_before (g.R.Source.remaining c.args.reader.now)
+          (g.R.Source.remaining c.fill_frame.new.reader) held c.in_ok-fill_frame.ensures.taken
           (nil_from_length held len) at_end,
       at_end,
     )
@@ -36,8 +36,8 @@ returns-in_err-tables-clause-fault g c =
     let read : read_batch held ≡ Err c.in_err-tables.field-0.0 =
     ap read_batch (sym c.deref.ensures.value) ∙ c.in_err-tables.ensures.reads.2 not_memory in
     is_fault c.in_err-tables.field-0.0 (g.R.Source.remaining c.args.reader.now)
-    (g.R.Source.remaining c.fill_frame.new.reader) held c.in_ok-fill_frame.ensures.joined some
-    (λ lt. c.in_ok-fill_frame.ensures.end (omega arith)) read)
+    (g.R.Source.remaining c.fill_frame.new.reader) held c.in_ok-fill_frame.ensures.taken some
+    (λ lt. c.in_ok-fill_frame.ensures.end (omega arith)) (ap refusal read))
 
 pub batch_of-requires-clause-apart : goal.batch_of-requires-clause-apart
 batch_of-requires-clause-apart g c =
@@ -72,4 +72,4 @@ returns-clause-batch g c =
     subst (λ (f : BatchFields). read_batch held ≡ Ok (t.field-0-0, f)) fields
     (ap read_batch (sym c.deref.ensures.value) ∙ t.ensures.reads) in
     takes_frame (g.R.Source.remaining c.args.reader.now) (g.R.Source.remaining c.fill_frame.new.reader) held t.field-0-0
-    batch (each_byte held c.in_ok-fill_frame.ensures.bytes) c.in_ok-fill_frame.ensures.joined within read
+    batch (each_byte held c.in_ok-fill_frame.ensures.bytes) c.in_ok-fill_frame.ensures.taken within read

@@ -3,6 +3,7 @@ use Rattle.std.proofs.lemmas.Result.{err_from_is_err_and}
 use Rattle.wire.specs.declared.error.WireError.TheVariants.{Memory}
 use Rattle.wire.specs.Upgrade.{StopsAt}
 use Rattle.wire.proofs.NewFrames.{one_more, stops, breaks, memory_comes}
+use Rattle.wire.proofs.FrameParts.{no_part}
 use Rattle.wire.proofs.upgrading.upgrade.Goals as goal
 
 pub returns-in_err-upgrade_next-clause-refused : goal.returns-in_err-upgrade_next-clause-refused
@@ -11,12 +12,14 @@ returns-in_err-upgrade_next-clause-refused g c =
     let e = c.in_err-upgrade_next.field-0.0 in
     let left = g.R.Source.remaining c.args.reader.now in
     let now = g.R.Source.remaining c.loop-count.reader in
+    let next = g.R.Source.remaining c.upgrade_next.new.reader in
     let before = g.W.Sink.given c.args.writer.now in
     let after = g.W.Sink.given c.loop-count.writer in
     rw (p.1, p.2)
     (λ not_write. let refused = c.in_err-upgrade_next.ensures.refused not_write in
-    subst (λ (given : Option (List ℕ)). StopsAt left before given e) (sym refused.1)
-    (stops left now before after c.loop-count.count e c.loop-count.invariant.0 refused.0))
+    subst (λ (given : Option (List ℕ)). StopsAt left next before given e) (sym refused.1)
+    (stops left now next before after c.loop-count.count e c.loop-count.invariant.0 refused.0
+    (c.in_err-upgrade_next.ensures.part not_write)))
 
 pub returns-in_err-upgrade_next-clause-broken_off : goal.returns-in_err-upgrade_next-clause-broken_off
 returns-in_err-upgrade_next-clause-broken_off g c =
@@ -52,4 +55,4 @@ returns-clause-refused g c not_write =
     let now = g.R.Source.remaining c.loop-count.reader in
     let before = g.W.Sink.given c.args.writer.now in
     let after = g.W.Sink.given c.loop-count.writer in
-    stops left now before after c.loop-count.count Memory c.loop-count.invariant.0 (memory_comes now)
+    stops left now now before after c.loop-count.count Memory c.loop-count.invariant.0 (memory_comes now) (no_part Memory now)

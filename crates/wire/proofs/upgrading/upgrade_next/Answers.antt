@@ -6,6 +6,7 @@ use Rattle.keyspace.specs.declared.batch.Batch.{Batch}
 use Rattle.wire.specs.NextFrame.{TakesFrame}
 use Rattle.wire.specs.Upgrade.{new_frame}
 use Rattle.wire.proofs.NewFrames.{outgrows, begun}
+use Rattle.wire.proofs.FrameParts.{not_read, whole_part}
 use Rattle.wire.proofs.upgrading.upgrade_next.Goals as goal
 
 pub returns-in_err-frame-clause-refused : goal.returns-in_err-frame-clause-refused
@@ -53,3 +54,14 @@ returns-clause-broken_off g c is_write =
       subst (λ (whole : List ℕ). IfSome after (λ _. (bytes rest : List ℕ) × (whole ≡ bytes ++ rest)
           × Appends before after bytes)) text part,
     )
+
+pub returns-in_err-frame-clause-part : goal.returns-in_err-frame-clause-part
+returns-in_err-frame-clause-part g c =
+    let p = err_from_is_err_and c.from_residual-in_err-frame.result c.from_residual-in_err-frame.ensures.1 in
+    let e = c.in_err-frame.field-0.0 in
+    let old = g.R.Source.remaining c.args.reader.now in
+    let new = g.R.Source.remaining c.read_next.new.reader in
+    let batch = c.in-Some.batch in
+    let takes = subst (λ (found : Option Batch). IfSome found
+    (TakesFrame old new)) c.in-Some.is c.in_ok-batch.ensures.batch in
+    rw (p.1, p.2) (λ not_write. whole_part e old new batch takes (not_read e c.in_err-frame.ensures.err))

@@ -1,0 +1,53 @@
+-- The failure of a line or a frame is that of the bytes left.
+use Rattle.std.proofs.Common.{◌≡◌, ◌≢◌, ℕ, ◌<◌, List, [], length, Option, Some, None, sym, subst}
+use Rattle.std.specs.Prelude.{IfSome, IsTrue, not}
+use Rattle.std.specs.Io.BufRead.{take_through}
+use Rattle.std.specs.Io.KnownBytes.{Consumes, IsAtEnd}
+use Rattle.wire.specs.declared.error.WireError.{WireError}
+use Rattle.wire.specs.FrameLength.{frame_length}
+use Rattle.wire.proofs.callers.Frames.{is_fault, is_reply_fault}
+use Rattle.batches_program.specs.Lines.{is_blank}
+use Rattle.batches_program.specs.Failing.{BeginsWithLine, FailsFrame, FailsLine, IsFailureOfFrame, IsFailureOfLine, IsFirstFault, SpellsNothing, SpellsTooMuch, fault_of}
+use Rattle.batches_program.specs.declared.failure.Failure.{Failure}
+use Rattle.batches_program.specs.declared.failure.Failure.TheVariants as failure
+use Rattle.batches_program.specs.declared.kind.Kind.{Kind}
+use Rattle.batches_program.specs.declared.kind.Kind.TheVariants.{Batches, Replies}
+
+first_fault : (kind : Kind) (fault : WireError) (left now : Option (List ℕ)) (frame : List ℕ) → Consumes left now frame
+    → frame ≢ [] → (length frame < frame_length frame → IsAtEnd now) → fault_of kind frame ≡ Some fault
+    → IfSome left (IsFirstFault kind fault)
+first_fault Batches fault left now frame taken some end is = is_fault fault left now frame taken some end is
+first_fault Replies fault left now frame taken some end is = is_reply_fault fault left now frame taken some end is
+
+pub frame_fails : (kind : Kind) (number : ℕ) (left now : Option (List ℕ)) (frame : List ℕ) (e : Failure)
+    → Consumes left now frame → frame ≢ [] → (length frame < frame_length frame → IsAtEnd now)
+    → IsFailureOfFrame kind number frame e → FailsFrame kind number left e
+frame_fails kind number left now frame (failure.Frame n fault) taken some end fails =
+    (fails.0, first_fault kind fault left now frame taken some end fails.1)
+frame_fails kind number left now frame (failure.Line n refusal) taken some end fails = absurd fails
+frame_fails kind number left now frame (failure.Long n) taken some end fails = absurd fails
+frame_fails kind number left now frame failure.Open taken some end fails = absurd fails
+frame_fails kind number left now frame failure.NotText taken some end fails = absurd fails
+frame_fails kind number left now frame failure.Memory taken some end fails = tt
+frame_fails kind number left now frame failure.Read taken some end fails = absurd fails
+frame_fails kind number left now frame failure.Write taken some end fails = absurd fails
+
+begins : (Is : List ℕ → Type 0) (left : Option (List ℕ)) (line : List ℕ) → IfSome left (λ bytes. line ≡ take_through 10 bytes)
+    → IsTrue (not (is_blank line)) → Is line → IfSome left (BeginsWithLine Is)
+begins Is None line read some is = tt
+begins Is (Some bytes) line read some is =
+    subst (λ (l : List ℕ). IsTrue (not (is_blank l)) × Is l) read (some, is)
+
+pub line_fails : (kind : Kind) (number : ℕ) (left : Option (List ℕ)) (line : List ℕ) (e : Failure)
+    → IfSome left (λ bytes. line ≡ take_through 10 bytes) → IsTrue (not (is_blank line))
+    → IsFailureOfLine kind number line e → FailsLine kind number left e
+line_fails kind number left line (failure.Line n refusal) read some fails =
+    (fails.0, begins (SpellsNothing kind) left line read some fails.1)
+line_fails kind number left line (failure.Long n) read some fails =
+    (fails.0, begins (SpellsTooMuch kind) left line read some fails.1)
+line_fails kind number left line (failure.Frame n fault) read some fails = absurd fails
+line_fails kind number left line failure.Open read some fails = absurd fails
+line_fails kind number left line failure.NotText read some fails = absurd fails
+line_fails kind number left line failure.Memory read some fails = tt
+line_fails kind number left line failure.Read read some fails = absurd fails
+line_fails kind number left line failure.Write read some fails = absurd fails

@@ -1,0 +1,12 @@
+//! What is done with the input.
+
+/// What is done with the input.
+#[derive(Clone, Copy, Debug, PartialEq, Eq)]
+pub enum Task {
+    /// Lines become frames.
+    Encode,
+    /// Frames become lines.
+    Decode,
+    /// Frames become a table, with wide keys whole or cut.
+    Show { full: bool },
+}

@@ -1,0 +1,63 @@
+//! Frames as tables for people.
+
+ghost use Rattle.std.specs.Prelude.{◌≡◌, ◌≢◌, ◌<◌, ◌≤◌, IfOk, IfErr, OnOk, length, None};
+ghost use Rattle.wire.specs.FrameLength.{frame_length};
+ghost use Rattle.batches_program.specs.Failing.{FailsFrame, IsFailureOfFrame};
+ghost use Rattle.batches_program.specs.Lines.{IsShown};
+ghost use Rattle.batches_program.specs.Told.{Tells, length_told};
+ghost use Rattle.batches_program.specs.Turned.{Stops, TurnsAll};
+ghost use Rattle.batches_program.specs.declared.failure.Failure.TheVariants.{Read, Write};
+
+use crate::failure::Failure;
+use crate::form::Form;
+use crate::frame::{batch_in, reply_in};
+use crate::kind::Kind;
+use crate::printer::print_frames;
+use crate::progress::Progress;
+use crate::table::{batch_table, reply_table};
+use std::alloc::Global;
+use wire::{Sink, Source};
+
+/// Reads frames to the end of the input and prints a table of each. Wide keys are cut, unless they are wanted in full. After
+/// a failure, other than of the writer, the tables of the frames before it are written completely.
+pub fn show<R: Source, W: Sink, E: Sink>(
+    alloc: Global,
+    kind: Kind,
+    full: bool,
+    reader: &mut R,
+    writer: &mut W,
+    error: &mut E,
+    progress: &mut Progress,
+) -> Result<(), Failure>
+    ensures turned { OnOk result (TurnsAll (IsShown kind) (R.remaining reader.old)
+        (W.given writer.old) (W.given writer.new)) }
+    ensures refused { IfErr result (λ e. e ≢ Write → Stops (IsShown kind) (FailsFrame kind)
+        (R.remaining reader.old) (W.given writer.old) (W.given writer.new) e) }
+    ensures read { IfErr result (λ e. e ≡ Read → R.failures reader.old < R.failures reader.new) }
+    ensures write { IfErr result (λ e. e ≡ Write → W.failures writer.old < W.failures writer.new) }
+    ensures ok { OnOk result (W.failures writer.new ≡ W.failures writer.old) }
+    ensures length { length_told progress.new ≡ length_told progress.old }
+    ensures told { Tells (E.given error.old) (E.given error.new) (E.failures error.old) (E.failures error.new) }
+    ensures quiet { length_told progress.old ≡ None → error.new ≡ error.old }
+{
+    print_frames(alloc, kind, Form::Table { full }, reader, writer, error, progress)
+}
+
+/// Returns the table of what a frame says.
+pub fn table_of(
+    alloc: Global,
+    kind: Kind,
+    full: bool,
+    number: u64,
+    frame: &[u8],
+) -> Result<Vec<u8>, Failure>
+    requires settled { length frame.now ≤ frame_length frame.now }
+    ensures shown { IfOk result (λ table. IsShown kind frame.now table.items) }
+    ensures fails { IfErr result (IsFailureOfFrame kind number frame.now) }
+{
+    let table = match kind {
+        Kind::Batches => batch_table(alloc, &batch_in(alloc, number, frame)?, full)?,
+        Kind::Replies => reply_table(alloc, &reply_in(alloc, number, frame)?)?,
+    };
+    Ok(table.into_bytes())
+}
