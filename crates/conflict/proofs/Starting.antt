@@ -1,6 +1,6 @@
 -- A step map that is made for a set which starts at a version has room for one write, and is up to that version.
-use Rattle.std.proofs.Common.{◌≡◌, ℕ, ◌+◌, ◌*◌, ◌≤◌, cond, true, nat_le, [], length, refl, sym, subst, arith}
-use Rattle.std.specs.Prelude.{ℤ, pos, negsuc, ◌≤ℤ◌, ◌<ℤ◌, ◌-ℤ◌, List}
+use Rattle.std.proofs.Common.{◌≡◌, ℕ, ◌+◌, ◌*◌, ◌≤◌, cond, true, false, nat_le, [], length, refl, sym, subst, arith}
+use Rattle.std.specs.Prelude.{ℤ, pos, negsuc, ◌≤ℤ◌, ◌<ℤ◌, ◌-ℤ◌, int_lt, List}
 use Rattle.std.specs.Int.{int_max}
 use Rattle.std.proofs.lemmas.Int.{ints}
 use Rattle.stepmap.specs.Boundary.{Boundary, AreUpTo}
@@ -28,6 +28,10 @@ has_made_room ranges m room =
 -- only -1 is below 0
 pub minus_one : (version : ℤ) → negsuc 0 ≤ℤ version → version <ℤ pos 0 → negsuc 0 ≡ version
 minus_one version least below = grind (arith, ints, least, below)
+
+-- the others are from 0 on
+pub natural_from_test : (version : ℤ) → int_lt version (pos 0) ≡ false → pos 0 ≤ℤ version
+natural_from_test version test = grind (arith, ints, test)
 
 -- the edge of a version is natural, and no greater than the version
 pub edge_natural : (version window : ℤ) → pos 0 ≤ℤ int_max (version -ℤ window) (pos 0)

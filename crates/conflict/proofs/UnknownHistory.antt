@@ -137,11 +137,16 @@ hits_covered version ws later t i until hit =
     ]) hit
 
 pub commits_covered : CommitsCovered
-commits_covered version oldest ws later written t until committed =
-    (committed.0, λ conflict. committed.1 (conflict.0, elim conflict.1 [
+commits_covered version oldest ws later written t until committed = (
+  committed.0,
+  λ conflict. committed.1 (
+    conflict.0,
+    elim conflict.1 [
       | inl hit ↦ inl (hits_covered version ws later t conflict.0 until hit)
       | inr met ↦ inr met
-    ]))
+    ],
+  ),
+)
 
 pub hits_below : HitsBelow
 hits_below version t i range at below =

@@ -1,27 +1,5 @@
 -- A history that isn't known, as one write of every key. This project's own.
-use Rattle.std.specs.Prelude.{
-  ◌≡◌,
-  ℕ,
-  zero,
-  suc,
-  ◌<◌,
-  ◌≤◌,
-  ℤ,
-  pos,
-  negsuc,
-  ◌≤ℤ◌,
-  ◌<ℤ◌,
-  ◌↔◌,
-  List,
-  [],
-  ◌∷◌,
-  ◌++◌,
-  length,
-  replicate,
-  All,
-  Some,
-  slice_get,
-}
+use Rattle.std.specs.Prelude.{◌≡◌, ℕ, ◌<◌, ◌≤◌, ℤ, pos, negsuc, ◌≤ℤ◌, ◌<ℤ◌, ◌↔◌, List, [], ◌∷◌, ◌++◌, length, replicate, All, Some, slice_get}
 use Rattle.std.proofs.Common.{refl, sym, subst, zero-le}
 use Rattle.std.proofs.Math.Nat.{le_refl}
 use Rattle.std.proofs.Math.Dec.{lit<}

@@ -138,5 +138,5 @@ returns-clause-paced c =
       wrote.0,
       wrote.1,
       c.sweep.ensures.map ∙ ap (λ n. after_sweep (3 * n + 10) mid) (sym wrote.2)
-      ∙ ap (after_sweep (3 * length wrote.0 + 10)) (wrote.3 ∙ ap (with_written wrote.0 version) up),
+          ∙ ap (after_sweep (3 * length wrote.0 + 10)) (wrote.3 ∙ ap (with_written wrote.0 version) up),
     )

@@ -1,5 +1,5 @@
 use Rattle.std.proofs.Common.{rules, w64, to_z, of_z, SFits, ◌≡◌, [], sym, ap, subst, ◌∙◌, arith}
-use Rattle.std.specs.Prelude.{ℤ, pos, negsuc, ◌≤ℤ◌, ◌<ℤ◌, ◌-ℤ◌}
+use Rattle.std.specs.Prelude.{ℤ, pos, negsuc, ◌≤ℤ◌, ◌-ℤ◌}
 use Rattle.std.specs.Int.{int_max}
 use Rattle.std.proofs.lemmas.Int.{ints, to_z-of_z}
 use Rattle.std.proofs.lemmas.Result.{IfOk-weaker}
@@ -8,7 +8,7 @@ use Rattle.stepmap.specs.Covers.{MapCovers}
 use Rattle.stepmap.specs.Rooted.{Rooted}
 use Rattle.conflict.specs.ConflictSet.{SetState}
 use Rattle.conflict.specs.Unknown.{unknown_until}
-use Rattle.conflict.proofs.Starting.{up_to_later, minus_one, edge_natural, edge_at_most, written_unknown}
+use Rattle.conflict.proofs.Starting.{up_to_later, minus_one, natural_from_test, edge_natural, edge_at_most, written_unknown}
 use Rattle.conflict.proofs.conflict_set.ConflictSet.new_at.Goals as goal
 
 -- as the code hands numbers on
@@ -49,7 +49,7 @@ write_every_key-requires-clause-late c =
     let w = to_z w64 (of_z w64 c.args.window) in
     let fits : SFits w64 c.edge_at.result = search rules in
     let edge = ap (λ (m : Steps). m.edge) c.raise.ensures.map ∙ handed c.edge_at.result fits ∙ c.edge_at.ensures.edge in
-    let natural : pos 0 ≤ℤ v = grind (arith, ints, c.if-version-lt0.false) in
+    let natural = natural_from_test v c.if-version-lt0.false in
     let least : pos 1 ≤ℤ w =
     subst (λ n. pos 1 ≤ℤ n) (sym (handed c.args.window c.ranges.window)) c.requires.least_window in
     subst (λ e. e ≤ℤ v) (sym edge) (edge_at_most v w least natural)
@@ -71,7 +71,7 @@ invariant_of-result c =
 pub returns-clause-remembers : goal.returns-clause-remembers
 returns-clause-remembers c =
     let v = to_z w64 (of_z w64 c.args.version) in
-    let natural : pos 0 ≤ℤ v = grind (arith, ints, c.if-version-lt0.false) in
+    let natural = natural_from_test v c.if-version-lt0.false in
     let is = written_unknown v natural ∙ ap unknown_until (handed c.args.version c.ranges.version) in
     let new = c.write_every_key.new.steps in
     record {
