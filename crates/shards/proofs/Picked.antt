@@ -1,8 +1,8 @@
 -- Split points while they are picked from keys in order.
-use Rattle.std.proofs.Common.{◌≡◌, ◌∙◌, ℕ, suc, ◌+◌, ◌*◌, ◌/◌, ◌<◌, ◌≤◌, Bool, true, false, ◌&&◌, List, [], ◌∷◌, ◌++◌, length, get_or, count_by, IsPermutation, refl, sym, ap, subst, arith, All, Contains, append_assoc, length-append, mul-le-mul_left, mul-le-mul_right, le_of_mul-le-mul_right, div-mul-le_self, div-lt_iff_lt-mul, le_trans, le_of_eq, mul_assoc}
+use Rattle.std.proofs.Common.{◌≡◌, ◌∙◌, ℕ, suc, ◌+◌, ◌*◌, ◌/◌, ◌<◌, ◌≤◌, Bool, true, false, cond, ◌&&◌, List, [], ◌∷◌, ◌++◌, length, get_or, count_by, IsPermutation, refl, sym, ap, subst, arith, All, Contains, append_assoc, length-append, mul-le-mul_left, mul-le-mul_right, le_of_mul-le-mul_right, div-mul-le_self, div-lt_iff_lt-mul, le_trans, le_of_eq, mul_assoc}
 use Rattle.std.specs.Prelude.{Some, None, slice_get}
-use Rattle.std.proofs.lemmas.List.Elements.{All-nil, All-cons, All-append, All-push, All-weaker, Contains-append_right, Contains-permutation}
-use Rattle.std.proofs.lemmas.List.Sorted.{IsPermutation-sym, length_permutation, sum_by-IsPermutation}
+use Rattle.std.proofs.lemmas.List.Elements.{All-nil, All-cons, All-append, All-push, All-weaker, Contains-append_right}
+use Rattle.std.proofs.lemmas.List.Sorted.{Contains-permutation, IsPermutation-sym, length_permutation, sum_by-IsPermutation}
 use Rattle.std.proofs.lemmas.List.Sums.{sum_by-append, count_by-le-length}
 use Rattle.std.proofs.lemmas.Option.{slice_get_within, get_or_from_slice_get}
 use Rattle.keys.specs.Key.{is_before, IsBefore, IsAtMost}
@@ -13,8 +13,8 @@ use Rattle.shards.specs.Picking.{IsRestAfter}
 use Rattle.shards.proofs.KeyOrders.{AreOrdered, ordered_rest, fewer_left, count_none, few_before}
 use Rattle.shards.proofs.ShardList.{last_or, rising_more, last_more}
 
-abbrev closed : List ℕ → List ℕ → Shard
-closed from to = record { from = from; to = Some to }
+abbrev between : List ℕ → List ℕ → Shard
+between from to = record { from = from; to = Some to }
 
 abbrev endless : List ℕ → Shard
 endless from = record { from = from; to = None }
@@ -22,18 +22,18 @@ endless from = record { from = from; to = None }
 -- the shards that end at a split point
 abbrev pub closed_from : List ℕ → List (List ℕ) → List Shard
 closed_from from [] = []
-closed_from from (point ∷ points) = closed from point ∷ closed_from point points
+closed_from from (point ∷ points) = between from point ∷ closed_from point points
 
 closed_more : (from : List ℕ) (points : List (List ℕ)) (point : List ℕ)
-    → closed_from from (points ++ point ∷ []) ≡ closed_from from points ++ closed (last_or from points) point ∷ []
+    → closed_from from (points ++ point ∷ []) ≡ closed_from from points ++ between (last_or from points) point ∷ []
 closed_more from [] point = refl
-closed_more from (first ∷ points) point = ap (λ (all : List Shard). closed from first ∷ all) (closed_more first points point)
+closed_more from (first ∷ points) point = ap (λ (all : List Shard). between from first ∷ all) (closed_more first points point)
 
 -- and the one that doesn't
 all_shards : (from : List ℕ) (points : List (List ℕ))
     → shards_from from points ≡ closed_from from points ++ endless (last_or from points) ∷ []
 all_shards from [] = refl
-all_shards from (point ∷ points) = ap (λ (all : List Shard). closed from point ∷ all) (all_shards point points)
+all_shards from (point ∷ points) = ap (λ (all : List Shard). between from point ∷ all) (all_shards point points)
 
 module _ (n all share left : ℕ) (fair : n * all ≤ share * suc left) where
   -- one of the remaining shards has its part
@@ -87,6 +87,13 @@ picked_none n begins rest after =
       fair = omega (arith, scaled);
     }
 
+-- each key of the rest is one of the begins
+pub from_begins : (n left : ℕ) (begins points rest : List (List ℕ)) → ArePicked n left begins points rest → (e : ℕ) (key : List ℕ)
+    → slice_get rest e ≡ Some key → Contains begins key
+from_begins n left begins points rest picked e key at =
+    subst (λ (keys : List (List ℕ)). Contains keys key) (sym picked.after.parts)
+    (Contains-append_right picked.after.front rest key (e, slice_get_within rest e key at, get_or_from_slice_get rest e key key at))
+
 -- no key up to the first one of a shard lies inside it
 outside : (shard : Shard) (front : List (List ℕ)) → All (λ other. IsAtMost other shard.from) front → count_by (is_inside shard) front ≡ 0
 outside shard front others =
@@ -99,10 +106,12 @@ inside_rest : (shard : Shard) (begins rest : List (List ℕ)) → IsRestAfter sh
     → count_by (is_inside shard) begins ≡ count_by (is_inside shard) rest
 inside_rest shard begins rest after =
     let none = outside shard after.front after.others in
+    let all : count_by (is_inside shard) begins ≡ count_by (is_inside shard) (after.front ++ rest) =
+    ap (λ (keys : List (List ℕ)). count_by (is_inside shard) keys) after.parts in
     let both : count_by (is_inside shard) (after.front ++ rest)
         ≡ count_by (is_inside shard) after.front + count_by (is_inside shard) rest =
-    sum_by-append _ after.front rest in
-    ap (count_by (is_inside shard)) after.parts ∙ both ∙ ap (λ (m : ℕ). m + count_by (is_inside shard) rest) none ∙ (let same : 0 + count_by (is_inside shard) rest ≡ count_by (is_inside shard) rest = omega arith in same)
+    sum_by-append (λ (key : List ℕ). cond (is_inside shard key) 1 0) after.front rest in
+    omega (arith, none, all, both)
 
 module _ (n left : ℕ) (begins points rest : List (List ℕ)) (ordered : AreOrdered begins) (picked : ArePicked n (suc left) begins points rest) where
   -- one shard less, of keys that are all used up
@@ -122,7 +131,10 @@ module _ (n left : ℕ) (begins points rest : List (List ℕ)) (ordered : AreOrd
       }
 
   module _ (point : List ℕ) (next : List (List ℕ)) (at : slice_get rest (length rest / suc left) ≡ Some point) (step : IsRestAfter point rest next) where
+    abbrev last : List ℕ
     last = last_or [] points
+
+    abbrev part : ℕ
     part = length rest / suc left
 
     rises : IsBefore last point
@@ -130,16 +142,10 @@ module _ (n left : ℕ) (begins points rest : List (List ℕ)) (ordered : AreOrd
         subst (IsBefore last) (get_or_from_slice_get rest part point point at)
         (picked.after.after part point (slice_get_within rest part point at))
 
-    has_point : Contains begins point
-    has_point =
-        subst (λ (keys : List (List ℕ)). Contains keys point) (sym picked.after.parts)
-        (Contains-append_right picked.after.front rest point
-        (part, slice_get_within rest part point at, get_or_from_slice_get rest part point point at))
-
     -- the shard that ends at the point
-    has_its_part : HasItsPart n begins (closed last point)
+    has_its_part : HasItsPart n begins (between last point)
     has_its_part =
-        let shard = closed last point in
+        let shard = between last point in
         let rest_ordered = ordered_rest picked.after.front rest (subst AreOrdered picked.after.parts ordered) in
         let few = few_before (is_inside shard) rest part point rest_ordered at
         (λ key h. and_right (is_before last key) (is_before key point) (not_before_if point key h)) in
@@ -164,9 +170,10 @@ module _ (n left : ℕ) (begins points rest : List (List ℕ)) (ordered : AreOrd
     picked_more = record {
       rising = rising_more [] points point picked.rising rises;
       few = omega (arith, picked.few, length-append points (point ∷ []));
-      sampled = All-push (Contains begins) points point picked.sampled has_point;
+      sampled = All-push (Contains begins) points point picked.sampled
+          (from_begins n (suc left) begins points rest picked part point at);
       closed = subst (All (HasItsPart n begins)) (sym (closed_more [] points point))
-          (All-push (HasItsPart n begins) (closed_from [] points) (closed last point) picked.closed has_its_part);
+          (All-push (HasItsPart n begins) (closed_from [] points) (between last point) picked.closed has_its_part);
       after = subst (λ (key : List ℕ). IsRestAfter key begins next) (sym (last_more [] points point)) next_after;
       fair = part_left n (length rest) (length begins) left picked.fair (length next) (fewer_left rest next part point at step);
     }
@@ -194,7 +201,8 @@ balanced_permuted n old new points moved balanced = record {
   sampled = All-weaker (Contains new) (Contains old) (λ key h. Contains-permutation new old key (IsPermutation-sym old new moved) h) points balanced.sampled;
   even = All-weaker (HasItsPart n new) (HasItsPart n old)
       (λ shard h.
-          let count : count_by (is_inside shard) new ≡ count_by (is_inside shard) old = sum_by-IsPermutation _ old new moved in
+          let count : count_by (is_inside shard) new ≡ count_by (is_inside shard) old =
+          sum_by-IsPermutation (λ (key : List ℕ). cond (is_inside shard key) 1 0) old new moved in
           let long = length_permutation old new moved in
           subst (λ (m : ℕ). n * m ≤ length old) count (subst (λ (m : ℕ). n * count_by (is_inside shard) new ≤ m) long h))
       (shards points) balanced.even;

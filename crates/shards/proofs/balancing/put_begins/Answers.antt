@@ -1,4 +1,4 @@
-use Rattle.std.proofs.Common.{◌≡◌, ◌∙◌, ◌+◌, ℕ, List, [], ◌∷◌, ◌++◌, take, map, sym, ap, append_assoc, Bor}
+use Rattle.std.proofs.Common.{◌≡◌, ◌∙◌, ◌+◌, ℕ, List, [], ◌∷◌, ◌++◌, take, map, sym, ap, append_assoc, Bor, arith, take_all}
 use Rattle.std.proofs.lemmas.List.{map_push}
 use Rattle.keys.specs.declared.range.Range.{Range}
 use Rattle.shards.specs.Picking.{keys_of}
@@ -20,3 +20,11 @@ loop-index-preserved c =
     ∙ ap (λ (front : List (List ℕ)). front ++ range.begin ∷ []) c.loop-index.invariant
     ∙ append_assoc old (map begin (take i ranges)) (range.begin ∷ [])
     ∙ ap (λ (all : List (List ℕ)). old ++ all) (sym next)
+
+pub returns : goal.returns
+returns c = record {
+  put =
+      c.loop-index.invariant
+      ∙ ap (λ (ranges : List Range). keys_of c.args.begins.now.items ++ map (λ (range : Range). range.begin) ranges)
+      (take_all c.loop-index.index c.ranges-ranges.result (omega arith) ∙ c.ranges-ranges.ensures.ranges);
+}
