@@ -1,5 +1,5 @@
 -- Keys in order, those of them that come after a key, and how many come before one.
-use Rattle.std.proofs.Common.{◌≡◌, ◌∙◌, ℕ, zero, suc, ◌+◌, ◌-◌, ◌<◌, ◌≤◌, Bool, true, false, not, cond, List, [], ◌∷◌, ◌++◌, length, get_or, take, drop, map, is_lt, nat_cmp, count_by, IsSorted, IsSortedBy, refl, sym, ap, subst, inl, inr, arith, All, Bor, length-append, length-take, length-drop, take-append-drop, get_or-take, get_or-drop}
+use Rattle.std.proofs.Common.{◌≡◌, ◌∙◌, ℕ, zero, suc, ◌+◌, ◌-◌, ◌<◌, ◌≤◌, Bool, true, false, not, cond, List, [], ◌∷◌, ◌++◌, length, get_or, take, drop, is_lt, nat_cmp, count_by, IsSorted, IsSortedBy, refl, sym, ap, subst, inl, inr, arith, All, Bor, length-append, length-take, length-drop, take-append-drop, get_or-take, get_or-drop}
 use Rattle.std.specs.Prelude.{Some, slice_get}
 use Rattle.std.specs.Cmp.Lexicographic.{slice_cmp}
 use Rattle.std.specs.List.Sorted.{IsPartitionPoint, IsPartitionedBy}

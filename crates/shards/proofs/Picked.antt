@@ -1,7 +1,7 @@
 -- Split points while they are picked from keys in order.
-use Rattle.std.proofs.Common.{◌≡◌, ◌∙◌, ℕ, suc, ◌+◌, ◌*◌, ◌/◌, ◌<◌, ◌≤◌, Bool, true, false, cond, ◌&&◌, List, [], ◌∷◌, ◌++◌, length, get_or, count_by, IsPermutation, refl, sym, ap, subst, arith, All, Contains, append_assoc, length-append, mul-le-mul_left, mul-le-mul_right, le_of_mul-le-mul_right, div-mul-le_self, div-lt_iff_lt-mul, le_trans, le_of_eq, mul_assoc}
+use Rattle.std.proofs.Common.{◌≡◌, ◌∙◌, ℕ, suc, ◌+◌, ◌*◌, ◌/◌, ◌<◌, ◌≤◌, Bool, true, false, cond, ◌&&◌, List, [], ◌∷◌, ◌++◌, length, count_by, IsPermutation, refl, sym, ap, subst, arith, All, Contains, append_assoc, length-append, mul-le-mul_left, mul-le-mul_right, le_of_mul-le-mul_right, div-mul-le_self, div-lt_iff_lt-mul, le_trans, le_of_eq, mul_assoc}
 use Rattle.std.specs.Prelude.{Some, None, slice_get}
-use Rattle.std.proofs.lemmas.List.Elements.{All-nil, All-cons, All-append, All-push, All-weaker, Contains-append_right}
+use Rattle.std.proofs.lemmas.List.Elements.{All-nil, All-append, All-push, All-weaker, Contains-append_right}
 use Rattle.std.proofs.lemmas.List.Sorted.{Contains-permutation, IsPermutation-sym, length_permutation, sum_by-IsPermutation}
 use Rattle.std.proofs.lemmas.List.Sums.{sum_by-append, count_by-le-length}
 use Rattle.std.proofs.lemmas.Option.{slice_get_within, get_or_from_slice_get}
@@ -109,7 +109,7 @@ inside_rest shard begins rest after =
     let all : count_by (is_inside shard) begins ≡ count_by (is_inside shard) (after.front ++ rest) =
     ap (λ (keys : List (List ℕ)). count_by (is_inside shard) keys) after.parts in
     let both : count_by (is_inside shard) (after.front ++ rest)
-        ≡ count_by (is_inside shard) after.front + count_by (is_inside shard) rest =
+    ≡ count_by (is_inside shard) after.front + count_by (is_inside shard) rest =
     sum_by-append (λ (key : List ℕ). cond (is_inside shard key) 1 0) after.front rest in
     omega (arith, none, all, both)
 
@@ -201,9 +201,9 @@ balanced_permuted n old new points moved balanced = record {
   sampled = All-weaker (Contains new) (Contains old) (λ key h. Contains-permutation new old key (IsPermutation-sym old new moved) h) points balanced.sampled;
   even = All-weaker (HasItsPart n new) (HasItsPart n old)
       (λ shard h.
-          let count : count_by (is_inside shard) new ≡ count_by (is_inside shard) old =
-          sum_by-IsPermutation (λ (key : List ℕ). cond (is_inside shard key) 1 0) old new moved in
-          let long = length_permutation old new moved in
-          subst (λ (m : ℕ). n * m ≤ length old) count (subst (λ (m : ℕ). n * count_by (is_inside shard) new ≤ m) long h))
+      let count : count_by (is_inside shard) new ≡ count_by (is_inside shard) old =
+      sum_by-IsPermutation (λ (key : List ℕ). cond (is_inside shard key) 1 0) old new moved in
+      let long = length_permutation old new moved in
+      subst (λ (m : ℕ). n * m ≤ length old) count (subst (λ (m : ℕ). n * count_by (is_inside shard) new ≤ m) long h))
       (shards points) balanced.even;
 }

@@ -40,10 +40,7 @@ pub fn balanced(
 }
 
 // Returns the begin keys of the ranges of the sample in order.
-fn sorted_begins<'a>(
-    alloc: Global,
-    sample: &[&'a Batch],
-) -> Result<Vec<&'a [u8]>, AllocError>
+fn sorted_begins<'a>(alloc: Global, sample: &[&'a Batch]) -> Result<Vec<&'a [u8]>, AllocError>
     ensures same { IfOk result (λ begins. IsPermutation
         (begins_of (map (λ batch. batch.now) sample.now)) (keys_of begins.items)) }
     ensures sorted { IfOk result

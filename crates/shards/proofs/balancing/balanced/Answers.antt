@@ -1,4 +1,4 @@
-use Rattle.std.proofs.Common.{◌≡◌, ◌≤◌, List, ℕ, length, map, All, sym, subst, Bor}
+use Rattle.std.proofs.Common.{List, ℕ, map, All, sym, subst, Bor}
 use Rattle.std.proofs.lemmas.List.Sorted.{All-permutation}
 use Rattle.keyspace.specs.declared.batch.Batch.{Batch}
 use Rattle.shards.specs.Balanced.{begins_of, IsBalanced}

@@ -1,4 +1,4 @@
-use Rattle.std.proofs.Common.{◌≡◌, ◌∙◌, ℕ, List, not, is_lt, nat_cmp, length, take, drop, Bor, rules, subst, sym, IsSorted}
+use Rattle.std.proofs.Common.{ℕ, List, not, is_lt, nat_cmp, Bor, rules, subst, sym, IsSorted}
 use Rattle.std.specs.Cmp.Lexicographic.{slice_cmp}
 use Rattle.std.proofs.lemmas.List.{take_rest}
 use Rattle.std.proofs.lemmas.List.Sorted.{IsPartitionPoint-from_clause}

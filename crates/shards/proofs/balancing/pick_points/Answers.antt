@@ -1,9 +1,9 @@
-use Rattle.std.proofs.Common.{◌≡◌, ◌∙◌, ℕ, suc, List, [], ◌∷◌, ◌++◌, ◌+◌, ◌-◌, ◌/◌, ◌<◌, ◌≤◌, length, get_or, arith, refl, sym, ap, ap₂, subst, nat_cmp, All, Bor, IsSorted}
+use Rattle.std.proofs.Common.{◌≡◌, ◌∙◌, ℕ, suc, List, [], ◌∷◌, ◌++◌, ◌+◌, ◌-◌, ◌/◌, ◌<◌, ◌≤◌, length, get_or, arith, sym, ap, ap₂, subst, nat_cmp, Bor, IsSorted}
 use Rattle.std.specs.Prelude.{Some, slice_get}
 use Rattle.std.specs.Cmp.Lexicographic.{slice_cmp}
 use Rattle.std.proofs.lemmas.List.{length-map}
 use Rattle.std.proofs.lemmas.List.Elements.{All-map, All-contains}
-use Rattle.shards.specs.Picking.{keys_of, IsRestAfter}
+use Rattle.shards.specs.Picking.{keys_of}
 use Rattle.shards.proofs.Begins.{IsShort, key_at}
 use Rattle.shards.proofs.KeyOrders.{ordered_from_sorted}
 use Rattle.shards.proofs.Picked.{ArePicked, picked_none, picked_more, picked_all_used, from_begins, balanced_when_done}

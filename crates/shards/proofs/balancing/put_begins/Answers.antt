@@ -1,4 +1,4 @@
-use Rattle.std.proofs.Common.{◌≡◌, ◌∙◌, ◌+◌, ℕ, List, [], ◌∷◌, ◌++◌, take, map, sym, ap, append_assoc, Bor, arith, take_all}
+use Rattle.std.proofs.Common.{◌∙◌, ℕ, List, [], ◌∷◌, ◌++◌, take, map, sym, ap, append_assoc, Bor, arith, take_all}
 use Rattle.std.proofs.lemmas.List.{map_push}
 use Rattle.keys.specs.declared.range.Range.{Range}
 use Rattle.shards.specs.Picking.{keys_of}
