@@ -12,6 +12,7 @@
 //! | [`ConflictSet`] | you have one chain of versions, and give each batch once, in order |
 //! | [`Core`] | you have many proxies in one thread, whose batches come early, late or twice |
 //! | [`open`], [`Resolver`], [`Client`] | you have many proxies, each in a thread |
+//! | [`SplitPoints`], [`combine`] | you have several resolvers, each for a range of keys |
 //!
 //! A [`BatchBuilder`] makes a [`Batch`] of [`Txn`]s with [`Range`]s. A [`Reply`] has a [`Verdict`]
 //! for each transaction. The proxies of a core or a resolver receive it in an [`Answer`].
@@ -108,11 +109,13 @@
 mod batch;
 mod builder;
 mod client;
+mod combining;
 mod conflict_set;
 mod range;
 mod reply;
 mod resolver_core;
 mod service;
+mod split_points;
 mod stop;
 mod txn;
 mod waiting;
@@ -121,11 +124,13 @@ mod wire_error;
 pub use batch::{Batch, TxnRef};
 pub use builder::{BatchBuilder, BuildError};
 pub use client::{Client, TryReceiveError, TrySendError};
+pub use combining::{CombineError, ShardReply, combine};
 pub use conflict_set::{ConflictSet, ResolveError};
 pub use range::{Range, RangeError};
 pub use reply::{Answer, Reply, Verdict};
 pub use resolver_core::{Core, CoreError};
 pub use service::{Account, Resolver, SettleError, Turn, open};
+pub use split_points::{BalanceError, Clip, ClipError, ReadIndices, SplitPoints, SplitPointsError};
 pub use stop::{NewError, Stop};
 pub use txn::Txn;
 pub use wire_error::WireError;
@@ -136,6 +141,7 @@ pub use {
     ::keyspace::{MAX_KEY_LENGTH, MAX_RANGES, MAX_TXNS, WINDOW},
     ::lane::MAX_CAPACITY,
     ::resolver::MAX_PROXIES,
+    ::shards::MAX_SPLIT_POINTS,
     ::stepmap::MAX_LIMIT,
 };
 

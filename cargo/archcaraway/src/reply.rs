@@ -117,6 +117,10 @@ impl Reply {
         Reply(reply)
     }
 
+    pub(crate) fn into_inner(self) -> keyspace::Reply {
+        self.0
+    }
+
     fn entries(&self) -> &[Entry] {
         self.0.entries.as_slice()
     }

@@ -1,8 +1,9 @@
 //! A failed allocation is an error, whichever allocation it is.
 
 use archcaraway::{
-    Batch, BatchBuilder, BuildError, ConflictSet, Core, CoreError, MAX_LIMIT, NewError, Reply,
-    ResolveError, Stop, Txn, Verdict, WINDOW, WireError,
+    BalanceError, Batch, BatchBuilder, BuildError, ClipError, CombineError, ConflictSet, Core,
+    CoreError, MAX_LIMIT, NewError, Reply, ResolveError, ShardReply, SplitPoints, SplitPointsError,
+    Stop, Txn, Verdict, WINDOW, WireError, combine,
 };
 use std::alloc::{GlobalAlloc, Layout, System};
 use std::cell::Cell;
@@ -138,4 +139,30 @@ fn cores() {
         admit,
         CoreError::Stop(Stop::Memory),
     );
+}
+
+#[test]
+fn shards() {
+    let key = "a key that takes memory of its own";
+    let new = |(): &mut ()| SplitPoints::new([key]);
+    let points = each_refusal(|| (), new, SplitPointsError::Memory);
+    let balanced = |batch: &mut Batch| SplitPoints::balanced([&*batch], 2);
+    each_refusal(batch, balanced, BalanceError::Memory);
+    let clips = each_refusal(batch, |batch| points.clip(batch), ClipError);
+    assert_eq!(clips.len(), 2);
+
+    let replies = || {
+        let clips = points.clip(&batch()).expect("there is memory").into_iter();
+        let reply = |batch: &Batch| set().resolve(batch).expect("there is memory");
+        clips
+            .map(|clip| ShardReply {
+                reply: reply(&clip.batch),
+                reads: clip.reads,
+            })
+            .collect()
+    };
+    let sent = batch();
+    let combined = |replies: &mut Vec<ShardReply>| combine(&sent, replies.drain(..));
+    let reply = each_refusal(replies, combined, CombineError::Memory);
+    assert!(reply.verdicts().eq([Verdict::Committed, Verdict::Conflict]));
 }

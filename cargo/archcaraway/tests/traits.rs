@@ -1,9 +1,10 @@
 //! What the types promise beside their methods.
 
 use archcaraway::{
-    Account, Answer, Batch, BatchBuilder, BuildError, Client, ConflictSet, Core, CoreError,
-    NewError, Range, RangeError, Reply, ResolveError, Resolver, SettleError, Stop, TryReceiveError,
-    TrySendError, Turn, Txn, TxnRef, Verdict, WireError,
+    Account, Answer, BalanceError, Batch, BatchBuilder, BuildError, Client, Clip, ClipError,
+    CombineError, ConflictSet, Core, CoreError, NewError, Range, RangeError, ReadIndices, Reply,
+    ResolveError, Resolver, SettleError, ShardReply, SplitPoints, SplitPointsError, Stop,
+    TryReceiveError, TrySendError, Turn, Txn, TxnRef, Verdict, WireError,
 };
 use std::error::Error;
 use std::fmt::Debug;
@@ -17,11 +18,14 @@ const _: () = {
     is_sent::<Batch>();
     is_sent::<BatchBuilder>();
     is_sent::<Client>();
+    is_sent::<Clip>();
     is_sent::<ConflictSet>();
     is_sent::<Core>();
     is_sent::<Reply>();
     is_sent::<Resolver>();
     is_sent::<Range<'static>>();
+    is_sent::<ShardReply>();
+    is_sent::<SplitPoints>();
     is_sent::<Txn<'static>>();
 };
 
@@ -30,10 +34,14 @@ const _: () = {
     is_shared::<Answer>();
     is_shared::<Batch>();
     is_shared::<BatchBuilder>();
+    is_shared::<Clip>();
     is_shared::<ConflictSet>();
     is_shared::<Core>();
     is_shared::<Range<'_>>();
+    is_shared::<ReadIndices>();
     is_shared::<Reply>();
+    is_shared::<ShardReply>();
+    is_shared::<SplitPoints>();
     is_shared::<Turn>();
     is_shared::<Txn<'_>>();
     is_shared::<TxnRef<'_>>();
@@ -41,12 +49,16 @@ const _: () = {
 };
 
 const _: () = {
+    is_error::<BalanceError>();
     is_error::<BuildError>();
+    is_error::<ClipError>();
+    is_error::<CombineError>();
     is_error::<CoreError>();
     is_error::<NewError>();
     is_error::<RangeError>();
     is_error::<ResolveError>();
     is_error::<SettleError>();
+    is_error::<SplitPointsError>();
     is_error::<Stop>();
     is_error::<TryReceiveError>();
     is_error::<TrySendError>();

@@ -3,7 +3,8 @@
 use conflict::ConflictSet;
 use keyspace::Verdict;
 use rattle_std::alloc::Global;
-use shards::{Clipped, CombineError, Misfit, ReadIndices, ShardReply, SplitPoints, SplitPointsError, clip, clip_all, combine};
+use shards::{BalanceError, Clipped, CombineError, Misfit, ReadIndices, ShardReply, SplitPoints, SplitPointsError};
+use shards::{balanced, clip, clip_all, combine};
 use stepmap::MAX_LIMIT;
 use tests::cases::{count, run};
 use tests::drawn::{KeySpace, any_batch};
@@ -137,6 +138,57 @@ fn bad_split_points_are_refused() {
     assert_eq!(split(&many[1..].to_vec()).shard_count(), 64);
     assert_eq!(split(&keys([])).shard_count(), 1);
     assert_eq!(SplitPointsError::NotRising(2).to_string(), "split point 2 isn't after the one before");
+}
+
+/// Returns the split points that are picked from the sample.
+fn picked(sample: &[PlainBatch], shards: usize) -> Result<Keys, BalanceError> {
+    let batches: Vec<_> = sample.iter().map(PlainBatch::batch).collect();
+    let points = balanced(Global, &batches.iter().collect::<Vec<_>>(), shards)?;
+    Ok(points.points().iter().map(|point| point.as_bytes().to_vec()).collect())
+}
+
+/// Returns where the ranges of the sample begin, once per range.
+fn begins(sample: &[PlainBatch]) -> Keys {
+    let txns = sample.iter().flat_map(|batch| &batch.txns);
+    txns.flat_map(|txn| txn.reads.iter().chain(&txn.writes)).map(|range| range.begin.clone()).collect()
+}
+
+/// No shard has more than its part of the ranges, besides those that begin with its first key.
+#[test]
+fn picked_points_spread_the_ranges() {
+    run("picked_points_spread_the_ranges", count(1_000_000, 100_000), |random| {
+        let sample: Vec<_> = (0..random.index(4)).map(|_| any_batch(random, 8, 4)).collect();
+        let shards = random.pick(&[1, 2, 3, 5, 16, 64]);
+        let (points, begins) = (picked(&sample, shards).expect("memory is ample"), begins(&sample));
+        assert!(points.len() < shards && points.iter().all(|point| begins.contains(point)), "{points:?} {sample:?}");
+        for shard in shards_of(&points) {
+            let inside = begins.iter().filter(|begin| shard.has(begin) && **begin != shard.from).count();
+            assert!(inside * shards <= begins.len(), "{points:?} {sample:?}");
+        }
+        assert!(checked(&points).is_ok());
+        1
+    });
+}
+
+#[test]
+fn picked_points_by_hand() {
+    let sample = |begins: &str| {
+        let range = |begin: char| PlainRange::new(begin.to_string(), "~");
+        let txn = |begin| PlainTxn { snapshot: 0, marked: false, reads: vec![range(begin)], writes: Vec::new() };
+        vec![PlainBatch { txns: begins.chars().map(txn).collect(), ..PlainBatch::empty(0, 10) }]
+    };
+    assert_eq!(picked(&sample("bdfaec"), 3), Ok(keys(["c", "e"])));
+    // Six ranges begin with k. The shards after it share what comes after it.
+    assert_eq!(picked(&sample("akkkkkkxyz"), 4), Ok(keys(["k", "y", "z"])));
+    // Fewer different keys than shards.
+    assert_eq!(picked(&sample("ab"), 64), Ok(keys(["a", "b"])));
+    assert_eq!(picked(&sample("ab"), 1), Ok(keys([])));
+    assert_eq!(picked(&[], 64), Ok(keys([])));
+    let empty = PlainTxn { snapshot: 0, marked: false, reads: vec![PlainRange::new("", "z")], writes: Vec::new() };
+    assert_eq!(picked(&[PlainBatch { txns: vec![empty; 5], ..PlainBatch::empty(0, 10) }], 2), Ok(keys([])));
+    assert_eq!(picked(&sample("ab"), 0), Err(BalanceError::ShardCount));
+    assert_eq!(picked(&sample("ab"), 65), Err(BalanceError::ShardCount));
+    assert_eq!(BalanceError::ShardCount.to_string(), "the number of shards isn't from 1 to 64");
 }
 
 fn rank(verdict: Verdict) -> usize {

@@ -84,7 +84,7 @@ IsSwept edge before now ws ranges =
 abbrev pub IsOverLimit : ℕ → ℤ → List Write → Type 0
 IsOverLimit limit edge ws = limit < 1 + 2 * live_count edge ws
 
--- likewise two for each live write and for each of the ranges that unite these, and one
+-- the same: two for each live write and for each of the ranges that unite these, and one
 abbrev pub IsOverLimitUnited : ℕ → ℤ → List Write → List Range → Type 0
 IsOverLimitUnited limit edge ws ranges =
     (united : List Range) × Unites united ranges × (limit < 1 + 2 * (live_count edge ws + length united))
@@ -93,12 +93,12 @@ IsOverLimitUnited limit edge ws ranges =
 abbrev pub raised : ℤ → Steps → Steps
 raised edge m = record m { edge = edge }
 
--- ranges that unite these can be written within the limit, at the latest after a whole round of the sweep
+-- ranges that unite these can be written within the limit, at the latest after a complete round of the sweep
 abbrev pub HasRoomToWrite : Steps → List Range → Type 0
 HasRoomToWrite m ranges =
     (united : List Range) × Unites united ranges × HasRoomFor (length united) (made_room (length united) m)
 
--- they can't be, not even after a whole round
+-- they can't be, not even after a complete round
 abbrev pub HasNoRoomToWrite : Steps → List Range → Type 0
 HasNoRoomToWrite m ranges =
     (united : List Range) × Unites united ranges × (¬ HasRoomFor (length united) (made_room (length united) m))

@@ -1,4 +1,4 @@
--- The gaps that written ranges cover, and what they tell of reads. This project's own.
+-- The gaps that written ranges cover, and what they say about reads. This project's own.
 use Rattle.std.specs.Prelude.{◌≡◌, ℕ, ◌≤◌, ◌↔◌, Bool, List, All, Any, IsTrue}
 use Rattle.keys.specs.declared.range.Range.{Range}
 use Rattle.keys.specs.Ranks.{HaveBegin, run, runs_of}

@@ -109,7 +109,7 @@ fn list_others(
     Ok(())
 }
 
-// Answers what is asked, in order. The answers replace those that there are.
+// Answers each question, in order. The answers replace the existing ones.
 fn answer(
     steps: &StepMap,
     batch: &Batch,

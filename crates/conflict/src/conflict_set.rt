@@ -1,4 +1,4 @@
-//! The conflict set: a batch is judged, what it commits is written, and the sweep goes on.
+//! The conflict set: a batch is judged, its committed writes are written, and the sweep continues.
 
 ghost use Rattle.std.specs.Prelude.{◌≡◌, ◌<◌, ◌≤◌, ◌↔◌, ◌≤ℤ◌, ◌<ℤ◌, ◌-ℤ◌, pos, negsuc, ◌++◌, List, [], length};
 ghost use Rattle.std.specs.Prelude.{None, Some, Err};
@@ -154,7 +154,7 @@ impl ConflictSet {
             (committed batch.now.txns reply.entries) }
 
         // What the batch commits fits within the limit where it is resolved, and doesn't where the set is full. A stop for
-        // memory comes before a whole round is swept, or it fits then.
+        // memory comes before a complete round is swept, or it fits then.
         ensures room { IfOk result (λ reply. HasRoomToWrite (raised (edge self.old.window batch.now) self.old.map)
             (committed batch.now.txns reply.entries)) }
         ensures no_room { self.old.stop ≡ None → result ≡ Err SetStop.ArenaFull → (ws : List Write) (reply : Reply)

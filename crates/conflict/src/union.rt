@@ -74,7 +74,7 @@ impl Union {
     }
 
     // Adds the range at the index, which doesn't begin before any that was added. It is united with the last span unless it
-    // begins behind the end of that. Most often the runs tell that it does, so that no byte of a key is read.
+    // begins after its end. Most often the runs show that it does, so that no byte of a key is read.
     fn add<L: RangeList>(
         &mut self,
         ranges: &L,
@@ -117,7 +117,7 @@ impl Union {
     }
 }
 
-// Returns whether the runs tell that the first range ends before the second one begins: a begin stands between. Where it is false
+// Returns whether the runs show that the first range ends before the second one begins: a begin is between. If it is false
 // they may be apart, too.
 fn are_told_apart(first: (u32, u32), second: (u32, u32)) -> bool
     ensures apart { IsTrue result → (keys : List (List ℕ)) (a b : Range) → first ≡ run_or_none keys a → second ≡ run_or_none keys b

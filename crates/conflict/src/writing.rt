@@ -126,8 +126,8 @@ fn single_hash(txns: &Txns, span: Span) -> Option<u32> {
     None
 }
 
-// Writes the united ranges one after the other, where none is written yet. Takes no memory. The next range is looked up
-// before each write, so that its keys are read while the write goes on.
+// Writes the united ranges in sequence, if none is written yet. Takes no memory. The next range is looked up
+// before each write, so that its keys are read during the write.
 fn write_prepared(steps: &mut StepMap, txns: &Txns, spans: &[Span], version: i64)
     requires spanned { (united : List Range) × AreSpanned (ranges_in txns.now) spans.now united }
     requires apart { (united : List Range) → AreSpanned (ranges_in txns.now) spans.now united → AreApart united }

@@ -16,7 +16,7 @@ module _ {T : Type 0} where
     pub some_slot : 0 < ring.slots
     pub no_slot : token.me.1 ≡ []
 
-  -- what a token that sends knows is what the port counts
+  -- a sending token knows the port's counts
   pub record AreSent (slots : ℕ) (v : Known T) (counts : PortCounts) : Type 0 where
     pub sends : v.sends ≡ true
     pub capacity : counts.capacity ≡ slots
@@ -28,7 +28,7 @@ module _ {T : Type 0} where
     pub taken_sent : counts.seen_taken ≤ counts.sent
     pub bounded : counts.sent ≤ counts.seen_taken + counts.capacity
 
-  -- what a token that takes knows is what the intake counts
+  -- a taking token knows the intake's counts
   pub record AreTaken (slots : ℕ) (v : Known T) (counts : IntakeCounts) : Type 0 where
     pub takes : v.takes ≡ true
     pub capacity : counts.capacity ≡ slots

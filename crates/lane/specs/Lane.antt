@@ -4,7 +4,7 @@ use Rattle.atomic_table.specs.Seated.{TableId}
 use Rattle.lane.specs.declared.moves.Move.{Move}
 use Rattle.lane.specs.Moves.{count, is_send, is_take, is_port_look, is_intake_look}
 
--- the first list is a beginning of the second, which may be all of it
+-- the first list is a prefix of the second, which may be all of it
 abbrev pub IsBeginning : {T : Type 0} → List T → List T → Type 0
 IsBeginning {T} xs ys = (rest : List T) × (ys ≡ xs ++ rest)
 
@@ -61,7 +61,7 @@ module _ {T : Type 0} where
 
   -- *Lane*, of the two ends of one lane
   pub record Lane (port : PortView T) (intake : IntakeView T) : Type 0 where
-    -- what was taken is a beginning of what was sent
+    -- the taken items are a prefix of the sent ones
     pub in_order : IsBeginning intake.taken port.sent
     -- at most `capacity` items were sent and not taken
     pub bounded : length port.sent ≤ length intake.taken + port.capacity
@@ -77,7 +77,7 @@ module _ {T : Type 0} where
     pub one_log :
         OneLog port.log intake.log (length port.sent) port.looks (length intake.taken) intake.looks
 
-  -- where an end has looked, what it has seen is what is
+  -- if an end has looked, it has seen the actual state
   pub record SeesWhatIs (old_port : PortView T) (old_intake : IntakeView T) (port : PortView T) (intake : IntakeView T)
       : Type 0 where
     pub taken : old_port.looks < port.looks → port.seen_taken ≡ length intake.taken

@@ -1,4 +1,4 @@
--- What a refusal to send hands back.
+-- The item that a refusal to send returns.
 use Rattle.lane.specs.declared.port.Refused.{Refused}
 use Rattle.lane.specs.declared.port.Refused.TheVariants.{Full, Closed, Worn}
 

@@ -14,9 +14,9 @@ abbrev pub tail_word : ℕ → Bool → ℕ
 tail_word sent closed = sent + (if closed then 2 ^ 63 else 0)
 
 module _ {T : Type 0} where
-  -- what the two ends know, of a ring of so many slots
+  -- what the two ends know, of a ring of n slots
   pub record Agree (port : PortKnows T) (intake : IntakeKnows T) (slots : ℕ) : Type 0 where
-    -- what was taken is a beginning of what was sent
+    -- the taken items are a prefix of the sent ones
     pub in_order : IsBeginning intake.taken port.sent
     pub bounded : length port.sent ≤ length intake.taken + slots
     pub few : length port.sent ≤ 2 ^ 62
@@ -39,7 +39,7 @@ module _ {T : Type 0} where
     pub head : slice_index words 0 ≡ length intake.taken
     pub tail : slice_index words 16 ≡ tail_word (length port.sent) port.closed
     pub agree : Agree port intake (length homes)
-    -- the slot of each item from the next one to be taken on, once round, has that item if it was sent, but for the
+    -- the slot of each item from the next one to be taken on, once round, has that item if it was sent, except the
     -- two that an end may hold
     pub slots : (k : ℕ) → length intake.taken ≤ k → k < length intake.taken + length homes
         → (k ≡ length intake.taken → intake.next ≡ None) → (k ≡ length port.sent → port.holds ≡ false)

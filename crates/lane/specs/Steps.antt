@@ -1,4 +1,4 @@
--- What each step on a ring tells its end, and makes of what its token knows.
+-- What each step on a ring shows its end, and how the knowledge of its token changes.
 use Rattle.std.specs.Prelude.{◌≡◌, ℕ, ◌+◌, ◌%◌, ◌^◌, ◌<◌, ◌≤◌, Bool, List, true, false, [], ◌∷◌, ◌++◌, length, slice_get, Option, Some, None}
 use Rattle.atomic_table.specs.Table.{Me, rest}
 use Rattle.lane.specs.declared.moves.Move.{Move}
@@ -29,7 +29,7 @@ module _ {T : Type 0} where
     pub all : old.0.takes ≡ true → found ≡ length old.0.intake.taken
     pub agree : old.0.takes ≡ true → Agree new.0.port old.0.intake slots
 
-  -- the port has the slot of the next item in hand, which is empty
+  -- the port holds the slot of the next item, which is empty
   pub record HoldsVacant (slots : ℕ) (me : Me (Option T) (Known T)) : Type 0 where
     pub held : me.1 ≡ (length me.0.port.sent % slots, None) ∷ rest me.1
 
@@ -39,7 +39,7 @@ module _ {T : Type 0} where
     pub holds : HoldsVacant slots new
     pub others : rest new.1 ≡ old.1
 
-  -- the port has the slot of the next item in hand, and the item in it
+  -- the port holds the slot of the next item, and the item in it
   pub record HoldsItem (slots : ℕ) (me : Me (Option T) (Known T)) : Type 0 where
     pub item : T
     pub held : me.1 ≡ (length me.0.port.sent % slots, Some item) ∷ rest me.1
@@ -62,7 +62,7 @@ module _ {T : Type 0} where
   pub record Closed (old : Me (Option T) (Known T)) (new : Me (Option T) (Known T)) : Type 0 where
     pub closed : new ≡ (record old.0 { port = record old.0.port { closed = true } }, old.1)
 
-  -- the intake has loaded tail, which told so many items sent, and the close or not
+  -- the intake has loaded tail, which says how many items were sent, and the close or not
   abbrev pub intake_looked : IntakeKnows T → ℕ → Bool → List Move → IntakeKnows T
   intake_looked t sent closed log =
       record t { seen_sent = sent; seen_close = closed; looks = t.looks + 1; log = log }
@@ -90,7 +90,7 @@ module _ {T : Type 0} where
     pub word : found ≡ tail_word sent closed
     pub looked : TailLooked slots old sent closed new
 
-  -- the intake has the slot of the next item in hand, and the item in it
+  -- the intake holds the slot of the next item, and the item in it
   pub record HoldsNext (slots : ℕ) (me : Me (Option T) (Known T)) : Type 0 where
     pub item : T
     pub next : me.0.intake.next ≡ Some item
@@ -104,7 +104,7 @@ module _ {T : Type 0} where
     -- a token that sends too finds what it has sent
     pub sent : old.0.sends ≡ true → slice_get old.0.port.sent (length old.0.intake.taken) ≡ Some holds.item
 
-  -- the intake has the slot of the next item in hand, and has emptied it
+  -- the intake holds the slot of the next item, and has emptied it
   pub record HoldsEmpty (slots : ℕ) (me : Me (Option T) (Known T)) : Type 0 where
     pub item : T
     pub next : me.0.intake.next ≡ Some item

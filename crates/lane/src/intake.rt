@@ -93,7 +93,7 @@ impl<T> Intake<T> {
         }
     }
 
-    /// Takes the next item, in the order sent, or tells that the lane is empty or at its end. After `End` the
+    /// Takes the next item, in the order sent, or reports that the lane is empty or at its end. After `End` the
     /// answer is always `End`.
     pub fn take(&mut self) -> Taken<T>
         ensures intake { IntakeGoesOn self.old self.new }
@@ -113,7 +113,7 @@ impl<T> Intake<T> {
         next(&self.ring, &mut self.token, &mut self.counts)
     }
 
-    /// Takes the next item, with the port of the same lane at hand: the answer is `Empty` or `End` only where all
+    /// Takes the next item, together with the port of the same lane: the answer is `Empty` or `End` only if all
     /// that was sent is taken. Where it looks, it sees what is.
     pub fn take_beside(&mut self, port: &mut Port<T>) -> Taken<T>
         requires same_lane { SameLane port.old self.old }
@@ -177,7 +177,7 @@ fn next<T>(ring: &Ring<T>, token: &mut Token<T>, counts: &mut IntakeCounts) -> T
     }
 }
 
-// Takes the item out of the next slot, and then tells the port.
+// Takes the item out of the next slot, and then informs the port.
 fn pop<T>(ring: &Ring<T>, token: &mut Token<T>, counts: &mut IntakeCounts) -> T
     requires intake { IsIntake ring.now.shared.table_id token.old counts.old }
     requires seen { counts.old.taken < counts.old.seen_sent }
@@ -195,7 +195,7 @@ fn pop<T>(ring: &Ring<T>, token: &mut Token<T>, counts: &mut IntakeCounts) -> T
     item
 }
 
-// Makes the slot of the next item the intake's. The load tells nothing.
+// Makes the slot of the next item the intake's. The load says nothing.
 fn find<T>(ring: &Ring<T>, token: &mut Token<T>, counts: &IntakeCounts)
     requires intake { IsIntake ring.now.shared.table_id token.old counts.now }
     requires seen { counts.now.taken < counts.now.seen_sent }

@@ -181,7 +181,7 @@ pub(crate) fn look<T>(ring: &Ring<T>, token: &mut Token<T>, counts: &mut PortCou
     counts.seen_taken = ring.shared.load::<LooksAtHead>(token, HEAD);
 }
 
-// Puts the item into the next slot, and then tells the intake.
+// Puts the item into the next slot, and then informs the intake.
 fn push<T>(ring: &Ring<T>, token: &mut Token<T>, counts: &mut PortCounts, item: T)
     requires port { IsPort ring.now.shared.table_id token.old counts.old }
     requires open { counts.old.closed ≡ false }
@@ -196,7 +196,7 @@ fn push<T>(ring: &Ring<T>, token: &mut Token<T>, counts: &mut PortCounts, item: 
     publish(ring, token, counts);
 }
 
-// Makes the slot of the next item the port's. The load tells nothing.
+// Makes the slot of the next item the port's. The load says nothing.
 fn claim<T>(ring: &Ring<T>, token: &mut Token<T>, counts: &PortCounts)
     requires port { IsPort ring.now.shared.table_id token.old counts.now }
     requires room { counts.now.sent < counts.now.seen_taken + counts.now.capacity }

@@ -1,6 +1,6 @@
 //! The ring that the two ends of a lane share: two words and the slots, and what a token of it knows.
 //!
-//! Item number k, from 0, stands in slot k mod capacity. Head counts the items taken. Tail counts the items sent,
+//! Item number k, from 0, is in slot k mod capacity. Head counts the items taken. Tail counts the items sent,
 //! and has the closing bit on top.
 ghost use Rattle.std.specs.Prelude.{◌≡◌, ◌<◌, IfOk};
 ghost use Rattle.std.specs.Arc.{arc_value};

@@ -12,3 +12,6 @@ mod Together
 mod Going
 mod NoMore
 mod BuiltTables
+mod KeyOrders
+mod Picked
+mod Begins

@@ -2,7 +2,7 @@
 use Rattle.std.specs.Prelude.{◌≡◌, ℕ, ◌<◌, ◌≤◌, List, [], ◌∷◌, length, slice_range, All}
 use Rattle.keyspace.specs.declared.txn.TheConstants.{MAX_RANGES}
 
--- the parts of the list, one after the other from an index on, each up to its end
+-- the parts of the list, in sequence from an index on, each up to its end
 abbrev pub parts_from : {X : Type 0} → ℕ → List X → List ℕ → List (List X)
 parts_from from xs [] = []
 parts_from from xs (end ∷ ends) = slice_range xs from end ∷ parts_from end xs ends

@@ -34,7 +34,7 @@ pub fn clip_all(
 }
 
 /// Clips the batch to one shard. Returns an error if memory is refused, or if the keys of the shard
-/// have more than 4 GiB. Where the batches of several shards are wanted, [`clip_all`] compares the
+/// have more than 4 GiB. For the batches of several shards, [`clip_all`] compares the
 /// keys only once.
 pub fn clip(
     alloc: Global,
@@ -50,7 +50,7 @@ pub fn clip(
     clip_by(alloc, batch, points, shard, &reaches)
 }
 
-// Clips the batch to a shard, where it is known to which shards each of its ranges goes.
+// Clips the batch to a shard, given the shards to which each of its ranges goes.
 fn clip_by(
     alloc: Global,
     batch: &Batch,

@@ -38,7 +38,7 @@ pub fn combine(alloc: Global, batch: &Batch, each: &[ShardReply]) -> Result<Repl
     Ok(Reply::new(batch.version, Sequence::new(entries)))
 }
 
-// Combines the entries of so many transactions.
+// Combines the entries of `count` transactions.
 fn combined_entries(
     alloc: Global,
     each: &[ShardReply],

@@ -1,7 +1,8 @@
-//! Why keys are no split points, or replies have no combination.
+//! Why keys are no split points, why a sample gives none, or why replies have no combination.
 
 ghost use Rattle.std.specs.Prelude.{◌≡◌};
 ghost use Rattle.shards.specs.declared.error.CombineError.TheVariants.{Memory};
+ghost use Rattle.shards.specs.declared.error.BalanceError.TheVariants as balance;
 
 use std::alloc::AllocError;
 use thiserror::Error;
@@ -16,6 +17,25 @@ pub enum SplitPointsError {
     /// after the empty key.
     #[error("split point {0} isn't after the one before")]
     NotRising(usize),
+}
+
+/// Why a sample gives no split points.
+#[derive(Clone, Copy, Debug, PartialEq, Eq, Hash, Error)]
+pub enum BalanceError {
+    /// The number of shards isn't from 1 to 64.
+    #[error("the number of shards isn't from 1 to 64")]
+    ShardCount,
+    /// Memory was refused.
+    #[error("memory was refused")]
+    Memory,
+}
+
+impl From<AllocError> for BalanceError {
+    ghost from_gives = { λ _ e. e ≡ balance.Memory };
+
+    fn from(_refused: AllocError) -> BalanceError {
+        BalanceError::Memory
+    }
 }
 
 /// Why a shard's reply isn't one to the batch that was clipped to the shard.

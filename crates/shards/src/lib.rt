@@ -1,15 +1,16 @@
 //! Several resolvers by key range: which part of a batch each of them gets, and their replies as
 //! one.
 //!
-//! [`SplitPoints`] split all keys into shards, one per resolver. [`clip_all`] makes the batch of
-//! each shard, [`combine`] the reply of all shards together. The laws of [`laws`] say what that
-//! gives a database: the transactions that all shards commit are serializable. The crate has no
-//! threads and no state.
+//! [`SplitPoints`] split all keys into shards, one per resolver; [`balanced`] picks them from a
+//! sample. [`clip_all`] makes the batch of each shard, [`combine`] the reply of all shards
+//! together. The laws of [`laws`] say what that gives a database: the transactions that all shards
+//! commit are serializable. The crate has no threads and no state.
 //!
-//! `specs/` says, in reading order, what split points are, what a shard gets of a batch (`Clips`),
-//! and what the combined reply is (`Combined`).
+//! `specs/` says, in reading order, what split points are and which ones are balanced, what a shard
+//! gets of a batch (`Clips`), and what the combined reply is (`Combined`).
 #![tactic(auto)]
 
+mod balancing;
 mod clipped;
 mod clipping;
 mod combining;
@@ -21,10 +22,11 @@ mod shard_reply;
 mod shard_tables;
 mod split_points;
 
+pub use balancing::balanced;
 pub use clipped::Clipped;
 pub use clipping::{clip, clip_all};
 pub use combining::combine;
-pub use error::{CombineError, Misfit, SplitPointsError};
+pub use error::{BalanceError, CombineError, Misfit, SplitPointsError};
 pub use read_indices::ReadIndices;
 pub use shard_reply::ShardReply;
 pub use split_points::{MAX_SPLIT_POINTS, SplitPoints};

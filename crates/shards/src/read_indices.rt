@@ -11,9 +11,9 @@ use std::marker::Model;
 /// was sent, strictly increasing. Contracts see a list per transaction.
 #[derive(Debug, Drop)]
 pub struct ReadIndices {
-    // Those of all transactions, one after the other.
+    // Those of all transactions, in sequence.
     indices: Vec<u16>,
-    // Where those of each transaction end.
+    // The end index of those of each transaction.
     ends: Vec<usize>,
 }
 

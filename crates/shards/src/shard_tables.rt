@@ -24,7 +24,7 @@ use keys::RangeRef;
 use keyspace::{Batch, RangesRef, Row, Span, TxnRef, Txns};
 use std::alloc::{AllocError, Global};
 
-/// Where a key lies in a buffer, in bytes.
+/// The location of a key in a buffer, in bytes.
 #[derive(Clone, Copy, Debug)]
 pub(crate) struct KeyAt {
     begin: u32,

@@ -38,6 +38,14 @@ impl Model for SplitPoints {
 }
 
 impl SplitPoints {
+    // Takes keys that are known to be split points.
+    pub(crate) fn new(points: Vec<Key>) -> Self
+        requires points { AreSplitPoints points.items }
+        ensures points { result ≡ points.items }
+    {
+        SplitPoints { points }
+    }
+
     /// Takes keys as split points, or returns the first fault: [`SplitPointsError::TooMany`] above
     /// [`MAX_SPLIT_POINTS`] keys, else [`SplitPointsError::NotRising`] with the index of the first
     /// key that isn't after the one before it.
@@ -54,7 +62,14 @@ impl SplitPoints {
         if let Some(index) = first_fall(&points) {
             return Err(SplitPointsError::NotRising(index));
         }
-        Ok(SplitPoints { points })
+        Ok(SplitPoints::new(points))
+    }
+
+    /// Returns the split points: strictly rising from the empty key, which is none of them.
+    pub fn points(&self) -> &[Key]
+        ensures points { result.now ≡ self.now }
+    {
+        &self.points
     }
 
     /// Returns the number of shards: one more than the split points, so from 1 to 64.

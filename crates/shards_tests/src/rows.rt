@@ -1,7 +1,7 @@
 //! Rows of clips: split points, a batch, and what each shard gets of it.
 
 use keys::Key;
-use shards::{Clipped, SplitPoints, clip_all};
+use shards::{Clipped, SplitPoints, balanced, clip_all};
 use std::alloc::{AllocError, Global};
 use std::process::Abort;
 use std::test::Fail;
@@ -54,6 +54,24 @@ fn clips(alloc: Global, points: &str, text: &str) -> Result<String, Unmade> {
         lines.push('\n')?;
     }
     Ok(lines)
+}
+
+// Writes the split points that are picked from a batch, and the number of shards.
+fn picked(alloc: Global, text: &str, shards: usize) -> Result<String, Unmade> {
+    let batch = batch(alloc, text)?;
+    let Ok(points) = balanced(alloc, &[&batch], shards) else {
+        return Err(Unmade::Text("number of shards"));
+    };
+    let mut text = String::new(alloc);
+    for point in points.points() {
+        let Ok(point) = std::str::from_utf8(point.as_bytes()) else {
+            return Err(Unmade::Text("split point"));
+        };
+        write!(text, "{point} ")?;
+    }
+    let count = points.shard_count();
+    write!(text, "{count} shards")?;
+    Ok(text)
 }
 
 fn expect(rt: &impl Abort, text: Result<String, Unmade>, row: &str) -> Result<(), Fail> {
@@ -129,4 +147,14 @@ fn reads_in_one_shard_and_writes_in_another(rt: HostRuntime) -> Result<(), Fail>
 0>100 received -1; W[78,79) @7; @0 from from
 ",
     )
+}
+
+// a, b, c and d begin a range each, and k begins three. A half of seven is three.
+#[test]
+fn split_points_from_a_sample(rt: HostRuntime) -> Result<(), Fail> {
+    let alloc = rt.alloc();
+    let text = "0>100: R[k,l) R[a,b) W[k,l); R[k,m) W[c,d) W[b,e) W[d,z)";
+    expect(&rt, picked(alloc, text, 2), "d 2 shards")?;
+    expect(&rt, picked(alloc, text, 64), "a b c d k 6 shards")?;
+    expect(&rt, picked(alloc, "0>100: R[,z)", 2), "1 shards")
 }

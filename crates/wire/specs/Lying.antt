@@ -1,4 +1,4 @@
--- Where the keys of a frame lie: in the frame itself, from which none is copied. This project's own.
+-- The location of the keys of a frame: in the frame itself, from which none is copied. This project's own.
 use Rattle.std.specs.Prelude.{◌≡◌, ◌⊎◌, ℕ, ◌+◌, ◌-◌, ◌<◌, ◌≤◌, List, [], ◌∷◌, ◌++◌, length, map, slice_range, ◌==◌, if◌then◌else◌}
 use Rattle.keyspace.specs.declared.span.Span.{Span}
 use Rattle.keyspace.specs.declared.row.Row.{Row}
@@ -30,7 +30,7 @@ txn_read frame spans from row = record {
   writes = map (range_read frame) (slice_range spans (row.end - row.writes) row.end);
 }
 
--- the transactions of rows, in order, whose spans lie one after the other from an index on
+-- the transactions of rows, in order, whose spans are in sequence from an index on
 abbrev pub txns_read : List ℕ → List Span → ℕ → List Row → List TxnFields
 txns_read frame spans from [] = []
 txns_read frame spans from (row ∷ rows) = txn_read frame spans from row ∷ txns_read frame spans row.end rows
@@ -44,21 +44,21 @@ batch_told frame tables = record {
   txns = txns_read frame tables.spans.items 0 tables.rows.items;
 }
 
--- both keys of the span lie before this index, the end behind the begin
+-- both keys of the span are before this index, the end after the begin
 abbrev pub HasBothKeys : Span → ℕ → Type 0
 HasBothKeys span to = (span.begin + span.begin_length < span.end) × (span.end + span.end_length ≤ to)
 
--- the key of the span lies before this index; its end has the byte behind it too
+-- the key of the span is before this index; its end has the byte after it too
 abbrev pub HasSingleKey : Span → ℕ → Type 0
 HasSingleKey span to =
     (span.end ≡ span.begin) × (span.end_length ≡ span.begin_length + 1) × (span.begin + span.begin_length ≤ to)
 
--- the keys of the span lie behind one index and before another
+-- the keys of the span are after one index and before another
 pub record IsBetween (from : ℕ) (span : Span) (to : ℕ) : Type 0 where
   pub begin : from < span.begin
   pub keys : HasSingleKey span to ⊎ HasBothKeys span to
 
--- the spans lie one after the other, with a byte or more before each
+-- the spans are in sequence, with a byte or more before each
 abbrev pub AreApart : ℕ → List Span → ℕ → Type 0
 AreApart from [] to = from ≤ to
 AreApart from (span ∷ spans) to = (middle : ℕ) × IsBetween from span middle × AreApart middle spans to

@@ -12,7 +12,7 @@ use Rattle.wire.specs.Reading.{batch_fault, version_told}
 abbrev pub IsFrameOf : List ℕ → Batch → Type 0
 IsFrameOf bytes batch = SpellsBatch (version_told bytes) bytes batch
 
--- the frame of the batch stands at the front, and just that frame leaves
+-- the frame of the batch is at the front, and just that frame leaves
 abbrev pub TakesFrame : Option (List ℕ) → Option (List ℕ) → Batch → Type 0
 TakesFrame old new batch = (bytes : List ℕ) × IsFrameOf bytes batch × Consumes old new bytes
 

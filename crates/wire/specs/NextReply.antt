@@ -6,7 +6,7 @@ use Rattle.wire.specs.declared.error.WireError.{WireError}
 use Rattle.wire.specs.Spelling.{SpellsReply}
 use Rattle.wire.specs.Reading.{reply_fault}
 
--- the frame of the reply stands at the front, and just that frame leaves
+-- the frame of the reply is at the front, and just that frame leaves
 abbrev pub TakesReply : Option (List ℕ) → Option (List ℕ) → Reply → Type 0
 TakesReply old new reply = (bytes : List ℕ) × SpellsReply bytes reply × Consumes old new bytes
 

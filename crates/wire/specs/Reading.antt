@@ -22,7 +22,7 @@ abbrev pub ◌>>=◌ : {A B : Type 0} → Result A WireError → (A → Result B
 (Ok x) >>= f = f x
 (Err e) >>= f = Err e
 
--- What may be answered in place of a value: the first fault, or that memory ran out. Never a failed read or write.
+-- What may be answered instead of a value: the first fault, or that memory ran out. Never a failed read or write.
 abbrev pub Refuses : {Y : Type 0} → WireError → Result Y WireError → Type 0
 Refuses e read = (e ≢ Read) × (e ≢ Write) × (e ≢ Memory → read ≡ Err e)
 
@@ -58,7 +58,7 @@ marks_at bytes = do
   n ← number_at 1 bytes
   if nat_lt 1 n.0 then Err Marks else Ok (n.0 == 1, n.1)
 
--- a key of at most so many bytes
+-- a key of at most n bytes
 unfoldable pub key_at : ℕ → List ℕ → Result (List ℕ × List ℕ) WireError
 key_at limit bytes = do
   n ← number_at 2 bytes
@@ -92,7 +92,7 @@ abbrev pub range_at : WireVersion → List ℕ → Result (RangeFields × List �
 range_at One = ends_at
 range_at Two = formed_at
 
--- as many values, one after the other
+-- as many values, in sequence
 unfoldable pub many_at : {A : Type 0} → (List ℕ → Result (A × List ℕ) WireError)
     → ℕ → List ℕ → Result (List A × List ℕ) WireError
 many_at one zero bytes = Ok ([], bytes)
@@ -135,7 +135,7 @@ header_at bytes = do
   received ← version_at (λ v. int_le (negsuc 0) v && int_lt v version.0) version.1
   Ok ((previous.0, version.0, received.0), received.1)
 
--- a batch of this wire version, behind its kind
+-- a batch of this wire version, after its kind
 unfoldable pub fields_at : WireVersion → List ℕ → Result (BatchFields × List ℕ) WireError
 fields_at version bytes = do
   header ← header_at bytes
@@ -163,7 +163,7 @@ verdict_at bytes = do
   verdict ← verdict_of n.0
   Ok (verdict, n.1)
 
--- as many places as may stand in the report of this verdict
+-- as many places as the report of this verdict may have
 abbrev pub most_places : Verdict → ℕ
 most_places Conflict = MAX_RANGES
 most_places TooOld = 0
@@ -206,7 +206,7 @@ body_at bytes =
     else if nat_lt (length bytes) (4 + big_number 4 bytes) then Err Short
     else Ok (take (big_number 4 bytes) (drop 4 bytes))
 
--- a value, with nothing left over behind it
+-- a value, with nothing left after it
 abbrev pub all_of : {A : Type 0} → Result (A × List ℕ) WireError → Result A WireError
 all_of read = read >>= λ x. if length x.1 == 0 then Ok x.0 else Err Trailing
 

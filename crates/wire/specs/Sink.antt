@@ -10,6 +10,6 @@ sink_writer sink = sink.writer
 abbrev pub sink_failures : {W : Type 0} → StdSink W → ℕ
 sink_failures sink = sink.failures
 
--- the bytes given to it, where the writer tells them, as long as a further failure could be counted
+-- the bytes given to it, if the writer reports them, as long as a further failure could be counted
 abbrev pub sink_given : {W : Type 0} → (W → Option (List ℕ)) → StdSink W → Option (List ℕ)
 sink_given contents sink = if sink.failures == 18446744073709551615 then None else contents sink.writer

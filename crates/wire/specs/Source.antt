@@ -10,7 +10,7 @@ source_reader source = source.reader
 abbrev pub source_failures : {R : Type 0} → StdSource R → ℕ
 source_failures source = source.failures
 
--- the bytes left, where the reader tells them, as long as a further failure could be counted
+-- the bytes left, if the reader reports them, as long as a further failure could be counted
 abbrev pub source_remaining : {R : Type 0} → (R → Option (List ℕ)) → StdSource R → Option (List ℕ)
 source_remaining remaining source =
     if source.failures == 18446744073709551615 then None else remaining source.reader

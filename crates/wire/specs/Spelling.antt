@@ -86,7 +86,7 @@ reply_body reply =
     (2 ∷ []) ++ (signed_text reply.version
     ++ (big_bytes 2 (length reply.entries) ++ flat_map entry_text reply.entries))
 
--- a body behind its length
+-- a body after its length
 abbrev pub frame : List ℕ → List ℕ
 frame body = big_bytes 4 (length body) ++ body
 

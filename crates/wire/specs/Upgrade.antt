@@ -18,13 +18,13 @@ new_frame batch = frame (batch_body Two (batch_fields batch))
 abbrev pub new_frames : List Batch → List ℕ
 new_frames batches = flat_map new_frame batches
 
--- the bytes are the frames of these batches, one after the other, each in the wire version that its kind tells
+-- the bytes are the frames of these batches, in sequence, each in the wire version of its kind
 abbrev pub AreFrames : List ℕ → List Batch → Type 0
 AreFrames bytes [] = bytes ≡ []
 AreFrames bytes (batch ∷ batches) =
     (first rest : List ℕ) × (bytes ≡ first ++ rest) × IsFrameOf first batch × AreFrames rest batches
 
--- the frames of these batches stand at the front, and then come bytes of this kind
+-- the frames of these batches are at the front, and then come bytes of this kind
 abbrev pub BeginWithFrames : List Batch → (List ℕ → Type 0) → List ℕ → Type 0
 BeginWithFrames batches Then bytes =
     (front rest : List ℕ) × (bytes ≡ front ++ rest) × AreFrames front batches × Then rest
@@ -39,7 +39,7 @@ OutgrowsFrame bytes =
 abbrev pub ComesFrom : WireError → List ℕ → Type 0
 ComesFrom e bytes = e ≢ Memory → e ≢ Read → IsFaultOf e bytes ⊎ ((e ≡ Long) × OutgrowsFrame bytes)
 
--- What was left is the frames of so many batches, and nothing else. Their new frames were written.
+-- The bytes left are the frames of n batches, and nothing else. Their new frames were written.
 pub record Upgrades (left before after : Option (List ℕ)) (count : ℕ) : Type 0 where
   pub batches : List Batch
   pub counted : length batches ≡ count
@@ -51,7 +51,7 @@ abbrev pub TakesFramesAndPart : List Batch → WireError → Option (List ℕ) �
 TakesFramesAndPart batches e old new = IfSome new (λ _. (front part : List ℕ)
     × AreFrames front batches × IsPartOfFrame e part × Consumes old new (front ++ part))
 
--- The frames of some batches stand at the front, and then what is refused. Nothing else was taken but a part of the next
+-- The frames of some batches are at the front, and then the refused bytes. Nothing else was taken but a part of the next
 -- frame, and the new frames of those batches were written.
 pub record StopsAt (left now before after : Option (List ℕ)) (e : WireError) : Type 0 where
   pub batches : List Batch
@@ -59,7 +59,7 @@ pub record StopsAt (left now before after : Option (List ℕ)) (e : WireError) :
   pub taken : TakesFramesAndPart batches e left now
   pub written : Appends before after (new_frames batches)
 
--- The frames of some batches stand at the front. Where the sink still tells what it was given, that grew by a beginning
+-- The frames of some batches are at the front. If the sink still reports the bytes it was given, these grew by a prefix
 -- of the new frames of those batches.
 pub record BreaksOff (left before after : Option (List ℕ)) : Type 0 where
   pub batches : List Batch

@@ -14,7 +14,7 @@ use crate::version::{WireVersion, kind_of};
 use keyspace::{Batch, Reply};
 use std::alloc::{AllocError, Global};
 
-// Begins a frame with the length of its body, and takes memory for the body behind it.
+// Begins a frame with the length of its body, and takes memory for the body after it.
 fn begin_frame(alloc: Global, length: usize) -> Result<Vec<u8>, WireError>
     ensures text { IfOk result (λ out. out.items ≡ big_bytes 4 length) }
     ensures short { OnOk result (length ≤ MAX_BODY_LENGTH) }

@@ -70,7 +70,7 @@ impl<R: Source> Frames<R> {
             (IsAtEnd (R.remaining (frames_reader self.old))
             × IsAtEnd (R.remaining (frames_reader self.new)))) }
 
-        // Where the reader tells its bytes, any other refusal than `Memory` and `Read` is the fault of those
+        // If the reader reports its bytes, any other refusal than `Memory` and `Read` is the fault of those
         // left.
         ensures fault { refusal_of self.old ≡ None → IfErr result (λ e.
             e ≢ WireError.Memory → e ≢ WireError.Read

@@ -11,7 +11,7 @@ ghost use Rattle.wire.specs.Spelling.{batch_body, reply_body, IsShort, SpellsBat
 ghost use Rattle.wire.specs.Reading.{batch_fault, reply_fault, version_told};
 
 /// A value has at most one spelling in each wire version, a text spells at most one value, and no frame
-/// begins another. So what was encoded is decoded again, whatever follows it.
+/// begins another. So decoding returns the encoded value, whatever follows it.
 pub fn one_spelling()
     // A frame of one wire version begins none of the other.
     ensures batches { (v w : WireVersionValue) (x y s t : List ℕ) (a b : BatchValue)

@@ -6,14 +6,14 @@
 //! frame is while it is read: the tables of a batch, whose keys lie in the frame. The form has two versions, which differ
 //! in the kind of a batch and in the text of a range.
 //!
-//! No key is copied: a batch keeps the frame that it was read from. Where a range is spelled by a single key, the byte
-//! behind that key is set to zero once the whole frame is read, so that the end of the range lies in the frame too.
+//! No key is copied: a batch keeps the frame that it was read from. If a range is spelled by a single key, the byte
+//! after that key is set to zero once the complete frame is read, so that the end of the range is in the frame too.
 //!
 //! The layers above use [`decode_batch`] and [`decode_reply`], which decode exactly the frames that spell a value
 //! and name the first fault of any other; [`encode_batch`], [`encode_batch_1`] and [`encode_reply`], which encode
 //! them; [`Frames`], which iterates over the batches of a reader, however it cuts its bytes; [`read_reply`], which reads
 //! the next reply of a reader; [`upgrade`], which writes batches of either version anew in version 2; and
-//! [`write_all`], which gives a [`Sink`] a whole slice.
+//! [`write_all`], which gives a [`Sink`] a complete slice.
 #![tactic(auto)]
 
 mod batch;

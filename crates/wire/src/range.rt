@@ -112,7 +112,7 @@ fn range_of<'a>(
     }
 }
 
-/// Reads `count` ranges, and appends their spans to those that there are. After an error some of them may have been
+/// Reads `count` ranges, and appends their spans. After an error some of them may have been
 /// appended.
 pub fn push_ranges<'a>(
     version: WireVersion,
@@ -141,7 +141,7 @@ pub fn push_ranges<'a>(
     Ok(rest)
 }
 
-// Returns so many bytes of the frame, from an index on.
+// Returns n bytes of the frame, from an index on.
 fn part_of(frame: &[u8], from: u32, count: u16) -> &[u8]
     requires within { from + count ≤ length frame.now }
     ensures bytes { result.now ≡ bytes_at frame.now from count }

@@ -14,7 +14,7 @@ use std::alloc::Global;
 
 /// Returns the reply of the next frame, or `None` at the end of the input. Reads no byte beyond the frame.
 ///
-/// Where the reader tells its bytes, any other refusal than `Memory` and `Read` is the fault of those left. `Read` is returned
+/// If the reader reports its bytes, any other refusal than `Memory` and `Read` is the fault of those left. `Read` is returned
 /// only where the reader failed in this call.
 pub fn read_reply<R: Source>(alloc: Global, reader: &mut R) -> Result<Option<Reply>, WireError>
     ensures reply { IfOk result (λ found. IfSome found

@@ -9,13 +9,13 @@ use std::io::{ErrorKind, Write};
 
 /// A writer whose failures are counted.
 pub trait Sink {
-    // The bytes that it was given, where the writer tells them.
+    // The bytes that it was given, if the writer reports them.
     ghost given: { Self → Option (List ℕ) };
 
     // How often it has failed.
     ghost failures: { Self → ℕ };
 
-    /// Writes a beginning of the bytes and returns how many it took. Takes none of a non-empty slice only
+    /// Writes a prefix of the bytes and returns how many it took. Takes none of a non-empty slice only
     /// where it fails.
     fn write(&mut self, bytes: &[u8]) -> Result<usize, Failed>
         ensures bound { IfOk result (λ n. n ≤ length bytes.now) }
@@ -33,7 +33,7 @@ pub trait Sink {
         ensures failed { OnErr result (failures self.new ≡ failures self.old + 1) };
 }
 
-/// Writes all of the bytes, in as many calls as it takes. After a failure the sink was given a beginning of
+/// Writes all of the bytes, in as many calls as it takes. After a failure the sink was given a prefix of
 /// them.
 pub fn write_all<W: Sink>(writer: &mut W, bytes: &[u8]) -> Result<(), Failed>
     ensures whole { OnOk result (Appends (W.given writer.old) (W.given writer.new) bytes.now) }
@@ -63,7 +63,7 @@ pub fn write_and_flush<W: Sink>(writer: &mut W, bytes: &[u8]) -> Result<(), Fail
 
 /// A [`Sink`] over any writer of `std`. After an interruption it tries again, at most 1,000 times in one
 /// call. A writer that takes none of a non-empty slice has failed. Its count of failures stops at `u64::MAX`:
-/// from then on it tells no bytes and passes none on.
+/// from then on it reports no bytes and passes none on.
 #[derive(Debug, Drop)]
 pub struct StdSink<W> {
     writer: W,

@@ -12,7 +12,7 @@ pub struct Failed;
 
 /// A reader whose failures are counted.
 pub trait Source {
-    // The bytes that reads will give from here on, where the reader tells them.
+    // The bytes that reads will give from here on, if the reader reports them.
     ghost remaining: { Self → Option (List ℕ) };
 
     // How often it has failed.
@@ -35,7 +35,7 @@ pub trait Source {
 pub const MAX_RETRIES: u32 = 1_000;
 
 /// A [`Source`] over any reader of `std`. After an interruption it tries again, at most 1,000 times in one
-/// call. Its count of failures stops at `u64::MAX`: from then on it tells no bytes and gives none.
+/// call. Its count of failures stops at `u64::MAX`: from then on it reports no bytes and gives none.
 #[derive(Debug, Drop)]
 pub struct StdSource<R> {
     reader: R,

@@ -70,7 +70,7 @@ pub fn txns_of<'a>(
 {
     let room = room_for(count, MIN_TXN_LENGTH, bytes);
     let mut rows = Vec::with_capacity(alloc, room)?;
-    // Room for two ranges of each transaction, one read and one written. Where there are more, it grows.
+    // Room for two ranges of each transaction, one read and one written. If there are more, it grows.
     let mut spans = Vec::with_capacity(alloc, 2 * room)?;
     let mut rest = bytes;
     for _ in 0..count {

@@ -1,4 +1,4 @@
-//! Runs of bits in words. A run takes a mask at each end, and whole words between them.
+//! Runs of bits in words. A run takes a mask at each end, and full words between them.
 ghost use Rattle.std.specs.Prelude.{◌≡◌, ◌↔◌, ◌⊎◌, ℕ, ◌*◌, ◌/◌, ◌<◌, ◌≤◌, IsTrue, length};
 ghost use Rattle.std.specs.Int.{bit_at};
 ghost use Rattle.conflict.specs.Gaps.{HasBit, IsInRun, IsInWord};

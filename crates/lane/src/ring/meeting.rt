@@ -1,4 +1,4 @@
-//! The tokens of a lane's two ends, joined while one thread has both in hand.
+//! The tokens of a lane's two ends, joined while one thread has both.
 ghost use Rattle.std.specs.Prelude.{◌≡◌, true};
 ghost use Rattle.lane.specs.Ring.{that_takes, that_sends, that_does_both};
 ghost use Rattle.lane.specs.Ends.{IsTokenOf};
