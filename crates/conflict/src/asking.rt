@@ -1,8 +1,10 @@
-//! What is asked of the history for a batch: the first read range of each transaction, and then the others of those that this
-//! leaves open. It is what `ConflictBatch::checkReadConflictRanges` of FoundationDB 7.1 asks.
+//! What is asked of the history for a batch: the first read range of each transaction, and then the
+//! others of those that this leaves open. It is what `ConflictBatch::checkReadConflictRanges` of
+//! FoundationDB 7.1 asks.
 
 ghost use Rattle.std.specs.Prelude.{◌≡◌, ◌≤◌, ℤ, List, length, map, take, drop, Some, OnOk};
-ghost use Rattle.conflict.specs.Asking.{is_settled, first_asked, then_asked, all_first, all_then, all_parts};
+ghost use Rattle.conflict.specs.Asking.{is_settled, first_asked, then_asked, all_first, all_then};
+ghost use Rattle.conflict.specs.Asking.{all_parts};
 ghost use Rattle.conflict.specs.Asking.{query_named, AreAnswers, AreNamed};
 ghost use Rattle.keys.specs.declared.range.Range.{Range};
 
@@ -21,8 +23,8 @@ pub struct Part {
     pub others: usize,
 }
 
-/// What is asked of the history for a batch, and what it answers. The vectors are kept, so that a batch like those before it
-/// takes no memory for them.
+/// What is asked of the history for a batch, and what it answers. The vectors are kept, so that a
+/// batch like those before it takes no memory for them.
 #[derive(Debug, Drop)]
 pub struct Asking {
     asked: Vec<ReadName>,
@@ -45,13 +47,17 @@ impl Asking {
         }
     }
 
-    /// Asks the history twice for all transactions of the batch: first for one read range of each, and then for the others of
-    /// those that aren't settled. After an error the answers are unspecified.
+    /// Asks the history twice for all transactions of the batch: first for one read range of each,
+    /// and then for the others of those that aren't settled. After an error the answers are
+    /// unspecified.
     pub fn ask(&mut self, steps: &StepMap, oldest: i64, batch: &Batch) -> Result<(), AllocError>
-        ensures first { OnOk result (AreAnswers steps.now (all_first oldest batch.now.txns) self.new.first.items) }
-        ensures others { OnOk result (AreAnswers steps.now (all_then oldest batch.now.txns self.new.first.items)
+        ensures first { OnOk result (AreAnswers steps.now (all_first oldest batch.now.txns)
+            self.new.first.items) }
+        ensures others { OnOk result (AreAnswers steps.now
+            (all_then oldest batch.now.txns self.new.first.items)
             self.new.others.items) }
-        ensures parts { OnOk result (self.new.parts.items ≡ all_parts oldest batch.now.txns self.new.first.items) }
+        ensures parts { OnOk result (self.new.parts.items
+            ≡ all_parts oldest batch.now.txns self.new.first.items) }
         ensures each { OnOk result (length self.new.parts.items ≡ length batch.now.txns) }
     {
         list_first(&mut self.asked, oldest, batch)?;
@@ -76,8 +82,8 @@ fn list_first(asked: &mut Vec<ReadName>, oldest: i64, batch: &Batch) -> Result<(
     Ok(())
 }
 
-// Lists what is asked for all transactions then, in order, after the answers to what was asked first, and how many of the
-// answers are those of each.
+// Lists what is asked for all transactions then, in order, after the answers to what was asked
+// first, and how many of the answers are those of each.
 fn list_others(
     asked: &mut Vec<ReadName>,
     parts: &mut Vec<Part>,
@@ -126,7 +132,8 @@ fn answer(
     Ok(())
 }
 
-// Returns how many read ranges are asked for first: one, unless the transaction is too old or has none.
+// Returns how many read ranges are asked for first: one, unless the transaction is too old or has
+// none.
 fn first_count(txn: &TxnRef<'_>, oldest: i64) -> usize
     ensures reads { take result txn.now.reads ≡ first_asked oldest txn.now }
     ensures within { result ≤ length txn.now.reads }
@@ -137,8 +144,8 @@ fn first_count(txn: &TxnRef<'_>, oldest: i64) -> usize
     txn.reads.len().min(1)
 }
 
-// Returns from which read range on they are asked for then: from the second, unless the transaction is too old or the hits
-// settle it.
+// Returns from which read range on they are asked for then: from the second, unless the transaction
+// is too old or the hits settle it.
 fn others_from(txn: &TxnRef<'_>, oldest: i64, hits: &[bool]) -> usize
     ensures reads { drop result txn.now.reads ≡ then_asked oldest txn.now hits.now }
     ensures within { result ≤ length txn.now.reads }
@@ -150,7 +157,8 @@ fn others_from(txn: &TxnRef<'_>, oldest: i64, hits: &[bool]) -> usize
     count.min(1)
 }
 
-// Returns `true` if the hits settle the transaction: one is enough where its places aren't reported.
+// Returns `true` if the hits settle the transaction: one is enough where its places aren't
+// reported.
 fn is_settled_by(txn: &TxnRef<'_>, hits: &[bool]) -> bool
     ensures settled { result ≡ is_settled txn.now hits.now }
 {

@@ -1,6 +1,7 @@
 //! The conflict set: a batch is judged, its committed writes are written, and the sweep continues.
 
-ghost use Rattle.std.specs.Prelude.{◌≡◌, ◌<◌, ◌≤◌, ◌↔◌, ◌≤ℤ◌, ◌<ℤ◌, ◌-ℤ◌, pos, negsuc, ◌++◌, List, [], length};
+ghost use Rattle.std.specs.Prelude.{◌≡◌, ◌<◌, ◌≤◌, ◌↔◌, ◌≤ℤ◌, ◌<ℤ◌, ◌-ℤ◌, pos, negsuc, ◌++◌, List};
+ghost use Rattle.std.specs.Prelude.{[], length};
 ghost use Rattle.std.specs.Prelude.{None, Some, Err};
 ghost use Rattle.std.specs.Prelude.{IfOk, IfErr, OnOk, OnErr, IfSome, ◌⊎◌};
 ghost use Rattle.std.specs.Int.{int_max};
@@ -12,7 +13,8 @@ ghost use Rattle.stepmap.specs.Boundary.{AreUpTo};
 ghost use Rattle.stepmap.specs.declared.step_map.TheConstants.{MAX_LIMIT};
 ghost use Rattle.stepmap.specs.Covers.{MapCovers};
 ghost use Rattle.stepmap.specs.Rooted.{Rooted};
-ghost use Rattle.conflict.specs.ConflictSet.{new_set, Remembers, IsSwept, IsOverLimit, IsOverLimitUnited};
+ghost use Rattle.conflict.specs.ConflictSet.{new_set, Remembers, IsSwept, IsOverLimit};
+ghost use Rattle.conflict.specs.ConflictSet.{IsOverLimitUnited};
 ghost use Rattle.conflict.specs.ConflictSet.{raised, HasRoomToWrite, HasNoRoomToWrite};
 ghost use Rattle.conflict.specs.Pace.{IsPaced};
 ghost use Rattle.conflict.specs.Unknown.{unknown_until};
@@ -35,7 +37,8 @@ const _: () = prove!(MAX_WINDOW == 1_099_511_627_776);
 // How many boundaries the write of every key needs: one at the empty key, and two for the range.
 const LEAST_LIMIT_TO_START: usize = 3;
 
-/// The committed writes of the batches resolved so far, as far back as the window: `ConflictSet` of FoundationDB 7.1.
+/// The committed writes of the batches resolved so far, as far back as the window: `ConflictSet` of
+/// FoundationDB 7.1.
 #[derive(Debug, Drop)]
 pub struct ConflictSet {
     alloc: Global,
@@ -51,15 +54,21 @@ impl Model for ConflictSet {
 
     ghost Value = { SetState };
 
-    ghost view = { λ s. record { window = s.window; resolved = s.resolved; map = s.map; stop = s.stop } };
+    ghost view = { λ s. record {
+      window = s.window;
+      resolved = s.resolved;
+      map = s.map;
+      stop = s.stop;
+    } };
 
     ghost invariant = { λ s. IsSet
         (record { window = s.window; resolved = s.resolved; map = s.map; stop = s.stop }) };
 }
 
 impl ConflictSet {
-    /// Creates a set that has resolved nothing, or returns `Memory` if memory is refused. `window` is how far back it
-    /// remembers writes, in versions; it never keeps more boundaries than `limit`.
+    /// Creates a set that has resolved nothing, or returns `Memory` if memory is refused. `window`
+    /// is how far back it remembers writes, in versions; it never keeps more boundaries than
+    /// `limit`.
     pub fn new(alloc: Global, window: i64, limit: usize) -> Result<Self, SetStop>
         requires least_window { pos 1 ≤ℤ window }
         requires most_window { window ≤ℤ MAX_WINDOW }
@@ -79,11 +88,12 @@ impl ConflictSet {
         })
     }
 
-    /// Creates a set that starts at a version: what was written up to it isn't known. Each read range with a snapshot below
-    /// the version is in conflict, unless it is empty; the others are judged by what is resolved later. A set that starts at
-    /// -1 is that of [`ConflictSet::new`].
+    /// Creates a set that starts at a version: what was written up to it isn't known. Each read
+    /// range with a snapshot below the version is in conflict, unless it is empty; the others are
+    /// judged by what is resolved later. A set that starts at -1 is that of [`ConflictSet::new`].
     ///
-    /// Returns `ArenaFull` if the limit is below 3 and the version isn't -1, or `Memory` if memory is refused.
+    /// Returns `ArenaFull` if the limit is below 3 and the version isn't -1, or `Memory` if memory
+    /// is refused.
     pub fn new_at(alloc: Global, window: i64, limit: usize, version: i64) -> Result<Self, SetStop>
         requires least_window { pos 1 ≤ℤ window }
         requires most_window { window ≤ℤ MAX_WINDOW }
@@ -118,11 +128,12 @@ impl ConflictSet {
         })
     }
 
-    /// Judges a batch after all writes that the set remembers, and remembers what the batch commits.
+    /// Judges a batch after all writes that the set remembers, and remembers what the batch
+    /// commits.
     ///
-    /// An error is final: every later call returns the same one. The set still remembers what it remembered before.
-    /// `ArenaFull` says that the boundaries of the writes within the window, those of this batch included, exceed the
-    /// limit.
+    /// An error is final: every later call returns the same one. The set still remembers what it
+    /// remembered before. `ArenaFull` says that the boundaries of the writes within the window,
+    /// those of this batch included, exceed the limit.
     pub fn resolve(&mut self, batch: &Batch) -> Result<Reply, SetStop>
         requires rising { self.old.resolved <ℤ batch.now.version }
         ensures judged { IfOk result (λ reply. (ws : List Write) → MapCovers self.old.map ws
@@ -133,9 +144,11 @@ impl ConflictSet {
         ensures rooted { IfOk result (λ reply. (ws : List Write) → Rooted self.old.map ws
             → Rooted self.new.map (ws ++ writes_of batch.now reply)) }
         ensures swept { IfOk result (λ reply. (ws : List Write) → Rooted self.old.map ws
-            → IsSwept (edge self.old.window batch.now) self.old.map self.new.map (ws ++ writes_of batch.now reply)
+            → IsSwept (edge self.old.window batch.now) self.old.map self.new.map
+            (ws ++ writes_of batch.now reply)
             (committed batch.now.txns reply.entries)) }
-        ensures paced { IfOk result (λ reply. IsPaced (edge self.old.window batch.now) batch.now.version
+        ensures paced { IfOk result (λ reply. IsPaced (edge self.old.window batch.now)
+            batch.now.version
             self.old.map self.new.map (committed batch.now.txns reply.entries)) }
         ensures resolved { OnOk result (self.new.resolved ≡ batch.now.version) }
         ensures unresolved { OnErr result (self.new.resolved ≡ self.old.resolved) }
@@ -143,25 +156,33 @@ impl ConflictSet {
         ensures limit { self.new.map.limit ≡ self.old.map.limit }
         ensures goes_on { OnOk result ((self.old.stop ≡ None) × (self.new.stop ≡ None)) }
         ensures stops { IfErr result (λ stop. self.new.stop ≡ Some stop) }
-        ensures stopped { IfSome self.old.stop (λ stop. (result ≡ Err stop) × (self.new ≡ self.old)) }
-        ensures kept { IfErr result (λ _. (ws : List Write) → Remembers self.old ws → Remembers self.new ws) }
-        ensures full { self.old.stop ≡ None → result ≡ Err SetStop.ArenaFull → (ws : List Write) (reply : Reply)
+        ensures stopped { IfSome self.old.stop (λ stop. (result ≡ Err stop)
+            × (self.new ≡ self.old)) }
+        ensures kept { IfErr result (λ _. (ws : List Write) → Remembers self.old ws
+            → Remembers self.new ws) }
+        ensures full { self.old.stop ≡ None → result ≡ Err SetStop.ArenaFull
+            → (ws : List Write) (reply : Reply)
             → Remembers self.old ws → Judged self.old.window ws batch.now reply
-            → IsOverLimit self.old.map.limit (edge self.old.window batch.now) (ws ++ writes_of batch.now reply) }
-        ensures full_united { self.old.stop ≡ None → result ≡ Err SetStop.ArenaFull → (ws : List Write) (reply : Reply)
+            → IsOverLimit self.old.map.limit (edge self.old.window batch.now)
+            (ws ++ writes_of batch.now reply) }
+        ensures full_united { self.old.stop ≡ None → result ≡ Err SetStop.ArenaFull
+            → (ws : List Write) (reply : Reply)
             → Remembers self.old ws → Judged self.old.window ws batch.now reply
             → IsOverLimitUnited self.old.map.limit (edge self.old.window batch.now) ws
             (committed batch.now.txns reply.entries) }
 
-        // What the batch commits fits within the limit where it is resolved, and doesn't where the set is full. A stop for
-        // memory comes before a complete round is swept, or it fits then.
-        ensures room { IfOk result (λ reply. HasRoomToWrite (raised (edge self.old.window batch.now) self.old.map)
+        // What the batch commits fits within the limit where it is resolved, and doesn't where the
+        // set is full. A stop for memory comes before a complete round is swept, or it fits then.
+        ensures room { IfOk result (λ reply. HasRoomToWrite
+            (raised (edge self.old.window batch.now) self.old.map)
             (committed batch.now.txns reply.entries)) }
-        ensures no_room { self.old.stop ≡ None → result ≡ Err SetStop.ArenaFull → (ws : List Write) (reply : Reply)
+        ensures no_room { self.old.stop ≡ None → result ≡ Err SetStop.ArenaFull
+            → (ws : List Write) (reply : Reply)
             → Remembers self.old ws → Judged self.old.window ws batch.now reply
             → HasNoRoomToWrite (raised (edge self.old.window batch.now) self.old.map)
             (committed batch.now.txns reply.entries) }
-        ensures memory { self.old.stop ≡ None → result ≡ Err SetStop.Memory → (ws : List Write) (reply : Reply)
+        ensures memory { self.old.stop ≡ None → result ≡ Err SetStop.Memory
+            → (ws : List Write) (reply : Reply)
             → Remembers self.old ws → Judged self.old.window ws batch.now reply
             → (self.new.map.boundaries ≡ self.old.map.boundaries)
             ⊎ HasRoomToWrite (raised (edge self.old.window batch.now) self.old.map)
@@ -185,7 +206,8 @@ impl ConflictSet {
         }
     }
 
-    /// Returns the number of boundaries, that at the empty key included. It never exceeds the limit.
+    /// Returns the number of boundaries, that at the empty key included. It never exceeds the
+    /// limit.
     pub fn boundaries(&self) -> usize
         ensures count { result ≡ length self.now.map.boundaries }
         ensures within { result ≤ self.now.map.limit }
@@ -253,21 +275,28 @@ fn resolve_at(
     ensures rooted { IfOk result (λ reply. (ws : List Write) → Rooted steps.old ws
         → Rooted steps.new (ws ++ writes_of batch.now reply)) }
     ensures swept { IfOk result (λ reply. (ws : List Write) → Rooted steps.old ws
-        → IsSwept edge steps.old steps.new (ws ++ writes_of batch.now reply) (committed batch.now.txns reply.entries)) }
+        → IsSwept edge steps.old steps.new (ws ++ writes_of batch.now reply)
+        (committed batch.now.txns reply.entries)) }
     ensures paced { IfOk result (λ reply. IsPaced edge batch.now.version steps.old steps.new
         (committed batch.now.txns reply.entries)) }
     ensures edge { OnOk result (steps.new.edge ≡ edge) }
     ensures newest { OnOk result (AreUpTo batch.now.version steps.new.boundaries) }
     ensures limit { steps.new.limit ≡ steps.old.limit }
-    ensures still_covers { OnErr result ((ws : List Write) → MapCovers steps.old ws → MapCovers steps.new ws) }
-    ensures still_rooted { OnErr result ((ws : List Write) → Rooted steps.old ws → Rooted steps.new ws) }
+    ensures still_covers { OnErr result ((ws : List Write) → MapCovers steps.old ws
+        → MapCovers steps.new ws) }
+    ensures still_rooted { OnErr result ((ws : List Write) → Rooted steps.old ws
+        → Rooted steps.new ws) }
     ensures full { result ≡ Err SetStop.ArenaFull → (ws : List Write) (entries : List Entry)
-        → MapCovers steps.old ws → Rooted steps.old ws → entries ≡ judge_txns edge ws [] batch.now.txns
-        → IsOverLimit steps.old.limit edge (ws ++ at_version batch.now.version (committed batch.now.txns entries)) }
+        → MapCovers steps.old ws → Rooted steps.old ws
+        → entries ≡ judge_txns edge ws [] batch.now.txns
+        → IsOverLimit steps.old.limit edge
+        (ws ++ at_version batch.now.version (committed batch.now.txns entries)) }
     ensures full_united { result ≡ Err SetStop.ArenaFull → (ws : List Write) (entries : List Entry)
-        → MapCovers steps.old ws → Rooted steps.old ws → entries ≡ judge_txns edge ws [] batch.now.txns
+        → MapCovers steps.old ws → Rooted steps.old ws
+        → entries ≡ judge_txns edge ws [] batch.now.txns
         → IsOverLimitUnited steps.old.limit edge ws (committed batch.now.txns entries) }
-    ensures room { IfOk result (λ reply. HasRoomToWrite (raised edge steps.old) (committed batch.now.txns reply.entries)) }
+    ensures room { IfOk result (λ reply. HasRoomToWrite (raised edge steps.old)
+        (committed batch.now.txns reply.entries)) }
     ensures no_room { result ≡ Err SetStop.ArenaFull → (ws : List Write) (entries : List Entry)
         → MapCovers steps.old ws → entries ≡ judge_txns edge ws [] batch.now.txns
         → HasNoRoomToWrite (raised edge steps.old) (committed batch.now.txns entries) }

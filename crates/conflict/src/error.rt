@@ -10,7 +10,8 @@ use thiserror::Error;
 /// Why a conflict set resolves no more batches.
 #[derive(Clone, Copy, Debug, PartialEq, Eq, Hash, Error)]
 pub enum SetStop {
-    /// Memory was refused, or the keys of the boundaries would need more than 8,388,608 chunks of an arena.
+    /// Memory was refused, or the keys of the boundaries would need more than 8,388,608 chunks of
+    /// an arena.
     #[error("1 Memory")]
     Memory = 1,
     /// The boundaries that a batch needs exceed the limit.

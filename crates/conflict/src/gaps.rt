@@ -1,5 +1,5 @@
-//! A set of gaps between neighbouring keys, one bit a gap: `MiniConflictSet` of FoundationDB 7.1. Its words are kept from batch
-//! to batch.
+//! A set of gaps between neighbouring keys, one bit a gap: `MiniConflictSet` of FoundationDB 7.1.
+//! Its words are kept from batch to batch.
 ghost use Rattle.std.specs.Prelude.{◌≡◌, ◌↔◌, ◌⊎◌, ℕ, ◌≤◌, [], length, IsTrue, OnErr, OnOk};
 ghost use Rattle.conflict.specs.Gaps.{IsInRun, IsMarked, SomeMarked};
 
@@ -39,8 +39,8 @@ impl Gaps {
         }
     }
 
-    /// Sets the count of gaps and unmarks every gap. Takes memory only if the count exceeds all earlier ones.
-    /// An error leaves a count of 0.
+    /// Sets the count of gaps and unmarks every gap. Takes memory only if the count exceeds all
+    /// earlier ones. An error leaves a count of 0.
     pub fn reset(&mut self, count: usize) -> Result<(), AllocError>
         ensures count { OnOk result (length self.new ≡ count) }
         ensures unmarked { OnOk result ((gap : ℕ) → ¬ IsMarked self.new gap) }
@@ -58,7 +58,8 @@ impl Gaps {
         requires ordered { from ≤ to }
         requires within { to ≤ length self.old }
         ensures count { length self.new ≡ length self.old }
-        ensures marked { (gap : ℕ) → IsMarked self.new gap ↔ (IsMarked self.old gap ⊎ IsInRun from to gap) }
+        ensures marked { (gap : ℕ) → IsMarked self.new gap
+            ↔ (IsMarked self.old gap ⊎ IsInRun from to gap) }
     {
         if from < to {
             set_run(&mut self.words, from, to);

@@ -1,6 +1,8 @@
-//! The check of a batch against its own writes, by runs of gaps: `ConflictBatch::checkIntraBatchConflicts` of FoundationDB 7.1.
+//! The check of a batch against its own writes, by runs of gaps:
+//! `ConflictBatch::checkIntraBatchConflicts` of FoundationDB 7.1.
 
-ghost use Rattle.std.specs.Prelude.{◌≡◌, ◌<◌, ◌∷◌, ◌++◌, ℕ, List, [], length, position, if◌then◌else◌};
+ghost use Rattle.std.specs.Prelude.{◌≡◌, ◌<◌, ◌∷◌, ◌++◌, ℕ, List, [], length, position};
+ghost use Rattle.std.specs.Prelude.{if◌then◌else◌};
 ghost use Rattle.std.specs.Prelude.{All, IfOk, IfSome, OnOk};
 ghost use Rattle.keys.specs.declared.range.Range.{Range};
 ghost use Rattle.keys.specs.Ranks.{HaveBegin};
@@ -17,9 +19,9 @@ use crate::laws;
 use keyspace::{Batch, Entry, Places, TxnRef, Verdict};
 use std::alloc::{AllocError, Global};
 
-/// Judges in order each transaction that the history lets commit, after what the transactions before it write that
-/// commit. The runs are those of the ranges of all transactions, in order. After an error, which says that memory was
-/// refused, the entries are unspecified.
+/// Judges in order each transaction that the history lets commit, after what the transactions
+/// before it write that commit. The runs are those of the ranges of all transactions, in order.
+/// After an error, which says that memory was refused, the entries are unspecified.
 pub fn judge_in_batch(
     alloc: Global,
     batch: &Batch,
@@ -46,8 +48,9 @@ pub fn judge_in_batch(
     Ok(())
 }
 
-// Judges the transaction, which the history lets commit, after the ranges whose gaps are marked. If it commits, the gaps
-// of its write ranges are marked too. The runs are those of its read ranges and then of its write ranges.
+// Judges the transaction, which the history lets commit, after the ranges whose gaps are marked. If
+// it commits, the gaps of its write ranges are marked too. The runs are those of its read ranges
+// and then of its write ranges.
 fn judge_open(
     alloc: Global,
     runs: &[(u32, u32)],
@@ -80,7 +83,8 @@ fn judge_open(
 // Returns the index of the first run of which a gap is marked.
 fn first_met(gaps: &Gaps, runs: &[(u32, u32)]) -> Option<usize>
     requires within { AreRunsWithin (length gaps.now) runs.now }
-    ensures first { (keys : List (List ℕ)) (written ranges : List Range) → TellRuns keys runs.now ranges
+    ensures first { (keys : List (List ℕ)) (written ranges : List Range)
+        → TellRuns keys runs.now ranges
         → AreWrittenGaps keys gaps.now written → All (HaveBegin keys) written
         → result ≡ position (meets_earlier written) ranges }
     ensures within { IfSome result (λ place. place < length runs.now) }
@@ -106,7 +110,8 @@ fn place_if_marked(alloc: Global, txn: &TxnRef<'_>, place: usize) -> Result<Plac
 fn mark(gaps: &mut Gaps, runs: &[(u32, u32)])
     requires within { AreRunsWithin (length gaps.old) runs.now }
     ensures count { length gaps.new ≡ length gaps.old }
-    ensures marked { (keys : List (List ℕ)) (written ranges : List Range) → TellRuns keys runs.now ranges
+    ensures marked { (keys : List (List ℕ)) (written ranges : List Range)
+        → TellRuns keys runs.now ranges
         → AreWrittenGaps keys gaps.old written → AreWrittenGaps keys gaps.new (written ++ ranges) }
 {
     for (from, to) in runs {

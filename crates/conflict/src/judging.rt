@@ -1,4 +1,5 @@
-//! The judging of a batch: the history is asked for all transactions first, and then the batch in order.
+//! The judging of a batch: the history is asked for all transactions first, and then the batch in
+//! order.
 
 ghost use Rattle.std.specs.Prelude.{◌≡◌, ◌≤ℤ◌, List, [], length, map, IfOk};
 ghost use Rattle.keyspace.specs.Writes.{Write};

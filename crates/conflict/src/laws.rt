@@ -4,21 +4,23 @@ ghost use Rattle.conflict.specs.Written.{RunsTellOverlap};
 ghost use Rattle.conflict.specs.InBatch.{HistoryFirst};
 ghost use Rattle.conflict.specs.Unknown.{HitsCovered, CommitsCovered, HitsBelow, HitsFromOn};
 
-/// A range overlaps one of a list exactly if the run of one of these has a gap of its run, where the keys have the begins
-/// of those ranges that aren't empty.
+/// A range overlaps one of a list exactly if the run of one of these has a gap of its run, where
+/// the keys have the begins of those ranges that aren't empty.
 pub fn runs()
     ensures overlap { RunsTellOverlap }
 {
     keys::laws::runs();
 }
 
-/// The plain scan may ask the history for all transactions first, and then go through the batch in order.
+/// The plain scan may ask the history for all transactions first, and then go through the batch in
+/// order.
 pub fn history_first()
     ensures scan { HistoryFirst }
 {}
 
-/// One write of every key represents a history that isn't known. It hits what any history up to its version hits: each read
-/// range with a snapshot below the version, unless that is empty. It hits no other.
+/// One write of every key represents a history that isn't known. It hits what any history up to its
+/// version hits: each read range with a snapshot below the version, unless that is empty. It hits
+/// no other.
 pub fn unknown_history()
     ensures covered { HitsCovered }
     ensures commits { CommitsCovered }

@@ -8,8 +8,9 @@ ghost use Rattle.conflict.specs.Union.{picked};
 use keyspace::{Batch, Entry, Verdict};
 use std::alloc::AllocError;
 
-/// Replaces the marks by one for each range of the batch, in order: those of the write ranges of committed transactions are
-/// `true`, and all others `false`. After an error the marks are unspecified.
+/// Replaces the marks by one for each range of the batch, in order: those of the write ranges of
+/// committed transactions are `true`, and all others `false`. After an error the marks are
+/// unspecified.
 pub fn mark_written(
     written: &mut Vec<bool>,
     batch: &Batch,

@@ -1,6 +1,7 @@
 //! The read ranges of the transactions of a batch, by indices, and the queries that they are.
 
-ghost use Rattle.std.specs.Prelude.{◌≡◌, ◌≤◌, ◌++◌, length, map, slice_get, slice_range, Some, IsSomeAnd, OnOk};
+ghost use Rattle.std.specs.Prelude.{◌≡◌, ◌≤◌, ◌++◌, length, map, slice_get, slice_range, Some};
+ghost use Rattle.std.specs.Prelude.{IsSomeAnd, OnOk};
 ghost use Rattle.keyspace.specs.declared.txn.Txn.{Txn};
 ghost use Rattle.conflict.specs.Asking.{asked_at, query_named, queries_named, AreNamed};
 
@@ -17,7 +18,8 @@ pub struct ReadName {
     pub range: u32,
 }
 
-/// Appends the names of those read ranges of the transaction at the index that stand from one index up to another.
+/// Appends the names of those read ranges of the transaction at the index that stand from one index
+/// up to another.
 pub fn push_reads(
     names: &mut Vec<ReadName>,
     txns: &Txns,

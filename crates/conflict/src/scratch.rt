@@ -8,8 +8,8 @@ use crate::union::Union;
 use std::alloc::Global;
 use stepmap::KeyLengths;
 
-/// What is made of a batch while it is resolved. The vectors are kept, so that a batch like those before it takes no memory
-/// for them.
+/// What is made of a batch while it is resolved. The vectors are kept, so that a batch like those
+/// before it takes no memory for them.
 #[derive(Debug, Drop)]
 pub struct Scratch {
     /// What is asked of the history for it.

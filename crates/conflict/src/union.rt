@@ -1,6 +1,8 @@
-//! The union of the ranges that a batch writes: `ConflictBatch::combineWriteConflictRanges` of FoundationDB 7.1.
+//! The union of the ranges that a batch writes: `ConflictBatch::combineWriteConflictRanges` of
+//! FoundationDB 7.1.
 
-ghost use Rattle.std.specs.Prelude.{◌≡◌, ◌<◌, ◌++◌, ◌∷◌, ℕ, List, [], length, All, IsTrue, OnOk, Some, slice_get};
+ghost use Rattle.std.specs.Prelude.{◌≡◌, ◌<◌, ◌++◌, ◌∷◌, ℕ, List, [], length, All, IsTrue, OnOk};
+ghost use Rattle.std.specs.Prelude.{Some, slice_get};
 ghost use Rattle.keys.specs.Key.{IsAtMost, IsBefore};
 ghost use Rattle.keys.specs.Range.{IsEmpty};
 ghost use Rattle.keys.specs.Ranks.{run_or_none, runs_of, AreRanked};
@@ -21,7 +23,8 @@ pub struct Span {
     pub end: usize,
 }
 
-/// The ranges that a batch writes, united. Contracts see the list of the spans. The vector is kept for the next batch.
+/// The ranges that a batch writes, united. Contracts see the list of the spans. The vector is kept
+/// for the next batch.
 #[derive(Debug, Drop)]
 pub struct Union {
     spans: Vec<Span>,
@@ -46,9 +49,10 @@ impl Union {
         }
     }
 
-    /// Replaces the spans by those of ranges that unite the ones marked as written. `order` lists ranges that aren't empty in the
-    /// order of their begins, and all of these that are marked. The ranks are those of all ranges. After an error the spans are unspecified, and the next call starts
-    /// anew.
+    /// Replaces the spans by those of ranges that unite the ones marked as written. `order` lists
+    /// ranges that aren't empty in the order of their begins, and all of these that are marked. The
+    /// ranks are those of all ranges. After an error the spans are unspecified, and the next call
+    /// starts anew.
     pub fn gather<L: RangeList>(
         &mut self,
         ranges: &L,
@@ -59,7 +63,8 @@ impl Union {
         requires ranked { AreRanked (L.ranges ranges.now) ranks.now }
         requires in_order { HaveWrittenInOrder (L.ranges ranges.now) written.now order.now }
         requires count { length written.now ≡ length (L.ranges ranges.now) }
-        ensures united { OnOk result ((united : List Range) × AreSpanned (L.ranges ranges.now) self.new united
+        ensures united { OnOk result ((united : List Range)
+            × AreSpanned (L.ranges ranges.now) self.new united
             × Unites united (picked written.now (L.ranges ranges.now))) }
     {
         let runs = ranks.runs();
@@ -73,8 +78,9 @@ impl Union {
         Ok(())
     }
 
-    // Adds the range at the index, which doesn't begin before any that was added. It is united with the last span unless it
-    // begins after its end. Most often the runs show that it does, so that no byte of a key is read.
+    // Adds the range at the index, which doesn't begin before any that was added. It is united with
+    // the last span unless it begins after its end. Most often the runs show that it does, so that
+    // no byte of a key is read.
     fn add<L: RangeList>(
         &mut self,
         ranges: &L,
@@ -83,7 +89,8 @@ impl Union {
     ) -> Result<(), AllocError>
         requires runs { (keys : List (List ℕ)) × (runs.now ≡ runs_of keys (L.ranges ranges.now)) }
         requires within { index < length (L.ranges ranges.now) }
-        requires spanned { (united : List Range) × AreSpanned (L.ranges ranges.now) self.old united }
+        requires spanned { (united : List Range)
+            × AreSpanned (L.ranges ranges.now) self.old united }
         ensures added { OnOk result ((range : Range) (added : List Range)
             → slice_get (L.ranges ranges.now) index ≡ Some range → ¬ IsEmpty range
             → All (λ earlier. IsAtMost earlier.begin range.begin) added
@@ -117,10 +124,11 @@ impl Union {
     }
 }
 
-// Returns whether the runs show that the first range ends before the second one begins: a begin is between. If it is false
-// they may be apart, too.
+// Returns whether the runs show that the first range ends before the second one begins: a begin is
+// between. If it is false they may be apart, too.
 fn are_told_apart(first: (u32, u32), second: (u32, u32)) -> bool
-    ensures apart { IsTrue result → (keys : List (List ℕ)) (a b : Range) → first ≡ run_or_none keys a → second ≡ run_or_none keys b
+    ensures apart { IsTrue result → (keys : List (List ℕ)) (a b : Range)
+        → first ≡ run_or_none keys a → second ≡ run_or_none keys b
         → IsBefore a.end b.begin }
 {
     // The run of an empty range ends at 0.

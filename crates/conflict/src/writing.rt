@@ -1,5 +1,5 @@
-//! The writing of what a batch commits, as ranges apart that hold the same keys: `ConflictBatch::mergeWriteConflictRanges` of
-//! FoundationDB 7.1.
+//! The writing of what a batch commits, as ranges apart that hold the same keys:
+//! `ConflictBatch::mergeWriteConflictRanges` of FoundationDB 7.1.
 
 ghost use Rattle.std.specs.Prelude.{◌≡◌, ◌+◌, ◌*◌, ◌<◌, ◌≤◌, ◌≤ℤ◌, ◌⊎◌, List, ◌++◌, length, map};
 ghost use Rattle.std.specs.Prelude.{OnOk, OnErr, IfOk, MatchOption, Err, Some, slice_get};
@@ -18,7 +18,8 @@ ghost use Rattle.stepmap.specs.Uniting.{Unites};
 ghost use Rattle.stepmap.specs.Laws.{IsWriting};
 ghost use Rattle.conflict.specs.declared.union.Span as span_type;
 ghost use Rattle.conflict.specs.Union.{Spans, AreSpanned};
-ghost use Rattle.conflict.specs.ConflictSet.{IsOverLimit, IsOverLimitUnited, HasRoomToWrite, HasNoRoomToWrite};
+ghost use Rattle.conflict.specs.ConflictSet.{IsOverLimit, IsOverLimitUnited, HasRoomToWrite};
+ghost use Rattle.conflict.specs.ConflictSet.{HasNoRoomToWrite};
 ghost use Rattle.conflict.specs.Pace.{after_writes, with_written};
 
 use crate::error::SetStop;
@@ -30,8 +31,8 @@ use keyspace::{Batch, Entry, Txns};
 use std::alloc::AllocError;
 use stepmap::{KeyLengths, StepMap, laws};
 
-/// Writes what the batch commits, at its version, and returns the number of the ranges that it is united to. The entries are
-/// those of its transactions, in order.
+/// Writes what the batch commits, at its version, and returns the number of the ranges that it is
+/// united to. The entries are those of its transactions, in order.
 ///
 /// An error leaves the function as it was at and above the edge.
 pub fn write_batch(
@@ -51,20 +52,25 @@ pub fn write_batch(
         × Unites united (committed batch.now.txns entries.now) × (length united ≡ count)
         × (steps.new ≡ with_written united batch.now.version steps.old)) }
     ensures covers { OnOk result ((ws : List Write) → MapCovers steps.old ws
-        → MapCovers steps.new (ws ++ at_version batch.now.version (committed batch.now.txns entries.now))) }
+        → MapCovers steps.new (ws ++ at_version batch.now.version
+        (committed batch.now.txns entries.now))) }
     ensures rooted { OnOk result ((ws : List Write) → Rooted steps.old ws
-        → Rooted steps.new (ws ++ at_version batch.now.version (committed batch.now.txns entries.now))) }
+        → Rooted steps.new (ws ++ at_version batch.now.version
+        (committed batch.now.txns entries.now))) }
     ensures swept { IfOk result (λ count. (ws : List Write) → Rooted steps.old ws
         → rooted_by.Ends steps.new.boundaries
         (ws ++ at_version batch.now.version (committed batch.now.txns entries.now)) steps.old.edge
         ⊎ ((steps.new.round ≡ steps.old.round) × (rest steps.new ≤ rest steps.old + 2 * count))) }
-    ensures still_covers { OnErr result ((ws : List Write) → MapCovers steps.old ws → MapCovers steps.new ws) }
-    ensures still_rooted { OnErr result ((ws : List Write) → Rooted steps.old ws → Rooted steps.new ws) }
+    ensures still_covers { OnErr result ((ws : List Write) → MapCovers steps.old ws
+        → MapCovers steps.new ws) }
+    ensures still_rooted { OnErr result ((ws : List Write) → Rooted steps.old ws
+        → Rooted steps.new ws) }
     ensures full { result ≡ Err SetStop.ArenaFull → (ws : List Write) → Rooted steps.old ws
         → IsOverLimit steps.old.limit steps.old.edge
         (ws ++ at_version batch.now.version (committed batch.now.txns entries.now)) }
     ensures full_united { result ≡ Err SetStop.ArenaFull → (ws : List Write) → Rooted steps.old ws
-        → IsOverLimitUnited steps.old.limit steps.old.edge ws (committed batch.now.txns entries.now) }
+        → IsOverLimitUnited steps.old.limit steps.old.edge ws
+        (committed batch.now.txns entries.now) }
     ensures room { OnOk result (HasRoomToWrite steps.old (committed batch.now.txns entries.now)) }
     ensures no_room { result ≡ Err SetStop.ArenaFull
         → HasNoRoomToWrite steps.old (committed batch.now.txns entries.now) }
@@ -96,7 +102,8 @@ fn gather_lengths<L: RangeList>(
     spans: &[Span],
 ) -> Result<(), AllocError>
     requires spanned { (united : List Range) × AreSpanned (L.ranges ranges.now) spans.now united }
-    ensures lengths { OnOk result ((united : List Range) → AreSpanned (L.ranges ranges.now) spans.now united
+    ensures lengths { OnOk result ((united : List Range)
+        → AreSpanned (L.ranges ranges.now) spans.now united
         → lengths.new.items ≡ map map_of.lengths united) }
     ensures count { OnOk result (length lengths.new.items ≡ length spans.now) }
 {
@@ -118,7 +125,8 @@ fn note_keys(steps: &mut StepMap, txns: &Txns, spans: &[Span], version: i64)
     }
 }
 
-// Returns the hash of the united range of the span, if that is one of the batch's ranges and a single key.
+// Returns the hash of the united range of the span, if that is one of the batch's ranges and a
+// single key.
 fn single_hash(txns: &Txns, span: Span) -> Option<u32> {
     if span.begin == span.end {
         return txns.hash(span.begin);
@@ -126,11 +134,12 @@ fn single_hash(txns: &Txns, span: Span) -> Option<u32> {
     None
 }
 
-// Writes the united ranges in sequence, if none is written yet. Takes no memory. The next range is looked up
-// before each write, so that its keys are read during the write.
+// Writes the united ranges in sequence, if none is written yet. Takes no memory. The next range is
+// looked up before each write, so that its keys are read during the write.
 fn write_prepared(steps: &mut StepMap, txns: &Txns, spans: &[Span], version: i64)
     requires spanned { (united : List Range) × AreSpanned (ranges_in txns.now) spans.now united }
-    requires apart { (united : List Range) → AreSpanned (ranges_in txns.now) spans.now united → AreApart united }
+    requires apart { (united : List Range) → AreSpanned (ranges_in txns.now) spans.now united
+        → AreApart united }
     requires start { (united : List Range) → AreSpanned (ranges_in txns.now) spans.now united
         → IsWriting united version 0 steps.old steps.old }
     ensures written { (united : List Range) → AreSpanned (ranges_in txns.now) spans.now united
@@ -162,7 +171,8 @@ fn range_at<'a>(txns: &'a Txns, spans: &[Span], index: usize) -> Option<HashedRa
     }
 }
 
-// Returns the united range of the span with its hash, which is known where it is one of the batch's ranges.
+// Returns the united range of the span with its hash, which is known where it is one of the batch's
+// ranges.
 fn hashed_of<'a>(txns: &'a Txns, span: Span) -> HashedRange<'a>
     requires spans { (range : Range) × Spans (ranges_in txns.now) span range }
     ensures spans { Spans (ranges_in txns.now) span result }

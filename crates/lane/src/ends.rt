@@ -1,7 +1,8 @@
 //! How a lane is made: both of its ends at once.
 
 ghost use Rattle.std.specs.Prelude.{◌≡◌, ◌<◌, ◌≤◌, ◌↔◌, IsTrue, IfOk};
-ghost use Rattle.lane.specs.Lane.{Lane, SameLane, SeesWhatIs, PortGoesOn, IntakeGoesOn, new_port, new_intake};
+ghost use Rattle.lane.specs.Lane.{Lane, SameLane, SeesWhatIs, PortGoesOn, IntakeGoesOn, new_port};
+ghost use Rattle.lane.specs.Lane.{new_intake};
 
 use crate::error::LaneError;
 use crate::intake::Intake;
@@ -16,8 +17,8 @@ pub const MAX_CAPACITY: usize = 1_024;
 
 const _: () = prove!(MAX_CAPACITY == 1_024);
 
-/// Makes a lane that holds at most `capacity` items, and returns its two ends. Each may go to a thread of its
-/// own.
+/// Makes a lane that holds at most `capacity` items, and returns its two ends. Each may go to a
+/// thread of its own.
 pub fn lane<T: Drop>(alloc: Global, capacity: usize) -> Result<(Port<T>, Intake<T>), LaneError>
     requires some { 0 < capacity }
     requires limit { capacity ≤ MAX_CAPACITY }
@@ -29,7 +30,8 @@ pub fn lane<T: Drop>(alloc: Global, capacity: usize) -> Result<(Port<T>, Intake<
     Ok((Port::new(sends, capacity), Intake::new(takes, capacity)))
 }
 
-/// Returns whether all that was sent on the lane is taken. Each end looks at the other, and sees what is.
+/// Returns whether all that was sent on the lane is taken. Each end looks at the other, and sees
+/// what is.
 pub fn agree<T>(port: &mut Port<T>, intake: &mut Intake<T>) -> bool
     requires same_lane { SameLane port.old intake.old }
     ensures lane_before { Lane port.old intake.old }

@@ -1,13 +1,16 @@
 //! The end of a lane that takes.
 
-ghost use Rattle.std.specs.Prelude.{◌≡◌, ◌<◌, ◌≤◌, ◌+◌, ◌^◌, [], ◌∷◌, ◌++◌, true, false, length, drop, slice_get, Some};
+ghost use Rattle.std.specs.Prelude.{◌≡◌, ◌<◌, ◌≤◌, ◌+◌, ◌^◌, [], ◌∷◌, ◌++◌, true, false, length};
+ghost use Rattle.std.specs.Prelude.{drop, slice_get, Some};
 ghost use Rattle.std.specs.Arc.{arc_value};
-ghost use Rattle.lane.specs.Lane.{Lane, SameLane, SeesWhatIs, PortGoesOn, IntakeGoesOn, HasEnded, new_intake};
+ghost use Rattle.lane.specs.Lane.{Lane, SameLane, SeesWhatIs, PortGoesOn, IntakeGoesOn, HasEnded};
+ghost use Rattle.lane.specs.Lane.{new_intake};
 ghost use Rattle.lane.specs.Ends.{IsIntake, AreTaken, IsTokenOf};
 ghost use Rattle.lane.specs.Moves.{GoesOnBy, sent_by};
 ghost use Rattle.lane.specs.declared.moves.Move.TheVariants.{IntakeLook};
 ghost use Rattle.lane.specs.Ring.{Agree, new_intake_knows};
-ghost use Rattle.lane.specs.Steps.{TailLooked, HoldsNext, Found, HoldsEmpty, Emptied, Took, intake_took, NextOf};
+ghost use Rattle.lane.specs.Steps.{TailLooked, HoldsNext, Found, HoldsEmpty, Emptied, Took};
+ghost use Rattle.lane.specs.Steps.{intake_took, NextOf};
 ghost use Rattle.lane.specs.Taken.{items_of, next_of, IfEmpty, IfEnd};
 ghost use Rattle.lane.specs.declared.intake.Taken.TheVariants.{Item, Empty, End};
 
@@ -31,8 +34,8 @@ pub enum Taken<T> {
     End,
 }
 
-/// What an intake counts: how many items it has taken, how many its last look found sent, and whether that look
-/// found the close.
+/// What an intake counts: how many items it has taken, how many its last look found sent, and
+/// whether that look found the close.
 #[derive(Drop)]
 pub(crate) struct IntakeCounts {
     pub(crate) capacity: usize,
@@ -68,7 +71,8 @@ impl<T> Model for Intake<T> {
       log = t.token.me.0.intake.log;
     } };
 
-    ghost invariant = { λ t. IsIntake (arc_value t.ring).shared.table_id t.token (padded_value t.counts) };
+    ghost invariant = { λ t. IsIntake (arc_value t.ring).shared.table_id t.token
+        (padded_value t.counts) };
 }
 
 impl<T> Intake<T> {
@@ -93,8 +97,8 @@ impl<T> Intake<T> {
         }
     }
 
-    /// Takes the next item, in the order sent, or reports that the lane is empty or at its end. After `End` the
-    /// answer is always `End`.
+    /// Takes the next item, in the order sent, or reports that the lane is empty or at its end.
+    /// After `End` the answer is always `End`.
     pub fn take(&mut self) -> Taken<T>
         ensures intake { IntakeGoesOn self.old self.new }
         ensures taken { self.new.taken ≡ self.old.taken ++ items_of result }
@@ -113,8 +117,8 @@ impl<T> Intake<T> {
         next(&self.ring, &mut self.token, &mut self.counts)
     }
 
-    /// Takes the next item, together with the port of the same lane: the answer is `Empty` or `End` only if all
-    /// that was sent is taken. Where it looks, it sees what is.
+    /// Takes the next item, together with the port of the same lane: the answer is `Empty` or `End`
+    /// only if all that was sent is taken. Where it looks, it sees what is.
     pub fn take_beside(&mut self, port: &mut Port<T>) -> Taken<T>
         requires same_lane { SameLane port.old self.old }
         ensures lane_before { Lane port.old self.old }
@@ -125,7 +129,8 @@ impl<T> Intake<T> {
         ensures intake { IntakeGoesOn self.old self.new }
         ensures looked { SeesWhatIs port.old self.old port.new self.new }
         ensures taken { self.new.taken ≡ self.old.taken ++ items_of result }
-        ensures next { result ≡ next_of (drop (length self.old.taken) port.old.sent) port.old.closed }
+        ensures next { result ≡ next_of (drop (length self.old.taken) port.old.sent)
+            port.old.closed }
         ensures end { IfEnd result (HasEnded self.new) }
     {
         let Some(theirs) = port.token.take() else {
@@ -146,7 +151,8 @@ impl<T> Intake<T> {
     }
 }
 
-// The intake's look: it loads tail. Nothing else changes what the intake has seen sent, or that it has seen the close.
+// The intake's look: it loads tail. Nothing else changes what the intake has seen sent, or that it
+// has seen the close.
 pub(crate) fn look<T>(ring: &Ring<T>, token: &mut Token<T>, counts: &mut IntakeCounts)
     requires intake { IsIntake ring.now.shared.table_id token.old counts.old }
     ensures intake { IsIntake ring.now.shared.table_id token.new counts.new }
@@ -183,7 +189,10 @@ fn pop<T>(ring: &Ring<T>, token: &mut Token<T>, counts: &mut IntakeCounts) -> T
     requires seen { counts.old.taken < counts.old.seen_sent }
     ensures intake { IsIntake ring.now.shared.table_id token.new counts.new }
     ensures took { token.new.me.0
-        ≡ record token.old.me.0 { intake = intake_took token.old.me.0.intake result token.new.me.0.intake.log } }
+        ≡ record token.old.me.0 {
+          intake = intake_took token.old.me.0.intake result
+              token.new.me.0.intake.log;
+        } }
     ensures agree { token.old.me.0.sends ≡ true
         → Agree token.old.me.0.port token.new.me.0.intake ring.now.shared.table_id.slots }
     ensures sent { token.old.me.0.sends ≡ true
@@ -222,7 +231,8 @@ fn empty<T>(ring: &Ring<T>, token: &mut Token<T>, counts: &IntakeCounts) -> T
 
 // Stores head, one larger, and with it gives back the slot, which is empty.
 fn free<T>(ring: &Ring<T>, token: &mut Token<T>, counts: &mut IntakeCounts)
-    requires ring { (token.old.table_id ≡ ring.now.shared.table_id) × (ring.now.shared.table_id.words ≡ 17) }
+    requires ring { (token.old.table_id ≡ ring.now.shared.table_id)
+        × (ring.now.shared.table_id.words ≡ 17) }
     requires counts { AreTaken ring.now.shared.table_id.slots token.old.me.0 counts.old }
     requires seen { counts.old.taken < counts.old.seen_sent }
     requires slot { HoldsEmpty ring.now.shared.table_id.slots token.old.me }

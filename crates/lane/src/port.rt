@@ -1,6 +1,7 @@
 //! The end of a lane that sends.
 
-ghost use Rattle.std.specs.Prelude.{◌≡◌, ◌+◌, ◌^◌, ◌<◌, ◌≤◌, ◌↔◌, true, false, [], ◌∷◌, ◌++◌, length};
+ghost use Rattle.std.specs.Prelude.{◌≡◌, ◌+◌, ◌^◌, ◌<◌, ◌≤◌, ◌↔◌, true, false, [], ◌∷◌, ◌++◌};
+ghost use Rattle.std.specs.Prelude.{length};
 ghost use Rattle.std.specs.Prelude.{Err, IsOk, OnOk, OnErr, IfErr, IsTrue};
 ghost use Rattle.std.specs.Arc.{arc_value};
 ghost use Rattle.lane.specs.Lane.{PortGoesOn, new_port};
@@ -8,7 +9,8 @@ ghost use Rattle.lane.specs.Moves.{GoesOnBy, taken_by};
 ghost use Rattle.lane.specs.declared.moves.Move.TheVariants.{PortLook};
 ghost use Rattle.lane.specs.Ends.{IsPort, AreSent, IsTokenOf};
 ghost use Rattle.lane.specs.Ring.{new_port_knows};
-ghost use Rattle.lane.specs.Steps.{HeadLooked, HoldsVacant, Claimed, HoldsItem, Filled, Sent, port_sent};
+ghost use Rattle.lane.specs.Steps.{HeadLooked, HoldsVacant, Claimed, HoldsItem, Filled, Sent};
+ghost use Rattle.lane.specs.Steps.{port_sent};
 ghost use Rattle.lane.specs.Refused.{item_of};
 ghost use Rattle.lane.specs.declared.port.Refused.TheVariants.{Full, Closed, Worn};
 
@@ -35,8 +37,8 @@ pub enum Refused<T> {
     Worn(T),
 }
 
-/// What a port counts: how many items it has sent, how many its last look found taken, and whether it has closed
-/// the lane.
+/// What a port counts: how many items it has sent, how many its last look found taken, and whether
+/// it has closed the lane.
 #[derive(Drop)]
 pub(crate) struct PortCounts {
     pub(crate) capacity: usize,
@@ -73,7 +75,8 @@ impl<T> Model for Port<T> {
       log = (port_of p.token).log;
     } };
 
-    ghost invariant = { λ p. HasPort (arc_value p.ring).shared.table_id p.token (padded_value p.counts) };
+    ghost invariant = { λ p. HasPort (arc_value p.ring).shared.table_id p.token
+        (padded_value p.counts) };
 }
 
 impl<T> Port<T> {
@@ -82,7 +85,8 @@ impl<T> Port<T> {
         requires capacity { (arc_value part.ring).shared.table_id.slots ≡ capacity }
         requires sends { part.token.me.0.sends ≡ true }
         requires nothing_sent { part.token.me.0.port ≡ new_port_knows }
-        ensures port { result ≡ new_port record { ring = (arc_value part.ring).shared.table_id } capacity }
+        ensures port { result ≡ new_port record { ring = (arc_value part.ring).shared.table_id }
+            capacity }
     {
         let Part { ring, token } = part;
         Port {
@@ -97,9 +101,9 @@ impl<T> Port<T> {
         }
     }
 
-    /// Sends the item. A refusal hands it back: `Closed` after [`Port::close`], else `Worn` after [`MAX_SENT`]
-    /// items, else `Full` where the port, looking anew in that call, has seen none of the last `capacity` items
-    /// taken.
+    /// Sends the item. A refusal hands it back: `Closed` after [`Port::close`], else `Worn` after
+    /// [`MAX_SENT`] items, else `Full` where the port, looking anew in that call, has seen none of
+    /// the last `capacity` items taken.
     pub fn send(&mut self, item: T) -> Result<(), Refused<T>>
         ensures port { PortGoesOn self.old self.new }
         ensures sent { OnOk result (self.new.sent ≡ self.old.sent ++ item ∷ []) }
@@ -115,11 +119,13 @@ impl<T> Port<T> {
         ensures full { result ≡ Err (Refused.Full item)
             → length self.new.sent ≡ self.new.seen_taken + self.new.capacity }
         // That look is the last move of the log. At that moment the lane held `capacity` items.
-        ensures full_look { result ≡ Err (Refused.Full item) → GoesOnBy PortLook self.old.log self.new.log }
+        ensures full_look { result ≡ Err (Refused.Full item)
+            → GoesOnBy PortLook self.old.log self.new.log }
         ensures full_then { result ≡ Err (Refused.Full item)
             → length self.new.sent ≡ taken_by self.new.log + self.new.capacity }
 
-        // An open lane with room by what the port has seen taken refuses nothing but the item after the last.
+        // An open lane with room by what the port has seen taken refuses nothing but the item after
+        // the last.
         ensures room { self.old.closed ≡ false → length self.old.sent < MAX_SENT
             → length self.old.sent < self.old.seen_taken + self.old.capacity → IsOk result }
     {
@@ -176,7 +182,8 @@ fn is_full(counts: &PortCounts) -> bool
 pub(crate) fn look<T>(ring: &Ring<T>, token: &mut Token<T>, counts: &mut PortCounts)
     requires port { IsPort ring.now.shared.table_id token.old counts.old }
     ensures port { IsPort ring.now.shared.table_id token.new counts.new }
-    ensures looked { HeadLooked ring.now.shared.table_id.slots token.old.me counts.new.seen_taken token.new.me }
+    ensures looked { HeadLooked ring.now.shared.table_id.slots token.old.me counts.new.seen_taken
+        token.new.me }
 {
     counts.seen_taken = ring.shared.load::<LooksAtHead>(token, HEAD);
 }
@@ -189,7 +196,10 @@ fn push<T>(ring: &Ring<T>, token: &mut Token<T>, counts: &mut PortCounts, item: 
     requires room { counts.old.sent < counts.old.seen_taken + counts.old.capacity }
     ensures port { IsPort ring.now.shared.table_id token.new counts.new }
     ensures sent { token.new.me.0
-        ≡ record token.old.me.0 { port = port_sent token.old.me.0.port item token.new.me.0.port.log } }
+        ≡ record token.old.me.0 {
+          port = port_sent token.old.me.0.port item
+              token.new.me.0.port.log;
+        } }
 {
     claim(ring, token, counts);
     fill(ring, token, counts, item);
@@ -221,7 +231,8 @@ fn fill<T>(ring: &Ring<T>, token: &mut Token<T>, counts: &PortCounts, item: T)
 
 // Stores tail, one larger, and with it gives back the slot, which has the item.
 fn publish<T>(ring: &Ring<T>, token: &mut Token<T>, counts: &mut PortCounts)
-    requires ring { (token.old.table_id ≡ ring.now.shared.table_id) × (ring.now.shared.table_id.words ≡ 17) }
+    requires ring { (token.old.table_id ≡ ring.now.shared.table_id)
+        × (ring.now.shared.table_id.words ≡ 17) }
     requires counts { AreSent ring.now.shared.table_id.slots token.old.me.0 counts.old }
     requires item { HoldsItem ring.now.shared.table_id.slots token.old.me }
     requires open { counts.old.closed ≡ false }
@@ -240,7 +251,8 @@ fn close<T>(ring: &Ring<T>, token: &mut Token<T>, counts: &mut PortCounts)
     requires port { IsPort ring.now.shared.table_id token.old counts.old }
     requires open { counts.old.closed ≡ false }
     ensures port { IsPort ring.now.shared.table_id token.new counts.new }
-    ensures closed { token.new.me.0 ≡ record token.old.me.0 { port = record token.old.me.0.port { closed = true } } }
+    ensures closed { token.new.me.0
+        ≡ record token.old.me.0 { port = record token.old.me.0.port { closed = true } } }
 {
     counts.closed = true;
     ring.shared

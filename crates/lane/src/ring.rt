@@ -1,7 +1,8 @@
-//! The ring that the two ends of a lane share: two words and the slots, and what a token of it knows.
+//! The ring that the two ends of a lane share: two words and the slots, and what a token of it
+//! knows.
 //!
-//! Item number k, from 0, is in slot k mod capacity. Head counts the items taken. Tail counts the items sent,
-//! and has the closing bit on top.
+//! Item number k, from 0, is in slot k mod capacity. Head counts the items taken. Tail counts the
+//! items sent, and has the closing bit on top.
 ghost use Rattle.std.specs.Prelude.{◌≡◌, ◌<◌, IfOk};
 ghost use Rattle.std.specs.Arc.{arc_value};
 ghost use Rattle.lane.specs.Ring.{IsRing, at_first, that_takes, that_sends};
@@ -27,9 +28,9 @@ const WORDS: usize = 17;
 
 pub(crate) const CLOSING_BIT: u64 = 1 << 63;
 
-/// What the port's token knows: what was sent, and whether the lane is closed; how many items its last look found
-/// taken, and how many looks there were; the moves up to its last look or send; whether it holds the slot of the next
-/// item. No value of it is made.
+/// What the port's token knows: what was sent, and whether the lane is closed; how many items its
+/// last look found taken, and how many looks there were; the moves up to its last look or send;
+/// whether it holds the slot of the next item. No value of it is made.
 pub(crate) struct PortKnows<T> {
     pub(crate) sent: LinkedList<T>,
     pub(crate) closed: bool,
@@ -39,9 +40,9 @@ pub(crate) struct PortKnows<T> {
     pub(crate) holds: bool,
 }
 
-/// What the intake's token knows: what was taken; how many items its last look found sent, whether it found the
-/// close, and how many looks there were; the moves up to its last look or take; the item whose slot it holds. No value
-/// of it is made.
+/// What the intake's token knows: what was taken; how many items its last look found sent, whether
+/// it found the close, and how many looks there were; the moves up to its last look or take; the
+/// item whose slot it holds. No value of it is made.
 pub(crate) struct IntakeKnows<T> {
     pub(crate) taken: LinkedList<T>,
     pub(crate) seen_sent: u64,
@@ -51,8 +52,8 @@ pub(crate) struct IntakeKnows<T> {
     pub(crate) next: Option<T>,
 }
 
-/// What a token knows: which of the two it is, or both, and the number of the other tokens, which only the one that
-/// takes knows. No value of it is made.
+/// What a token knows: which of the two it is, or both, and the number of the other tokens, which
+/// only the one that takes knows. No value of it is made.
 pub(crate) struct Known<T> {
     pub(crate) sends: bool,
     pub(crate) takes: bool,
@@ -88,9 +89,12 @@ pub(crate) fn ring<T: Drop>(
     requires some { 0 < capacity }
     ensures ring { IfOk result (λ parts. (arc_value parts.0.ring).shared.table_id
         ≡ (arc_value parts.1.ring).shared.table_id) }
-    ensures capacity { IfOk result (λ parts. (arc_value parts.1.ring).shared.table_id.slots ≡ capacity) }
-    ensures port { IfOk result (λ parts. IsTokenOf (arc_value parts.0.ring).shared.table_id parts.0.token) }
-    ensures intake { IfOk result (λ parts. IsTokenOf (arc_value parts.1.ring).shared.table_id parts.1.token) }
+    ensures capacity { IfOk result (λ parts. (arc_value parts.1.ring).shared.table_id.slots
+        ≡ capacity) }
+    ensures port { IfOk result (λ parts. IsTokenOf (arc_value parts.0.ring).shared.table_id
+        parts.0.token) }
+    ensures intake { IfOk result (λ parts. IsTokenOf (arc_value parts.1.ring).shared.table_id
+        parts.1.token) }
     ensures sends { IfOk result (λ parts. parts.0.token.me.0 ≡ that_sends at_first) }
     ensures takes { IfOk result (λ parts. parts.1.token.me.0 ≡ that_takes at_first) }
 {

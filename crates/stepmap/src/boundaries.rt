@@ -1,6 +1,7 @@
 //! The boundaries of a step function: their versions in a tree, and their keys in an arena.
 ghost use Rattle.std.specs.Prelude.{◌≡◌, ℕ, ◌+◌, ◌*◌, ◌<◌, ◌≤◌, ◌≤ℤ◌, negsuc, ◌↔◌};
-ghost use Rattle.std.specs.Prelude.{List, [], ◌∷◌, length, slice_get, IsTrue, IfOk, IfSome, IsSomeAnd, None, OnOk, IsOkUnless, unwrap_or};
+ghost use Rattle.std.specs.Prelude.{List, [], ◌∷◌, length, slice_get, IsTrue, IfOk, IfSome};
+ghost use Rattle.std.specs.Prelude.{IsSomeAnd, None, OnOk, IsOkUnless, unwrap_or};
 ghost use Rattle.std.specs.List.{All, AllZip};
 ghost use Rattle.arena.specs.Arena.{wanted_of, HasRoomFor};
 ghost use Rattle.keys.specs.Key.{IsBytes};
@@ -26,16 +27,16 @@ use std::array;
 use std::marker::Model;
 use tree::{Entry, Overwrite, SIDE, Tree, Written, item};
 
-// The boundaries of a step function, in the order of their keys, the empty key first. Contracts see them, and for how
-// many more there is memory.
+// The boundaries of a step function, in the order of their keys, the empty key first. Contracts see
+// them, and for how many more there is memory.
 #[derive(Debug, Drop)]
 pub struct Boundaries<const N: usize> {
     // The lengths of the keys that memory was taken for last, one by one.
     pub wanted: Vec<usize>,
     pub keys: Arena<()>,
     pub tree: Tree<N>,
-    // The tree puts the entries that it removes here: empty between calls. It is a field since a new one for each write would be
-    // cleared each time.
+    // The tree puts the entries that it removes here: empty between calls. It is a field since a
+    // new one for each write would be cleared each time.
     pub taken: ArrayVec<Entry, N>,
     ghost none_taken: { taken.items ≡ [] },
 }
@@ -55,11 +56,13 @@ impl<const N: usize> Model for Boundaries<N> {
 }
 
 impl<const N: usize> Boundaries<N> {
-    // Makes the one boundary of the function that is -1 everywhere. Nodes of the tree have at most `N` entries each.
+    // Makes the one boundary of the function that is -1 everywhere. Nodes of the tree have at most
+    // `N` entries each.
     pub fn new(alloc: Global) -> Result<Self, ArenaError>
         requires fan_out { 4 ≤ N }
         requires few { N ≤ 65536 }
-        ensures first { IfOk result (λ b. b.boundaries ≡ (record { key = []; version = negsuc 0 }) ∷ []) }
+        ensures first { IfOk result (λ b. b.boundaries
+            ≡ (record { key = []; version = negsuc 0 }) ∷ []) }
         ensures room { IfOk result (λ b. 1 ≤ b.room) }
         ensures memory { IsOkUnless result ArenaError.Memory }
     {
@@ -99,7 +102,8 @@ impl<const N: usize> Boundaries<N> {
     pub fn greatest(&self, range: &Range) -> i64
         requires boundaries { AreBoundaries self.now.boundaries }
         requires filled { ¬ IsEmpty range.now }
-        ensures bound { (key : List ℕ) → Holds range.now key → value_at self.now.boundaries key ≤ℤ result }
+        ensures bound { (key : List ℕ) → Holds range.now key
+            → value_at self.now.boundaries key ≤ℤ result }
         ensures reached { (key : List ℕ) × IsBytes key × Holds range.now key
             × (value_at self.now.boundaries key ≡ result) }
     {
@@ -116,8 +120,9 @@ impl<const N: usize> Boundaries<N> {
         self.tree.greatest(&begin, &end)
     }
 
-    // Answers for each of the queries at these places, in order, whether the version at some key of its range is above its own.
-    // There are at most `SIDE`, which are looked up side by side, and no range is empty.
+    // Answers for each of the queries at these places, in order, whether the version at some key of
+    // its range is above its own. There are at most `SIDE`, which are looked up side by side, and
+    // no range is empty.
     pub fn are_above<'a, L: QueryList>(
         &'a self,
         queries: &'a L,
@@ -125,7 +130,8 @@ impl<const N: usize> Boundaries<N> {
     ) -> ArrayVec<bool, SIDE>
         requires boundaries { AreBoundaries self.now.boundaries }
         requires few { length places.now ≤ SIDE }
-        requires filled { All (λ place. IsSomeAnd (slice_get (L.queries queries.now) place) (λ q. ¬ IsEmpty q.0)) places.now }
+        requires filled { All (λ place. IsSomeAnd (slice_get (L.queries queries.now) place)
+            (λ q. ¬ IsEmpty q.0)) places.now }
         ensures above { AllZip (λ place above. IsSomeAnd (slice_get (L.queries queries.now) place)
             (λ q. IsTrue above ↔ Exceeds self.now.boundaries q)) places.now result.items }
     {
@@ -138,7 +144,8 @@ impl<const N: usize> Boundaries<N> {
     pub fn reserve(&mut self, lengths: &[KeyLengths]) -> Result<(), AllocError>
         requires few { length self.old.boundaries + 2 * length lengths.now ≤ MAX_LIMIT }
         ensures keys { OnOk result (HasRoomFor (spare_in self.new) (each_length lengths.now)) }
-        ensures nodes { OnOk result (length self.new.boundaries + 2 * length lengths.now ≤ self.new.room) }
+        ensures nodes { OnOk result (length self.new.boundaries + 2 * length lengths.now
+            ≤ self.new.room) }
         ensures boundaries { self.new.boundaries ≡ self.old.boundaries }
         ensures room { self.old.room ≤ self.new.room }
     {
@@ -152,11 +159,13 @@ impl<const N: usize> Boundaries<N> {
     pub fn write(&mut self, range: &HashedRange<'_>, version: i64)
         requires boundaries { AreBoundaries self.old.boundaries }
         requires filled { ¬ IsEmpty range.now }
-        requires keys { HasRoomFor (spare_in self.old) (length range.now.begin ∷ length range.now.end ∷ []) }
+        requires keys { HasRoomFor (spare_in self.old)
+            (length range.now.begin ∷ length range.now.end ∷ []) }
         requires nodes { length self.old.boundaries + 2 ≤ self.old.room }
         ensures boundaries { self.new.boundaries ≡ written range.now version self.old.boundaries }
         ensures spare { (size : ℕ) → spare_in self.old size
-            ≤ spare_in self.new size + wanted_of (length range.now.begin ∷ length range.now.end ∷ []) size }
+            ≤ spare_in self.new size + wanted_of
+            (length range.now.begin ∷ length range.now.end ∷ []) size }
         ensures room { self.new.room ≡ self.old.room }
     {
         let mut at_end = self.write_or_clear(range, version, None);
@@ -165,9 +174,10 @@ impl<const N: usize> Boundaries<N> {
         }
     }
 
-    // Writes the version on the range, if one leaf of the tree has the boundaries of the range and the one before them. The
-    // version at the range's end is the one given, or that which is there. Else it takes some of the boundaries of the range
-    // out, not the first of all, and returns the version at the range's end.
+    // Writes the version on the range, if one leaf of the tree has the boundaries of the range and
+    // the one before them. The version at the range's end is the one given, or that which is there.
+    // Else it takes some of the boundaries of the range out, not the first of all, and returns the
+    // version at the range's end.
     fn write_or_clear(
         &mut self,
         range: &HashedRange<'_>,
@@ -176,17 +186,24 @@ impl<const N: usize> Boundaries<N> {
     ) -> Option<i64>
         requires boundaries { AreBoundaries self.old.boundaries }
         requires filled { ¬ IsEmpty range.now }
-        requires keys { HasRoomFor (spare_in self.old) (length range.now.begin ∷ length range.now.end ∷ []) }
+        requires keys { HasRoomFor (spare_in self.old)
+            (length range.now.begin ∷ length range.now.end ∷ []) }
         requires nodes { length self.old.boundaries + 2 ≤ self.old.room }
         ensures written { result ≡ None → self.new.boundaries
-            ≡ written_to range.now version (unwrap_or at_end (value_at self.old.boundaries range.now.end)) self.old.boundaries }
+            ≡ written_to range.now version
+            (unwrap_or at_end (value_at self.old.boundaries range.now.end)) self.old.boundaries }
         ensures used { result ≡ None → (size : ℕ) → spare_in self.old size
-            ≤ spare_in self.new size + wanted_of (length range.now.begin ∷ length range.now.end ∷ []) size }
-        ensures cleared { IfSome result (λ given. written_to range.now version given self.new.boundaries
-            ≡ written_to range.now version (unwrap_or at_end (value_at self.old.boundaries range.now.end)) self.old.boundaries) }
+            ≤ spare_in self.new size + wanted_of
+            (length range.now.begin ∷ length range.now.end ∷ []) size }
+        ensures cleared { IfSome result
+            (λ given. written_to range.now version given self.new.boundaries
+            ≡ written_to range.now version
+            (unwrap_or at_end (value_at self.old.boundaries range.now.end)) self.old.boundaries) }
         ensures boundaries { IfSome result (λ _. AreBoundaries self.new.boundaries) }
-        ensures fewer { IfSome result (λ _. length self.new.boundaries < length self.old.boundaries) }
-        ensures none_used { IfSome result (λ _. (size : ℕ) → spare_in self.old size ≤ spare_in self.new size) }
+        ensures fewer { IfSome result (λ _. length self.new.boundaries
+            < length self.old.boundaries) }
+        ensures none_used { IfSome result (λ _. (size : ℕ)
+            → spare_in self.old size ≤ spare_in self.new size) }
         ensures room { self.new.room ≡ self.old.room }
     {
         let begin_key = self.keys.place((), range.begin()).unwrap();

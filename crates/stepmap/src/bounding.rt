@@ -1,6 +1,7 @@
 //! A filter's bounds of several queries at once.
 //!
-//! The hashes of their keys are gathered first, and the cells read then: so the memory of all these cells is waited for at once.
+//! The hashes of their keys are gathered first, and the cells read then: so the memory of all these
+//! cells is waited for at once.
 
 ghost use Rattle.std.specs.Prelude.{◌≡◌, ◌+◌, ◌-◌, ◌≤◌, All, length, map, take, drop};
 ghost use Rattle.std.specs.List.{AllZip};
@@ -14,8 +15,8 @@ use arrayvec::ArrayVec;
 use filter::Filter;
 use tree::SIDE;
 
-/// Returns a hash for each of the queries from one index up to another: that of its key, if its range is a single key. It looks at no
-/// key.
+/// Returns a hash for each of the queries from one index up to another: that of its key, if its
+/// range is a single key. It looks at no key.
 pub fn hashes_from<L: QueryList>(queries: &L, from: usize, to: usize) -> ArrayVec<u32, SIDE>
     requires ordered { from ≤ to }
     requires within { to ≤ length (L.queries queries.now) }

@@ -12,7 +12,8 @@ pub enum StepError {
     /// A growth was refused in that call, or an arena would have more than 8,388,608 chunks.
     #[error("1 Memory")]
     Memory = 1,
-    /// The ranges don't fit within the limit on boundaries, although a complete round was swept in that call.
+    /// The ranges don't fit within the limit on boundaries, although a complete round was swept in
+    /// that call.
     #[error("2 Full")]
     Full = 2,
 }

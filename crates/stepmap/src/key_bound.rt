@@ -10,7 +10,8 @@ use keys::{common_prefix_len, head_behind};
 use std::cmp::Ordering;
 use tree::Bound;
 
-// A bound in the order of keys, for boundaries whose keys are records of an arena: up to a key, or before it.
+// A bound in the order of keys, for boundaries whose keys are records of an arena: up to a key, or
+// before it.
 #[derive(Clone, Copy)]
 pub struct KeyBound<'a> {
     pub keys: &'a Arena<()>,

@@ -9,8 +9,8 @@ use std::alloc::AllocError;
 use std::collections::VecDeque;
 use std::marker::Model;
 
-/// The lengths in bytes of a range's begin and end, each at most [`MAX_KEY_LENGTH`](keys::MAX_KEY_LENGTH). Contracts
-/// see them as a pair, that of the begin first.
+/// The lengths in bytes of a range's begin and end, each at most
+/// [`MAX_KEY_LENGTH`](keys::MAX_KEY_LENGTH). Contracts see them as a pair, that of the begin first.
 #[derive(Clone, Copy, Debug, PartialEq, Eq, Hash)]
 pub struct KeyLengths {
     begin: u16,

@@ -5,7 +5,8 @@ ghost use Rattle.keys.specs.declared.range.Range.{Range as RangeValue};
 
 use keys::{Range, RangeRef};
 
-/// A range that is asked for, with borrowed keys, and the version that the function is compared with at its keys.
+/// A range that is asked for, with borrowed keys, and the version that the function is compared
+/// with at its keys.
 #[derive(Debug, Drop)]
 pub struct RangeQuery<'a> {
     pub range: RangeRef<'a>,
@@ -23,7 +24,8 @@ pub trait QueryList {
     fn len(&self) -> usize
         ensures count { result ≡ length (queries self.now) };
 
-    /// Returns what [`RangeRef::single_hash`] returns for the range of the query at the index, and looks at no key.
+    /// Returns what [`RangeRef::single_hash`] returns for the range of the query at the index, and
+    /// looks at no key.
     fn hash(&self, index: usize) -> Option<u32>
         requires within { index < length (queries self.now) }
         ensures hash { IsSomeAnd (slice_get (queries self.now) index) (λ q. IsHashOf q.0 result) };

@@ -14,7 +14,8 @@ use tree::Question;
 // What a tree of an arena's keys is asked.
 pub type BoundQuestion<'a> = Question<KeyBound<'a>, KeyBound<'a>>;
 
-// Returns the question to a tree of this arena's keys for the query, whose range isn't empty. It has a hash if that holds one key alone.
+// Returns the question to a tree of this arena's keys for the query, whose range isn't empty. It
+// has a hash if that holds one key alone.
 pub fn question<'a>(keys: &'a Arena<()>, query: RangeQuery<'a>) -> BoundQuestion<'a>
     requires filled { ¬ IsEmpty query.range }
     requires hash { IsHashOf query.range query.hash }
@@ -66,15 +67,16 @@ pub fn no_question(keys: &Arena<()>) -> BoundQuestion<'_> {
     }
 }
 
-// Puts the question to a tree of this arena's keys for each of the queries at these places, whose ranges aren't empty, instead of
-// the first questions.
+// Puts the question to a tree of this arena's keys for each of the queries at these places, whose
+// ranges aren't empty, instead of the first questions.
 pub fn put_questions<'a, L: QueryList>(
     keys: &'a Arena<()>,
     queries: &'a L,
     places: &[usize],
     questions: &mut [BoundQuestion<'a>],
 )
-    requires filled { All (λ place. IsSomeAnd (slice_get (L.queries queries.now) place) (λ q. ¬ IsEmpty q.0)) places.now }
+    requires filled { All (λ place. IsSomeAnd (slice_get (L.queries queries.now) place)
+        (λ q. ¬ IsEmpty q.0)) places.now }
     requires room { length places.now ≤ length questions.old }
     ensures asks { AllZip (λ place question. IsSomeAnd (slice_get (L.queries queries.now) place)
         (λ q. AsksFor keys.now q.0 question.from question.to × (question.version ≡ q.1)))

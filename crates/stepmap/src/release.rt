@@ -17,7 +17,8 @@ pub fn release_run<const N: usize>(keys: &mut Arena<()>, taken: &mut ArrayVec<En
     ensures none { taken.new.items ≡ [] }
     ensures others { (slot : ℕ) → ¬ Contains (map (λ x. x.key) (map item_of taken.old.items)) slot
         → record_at keys.new slot ≡ record_at keys.old slot }
-    ensures counted { finite.len keys.new.records + length (map item_of taken.old.items) ≡ finite.len keys.old.records }
+    ensures counted { finite.len keys.new.records + length (map item_of taken.old.items)
+        ≡ finite.len keys.old.records }
     ensures spare { (size : ℕ) → spare_of keys.old size ≤ spare_of keys.new size }
 {
     release(keys, taken.as_slice());
@@ -30,7 +31,8 @@ fn release(keys: &mut Arena<()>, entries: &[Entry])
     requires distinct { IsDistinct nat_eq (map (λ e. e.key) entries.now) }
     ensures others { (slot : ℕ) → ¬ Contains (map (λ e. e.key) entries.now) slot
         → record_at keys.new slot ≡ record_at keys.old slot }
-    ensures counted { finite.len keys.new.records + length entries.now ≡ finite.len keys.old.records }
+    ensures counted { finite.len keys.new.records + length entries.now
+        ≡ finite.len keys.old.records }
     ensures spare { (size : ℕ) → spare_of keys.old size ≤ spare_of keys.new size }
 {
     for entry in entries {

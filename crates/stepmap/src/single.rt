@@ -17,7 +17,8 @@ pub fn note(filter: &mut Filter, range: &HashedRange<'_>, version: i64)
     }
 }
 
-// Returns how many bytes the two keys of a range begin with in common. Where it holds a single key, all of that.
+// Returns how many bytes the two keys of a range begin with in common. Where it holds a single key,
+// all of that.
 pub fn keys_prefix_len(range: &HashedRange<'_>) -> usize
     ensures same { take result range.now.begin ≡ take result range.now.end }
 {

@@ -47,9 +47,9 @@ pub enum SweepEnd {
     Stopped,
 }
 
-/// A step function from keys to versions, which remembers committed writes, with an edge: a version below the edge
-/// says nothing. Contracts see its boundaries in key order, the empty key first; there are at most as many as the
-/// limit.
+/// A step function from keys to versions, which remembers committed writes, with an edge: a version
+/// below the edge says nothing. Contracts see its boundaries in key order, the empty key first;
+/// there are at most as many as the limit.
 #[derive(Debug, Drop)]
 pub struct StepMap {
     boundaries: Boundaries<FAN_OUT>,
@@ -83,7 +83,8 @@ impl StepMap {
         requires least { 1 ≤ limit }
         requires most { limit ≤ MAX_LIMIT }
         ensures map { IfOk result (λ map. map ≡ new_map limit) }
-        ensures everywhere { IfOk result (λ map. (key : List ℕ) → value_at map.boundaries key ≡ negsuc 0) }
+        ensures everywhere { IfOk result (λ map. (key : List ℕ)
+            → value_at map.boundaries key ≡ negsuc 0) }
         ensures newest { IfOk result (λ map. AreUpTo (negsuc 0) map.boundaries) }
         ensures covers { IfOk result (λ map. MapCovers map []) }
         ensures rooted { IfOk result (λ map. Rooted map []) }
@@ -113,9 +114,11 @@ impl StepMap {
     /// Returns the greatest version at a key of the range, or -1 if it is empty.
     pub fn greatest_in(&self, range: &Range) -> i64
         ensures empty { IsEmpty range.now → result ≡ negsuc 0 }
-        ensures bound { (key : List ℕ) → Holds range.now key → value_at self.now.boundaries key ≤ℤ result }
+        ensures bound { (key : List ℕ) → Holds range.now key
+            → value_at self.now.boundaries key ≤ℤ result }
         ensures reached { ¬ IsEmpty range.now
-            → (key : List ℕ) × IsBytes key × Holds range.now key × (value_at self.now.boundaries key ≡ result) }
+            → (key : List ℕ) × IsBytes key × Holds range.now key
+            × (value_at self.now.boundaries key ≡ result) }
     {
         if range.is_empty() {
             return -1;
@@ -123,7 +126,8 @@ impl StepMap {
         self.boundaries.greatest(range)
     }
 
-    /// Returns whether the version at some key of the range is above this one; false if the range is empty.
+    /// Returns whether the version at some key of the range is above this one; false if the range
+    /// is empty.
     pub fn exceeds(&self, range: &Range, version: i64) -> bool
         ensures above { IsTrue result ↔ IsAbove self.now range.now version }
     {
@@ -131,9 +135,9 @@ impl StepMap {
         !range.is_empty() && self.boundaries.are_above(&query, &[0])[0]
     }
 
-    /// Answers for each query, in order, what `exceeds` returns for its range and its version. The answers replace those that
-    /// there are, and nothing but these takes memory. Several are looked up side by side. After an error the answers are
-    /// unspecified.
+    /// Answers for each query, in order, what `exceeds` returns for its range and its version. The
+    /// answers replace those that there are, and nothing but these takes memory. Several are looked
+    /// up side by side. After an error the answers are unspecified.
     pub fn exceeds_each<L: QueryList>(
         &self,
         queries: &L,
@@ -173,22 +177,24 @@ impl StepMap {
         self.edge
     }
 
-    /// Takes all the memory that writing ranges with keys of these lengths needs, instead of any taken before. Such
-    /// ranges can then be written, in this order. If the boundaries, and two for each range, exceed the limit, it
-    /// sweeps a complete round from the front first.
+    /// Takes all the memory that writing ranges with keys of these lengths needs, instead of any
+    /// taken before. Such ranges can then be written, in this order. If the boundaries, and two for
+    /// each range, exceed the limit, it sweeps a complete round from the front first.
     ///
-    /// Returns `Full` where they still exceed it, before any memory is taken, and `Memory` where a growth is refused
-    /// or an arena would have more chunks than slots can name. After either no range is ready; the function says the same as
-    /// before at and above the edge.
+    /// Returns `Full` where they still exceed it, before any memory is taken, and `Memory` where a
+    /// growth is refused or an arena would have more chunks than slots can name. After either no
+    /// range is ready; the function says the same as before at and above the edge.
     pub fn prepare(&mut self, lengths: &[KeyLengths]) -> Result<(), StepError>
         ensures ok { OnOk result (self.new ≡ prepared lengths.now self.old) }
-        ensures err { OnErr result (self.new ≡ record (prepared lengths.now self.old) { ready = [] }) }
+        ensures err { OnErr result (self.new
+            ≡ record (prepared lengths.now self.old) { ready = [] }) }
         ensures full { (result ≡ Err StepError.Full)
             ↔ ¬ HasRoomFor (length lengths.now) (made_room (length lengths.now) self.old) }
         ensures steps { AreSteps self.new }
         ensures edge { self.new.edge ≡ self.old.edge }
         ensures limit { self.new.limit ≡ self.old.limit }
-        ensures same { SameFrom self.old.edge (value_at self.old.boundaries) (value_at self.new.boundaries) }
+        ensures same { SameFrom self.old.edge (value_at self.old.boundaries)
+            (value_at self.new.boundaries) }
         ensures newest { (version : ℤ)
             → AreUpTo version self.old.boundaries → AreUpTo version self.new.boundaries }
         ensures covers { (ws : List Write) → MapCovers self.old ws → MapCovers self.new ws }
@@ -196,7 +202,8 @@ impl StepMap {
         ensures untouched { HasRoomFor (length lengths.now) self.old
             → self.new ≡ record self.old { ready = self.new.ready } }
         ensures front { ¬ HasRoomFor (length lengths.now) self.old → self.new.round ≡ None }
-        ensures ends { ¬ HasRoomFor (length lengths.now) self.old → (ws : List Write) → Rooted self.old ws
+        ensures ends { ¬ HasRoomFor (length lengths.now) self.old → (ws : List Write)
+            → Rooted self.old ws
             → Ends self.new.boundaries ws self.old.edge }
         ensures bound { result ≡ Err StepError.Full → (ws : List Write) → Rooted self.old ws
             → self.old.limit < 1 + 2 * (live_count self.old.edge ws + length lengths.now) }
@@ -209,24 +216,27 @@ impl StepMap {
         Ok(())
     }
 
-    /// Notes that a key of this hash, as `keys::key_hash` returns it, is going to be written at the version. The function stays
-    /// as it is, and no answer changes. If many keys are written, the hashes of all of them come first, so that the
-    /// memory which the filter has for them is waited for at once. It takes no memory.
+    /// Notes that a key of this hash, as `keys::key_hash` returns it, is going to be written at the
+    /// version. The function stays as it is, and no answer changes. If many keys are written, the
+    /// hashes of all of them come first, so that the memory which the filter has for them is waited
+    /// for at once. It takes no memory.
     pub fn note_key(&mut self, hash: u32, version: i64)
         ensures same { self.new ≡ self.old }
     {
         self.filter.write_key(hash, version);
     }
 
-    /// Sets the version on the range; elsewhere the function stays as it is. The range's keys have the lengths that were
-    /// prepared next. It takes no memory: the keys are copied into what was taken.
+    /// Sets the version on the range; elsewhere the function stays as it is. The range's keys have
+    /// the lengths that were prepared next. It takes no memory: the keys are copied into what was
+    /// taken.
     pub fn write(&mut self, range: HashedRange<'_>, version: i64)
         requires filled { ¬ IsEmpty range }
         requires ready { slice_get self.old.ready 0 ≡ Some (lengths range) }
         requires newest { AreUpTo version self.old.boundaries }
         requires late { self.old.edge ≤ℤ version }
         ensures map { self.new ≡ after_write range.entry version self.old }
-        ensures on_range { (key : List ℕ) → Holds range.entry key → value_at self.new.boundaries key ≡ version }
+        ensures on_range { (key : List ℕ) → Holds range.entry key
+            → value_at self.new.boundaries key ≡ version }
         ensures elsewhere { (key : List ℕ) → ¬ Holds range.entry key
             → value_at self.new.boundaries key ≡ value_at self.old.boundaries key }
         ensures newest { AreUpTo version self.new.boundaries }
@@ -234,7 +244,8 @@ impl StepMap {
             → MapCovers self.old ws → MapCovers self.new (with_write ws range.entry version) }
         ensures rooted { (ws : List Write)
             → Rooted self.old ws → Rooted self.new (with_write ws range.entry version) }
-        ensures ends { (ws : List Write) (edge : ℤ) → edge ≤ℤ version → Ends self.old.boundaries ws edge
+        ensures ends { (ws : List Write) (edge : ℤ) → edge ≤ℤ version
+            → Ends self.old.boundaries ws edge
             → Ends self.new.boundaries (with_write ws range.entry version) edge }
         ensures rest { rest self.new ≤ rest self.old + 2 }
         ensures count { length self.new.boundaries ≤ length self.old.boundaries + 2 }
@@ -256,12 +267,14 @@ impl StepMap {
         self.edge = edge;
     }
 
-    /// Looks at the next `count` boundaries of the round, or at all remaining ones, and removes those that say nothing
-    /// at or above the edge. The boundary at the empty key is never looked at. It takes no memory.
+    /// Looks at the next `count` boundaries of the round, or at all remaining ones, and removes
+    /// those that say nothing at or above the edge. The boundary at the empty key is never looked
+    /// at. It takes no memory.
     pub fn sweep(&mut self, count: usize) -> SweepEnd
         ensures map { self.new ≡ after_sweep count self.old }
         ensures round { (result ≡ SweepEnd.Round) ↔ (rest self.old ≤ count) }
-        ensures same { SameFrom self.old.edge (value_at self.old.boundaries) (value_at self.new.boundaries) }
+        ensures same { SameFrom self.old.edge (value_at self.old.boundaries)
+            (value_at self.new.boundaries) }
         ensures newest { (version : ℤ)
             → AreUpTo version self.old.boundaries → AreUpTo version self.new.boundaries }
         ensures covers { (ws : List Write) → MapCovers self.old ws → MapCovers self.new ws }

@@ -1,5 +1,6 @@
 //! The sweep of boundaries.
-ghost use Rattle.std.specs.Prelude.{◌≡◌, ◌≢◌, ℕ, ◌≤◌, negsuc, [], ◌++◌, length, take, drop, vec_capacity};
+ghost use Rattle.std.specs.Prelude.{◌≡◌, ◌≢◌, ℕ, ◌≤◌, negsuc, [], ◌++◌, length, take, drop};
+ghost use Rattle.std.specs.Prelude.{vec_capacity};
 ghost use Rattle.std.specs.Prelude.{Any, All, IfSome, unwrap_or, option_map};
 ghost use Rattle.arena.specs.Arena.{IsLive};
 ghost use Rattle.keys.specs.Key.{IsKey};
@@ -23,15 +24,17 @@ pub struct Looked {
 }
 
 impl<const N: usize> Boundaries<N> {
-    // Looks at `count` boundaries from the cursor on, or at all remaining ones, and removes each whose version and
-    // predecessor's version are below `edge`. That at the empty key is never looked at. The cursor is then at the first
-    // one left, or empty.
+    // Looks at `count` boundaries from the cursor on, or at all remaining ones, and removes each
+    // whose version and predecessor's version are below `edge`. That at the empty key is never
+    // looked at. The cursor is then at the first one left, or empty.
     pub fn sweep(&mut self, cursor: &mut Vec<u8>, count: usize, edge: i64)
         requires boundaries { AreBoundaries self.old.boundaries }
         requires any_key { MAX_KEY_LENGTH ≤ vec_capacity cursor.old }
         ensures boundaries { self.new.boundaries ≡ swept edge count
-            (passed_to cursor.old.items self.old.boundaries) (left_from cursor.old.items self.old.boundaries) }
-        ensures cursor { cursor.new.items ≡ first_key (drop count (left_from cursor.old.items self.old.boundaries)) }
+            (passed_to cursor.old.items self.old.boundaries)
+            (left_from cursor.old.items self.old.boundaries) }
+        ensures cursor { cursor.new.items
+            ≡ first_key (drop count (left_from cursor.old.items self.old.boundaries)) }
         ensures capacity { vec_capacity cursor.old ≤ vec_capacity cursor.new }
         ensures spare { (size : ℕ) → spare_in self.old size ≤ spare_in self.new size }
         ensures room { self.new.room ≡ self.old.room }
@@ -45,13 +48,15 @@ impl<const N: usize> Boundaries<N> {
         }
     }
 
-    // Moves the cursor to the first boundary that is left, or empties it if there is none. Returns the version of the one
-    // before.
+    // Moves the cursor to the first boundary that is left, or empties it if there is none. Returns
+    // the version of the one before.
     pub fn go_on(&self, cursor: &mut Vec<u8>) -> i64
         requires keys { All (λ b. IsKey b.key) self.now.boundaries }
         requires any_key { MAX_KEY_LENGTH ≤ vec_capacity cursor.old }
-        ensures version { result ≡ last_version (negsuc 0) (passed_to cursor.old.items self.now.boundaries) }
-        ensures cursor { cursor.new.items ≡ first_key (left_from cursor.old.items self.now.boundaries) }
+        ensures version { result ≡ last_version (negsuc 0)
+            (passed_to cursor.old.items self.now.boundaries) }
+        ensures cursor { cursor.new.items
+            ≡ first_key (left_from cursor.old.items self.now.boundaries) }
         ensures capacity { vec_capacity cursor.old ≤ vec_capacity cursor.new }
     {
         let passed = KeyBound {
@@ -64,9 +69,9 @@ impl<const N: usize> Boundaries<N> {
         last.unwrap().version
     }
 
-    // Looks at some boundaries from the one at the cursor on, at most `count`, and takes out each whose version and
-    // predecessor's version are below `edge`. `before` is the version of the boundary before them. The cursor is then at
-    // the first one not looked at, or empty.
+    // Looks at some boundaries from the one at the cursor on, at most `count`, and takes out each
+    // whose version and predecessor's version are below `edge`. `before` is the version of the
+    // boundary before them. The cursor is then at the first one not looked at, or empty.
     pub fn remove_expired(
         &mut self,
         cursor: &mut Vec<u8>,
@@ -82,9 +87,11 @@ impl<const N: usize> Boundaries<N> {
         ensures count { (1 ≤ result.count) × (result.count ≤ count) }
         ensures within { result.count ≤ length (left_from cursor.old.items self.old.boundaries) }
         ensures last { result.last
-            ≡ last_version before (take result.count (left_from cursor.old.items self.old.boundaries)) }
+            ≡ last_version before (take result.count
+            (left_from cursor.old.items self.old.boundaries)) }
         ensures boundaries { self.new.boundaries ≡ passed_to cursor.old.items self.old.boundaries
-            ++ (unexpired edge before (take result.count (left_from cursor.old.items self.old.boundaries))
+            ++ (unexpired edge before (take result.count
+            (left_from cursor.old.items self.old.boundaries))
             ++ drop result.count (left_from cursor.old.items self.old.boundaries)) }
         ensures cursor { cursor.new.items
             ≡ first_key (drop result.count (left_from cursor.old.items self.old.boundaries)) }
@@ -112,7 +119,8 @@ impl<const N: usize> Boundaries<N> {
 // Moves the cursor to the key of a slot, or empties it if there is none.
 fn move_to(keys: &Arena<()>, cursor: &mut Vec<u8>, next: Option<Slot>)
     requires live { IfSome next (λ slot. IsLive keys.now slot) }
-    requires fits { IfSome next (λ slot. length (bytes_at keys.now slot) ≤ vec_capacity cursor.old) }
+    requires fits { IfSome next (λ slot. length (bytes_at keys.now slot)
+        ≤ vec_capacity cursor.old) }
     ensures cursor { cursor.new.items ≡ unwrap_or (option_map (bytes_at keys.now) next) [] }
     ensures capacity { vec_capacity cursor.old ≤ vec_capacity cursor.new }
 {

@@ -1,11 +1,13 @@
 //! The reading of a frame of a batch.
 
-ghost use Rattle.std.specs.Prelude.{◌≡◌, ◌≢◌, ◌+◌, ◌≤◌, ◌≤ℤ◌, ◌<ℤ◌, negsuc, length, take, vec_len, IfOk, IfErr, OnOk, Some, None};
+ghost use Rattle.std.specs.Prelude.{◌≡◌, ◌≢◌, ◌+◌, ◌≤◌, ◌≤ℤ◌, ◌<ℤ◌, negsuc, length, take, vec_len};
+ghost use Rattle.std.specs.Prelude.{IfOk, IfErr, OnOk, Some, None};
 ghost use Rattle.byteorder.specs.Endian.{big_number};
 ghost use Rattle.wire.specs.Fields.{batch_fields};
 ghost use Rattle.wire.specs.Lying.{IsRestOf, AreApart, index_of, batch_told};
 ghost use Rattle.wire.specs.Spelling.{BatchHolds, SpellsBatch};
-ghost use Rattle.wire.specs.Reading.{Gives, body_at, batch_kind_at, header_at, fields_at, batch_at, read_batch, batch_fault, version_told};
+ghost use Rattle.wire.specs.Reading.{Gives, body_at, batch_kind_at, header_at, fields_at, batch_at};
+ghost use Rattle.wire.specs.Reading.{read_batch, batch_fault, version_told};
 ghost use Rattle.wire.specs.declared.field.TheConstants.{MAX_BODY_LENGTH};
 
 use crate::error::WireError;
@@ -64,7 +66,8 @@ fn fields_of<'a>(
 ) -> Result<(Tables, &'a [u8]), WireError>
     requires short { length frame.now ≤ 4 + MAX_BODY_LENGTH }
     requires rest { IsRestOf frame.now bytes.now }
-    ensures reads { Gives (λ x. (batch_told frame.now x.0, x.1.now)) result (fields_at version bytes.now) }
+    ensures reads { Gives (λ x. (batch_told frame.now x.0, x.1.now)) result
+        (fields_at version bytes.now) }
     ensures apart { IfOk result (λ x. AreApart 0 x.0.spans.items (index_of frame.now x.1.now)) }
 {
     let ((previous, batch_version, received), rest) = header_of(bytes)?;
@@ -89,7 +92,8 @@ fn body_of_batch<'a>(
 ) -> Result<((WireVersion, Tables), &'a [u8]), WireError>
     requires short { length frame.now ≤ 4 + MAX_BODY_LENGTH }
     requires rest { IsRestOf frame.now bytes.now }
-    ensures reads { Gives (λ x. ((x.0.0, batch_told frame.now x.0.1), x.1.now)) result (batch_at bytes.now) }
+    ensures reads { Gives (λ x. ((x.0.0, batch_told frame.now x.0.1), x.1.now)) result
+        (batch_at bytes.now) }
     ensures apart { IfOk result (λ x. AreApart 0 x.0.1.spans.items (index_of frame.now x.1.now)) }
 {
     let (version, rest) = version_of(bytes)?;
@@ -109,7 +113,8 @@ fn frame_of(bytes: &[u8]) -> Result<(&[u8], &[u8]), WireError>
     Ok((&bytes[..4 + body.len()], body))
 }
 
-/// Reads the frame at the front into tables, and returns its wire version, these and the frame. No key is copied.
+/// Reads the frame at the front into tables, and returns its wire version, these and the frame. No
+/// key is copied.
 #[tactic(auto, unfolding(crate::specs::Reading::read_batch))]
 pub fn tables_of(alloc: Global, bytes: &[u8]) -> Result<(WireVersion, Tables, &[u8]), WireError>
     ensures reads { Gives (λ x. (x.0, batch_told x.2.now x.1)) result (read_batch bytes.now) }
@@ -138,8 +143,9 @@ pub fn batch_of(alloc: Global, frame: Vec<u8>, tables: Tables) -> Result<Batch, 
     Ok(Batch::new(tables.previous, tables.version, tables.received, txns))
 }
 
-/// Decodes the frame at the front, of either wire version, and returns its batch and its length in bytes. The batch has a copy
-/// of the frame. What follows the frame isn't looked at. A refusal other than `Memory` is the frame's first fault.
+/// Decodes the frame at the front, of either wire version, and returns its batch and its length in
+/// bytes. The batch has a copy of the frame. What follows the frame isn't looked at. A refusal
+/// other than `Memory` is the frame's first fault.
 pub fn decode_batch(alloc: Global, bytes: &[u8]) -> Result<(Batch, usize), WireError>
     ensures within { IfOk result (λ found. found.1 ≤ length bytes.now) }
     ensures spelled { IfOk result (λ found.

@@ -1,10 +1,12 @@
-//! Encodes values as frames. The length of a frame is known before it is written, so its memory is taken at
-//! once.
+//! Encodes values as frames. The length of a frame is known before it is written, so its memory is
+//! taken at once.
 
-ghost use Rattle.std.specs.Prelude.{◌≡◌, ◌⊎◌, ◌↔◌, ◌++◌, ◌<◌, ◌≤◌, length, OnOk, IfOk, IfErr, IsErrOf};
+ghost use Rattle.std.specs.Prelude.{◌≡◌, ◌⊎◌, ◌↔◌, ◌++◌, ◌<◌, ◌≤◌, length, OnOk, IfOk, IfErr};
+ghost use Rattle.std.specs.Prelude.{IsErrOf};
 ghost use Rattle.byteorder.specs.Endian.{big_bytes};
 ghost use Rattle.wire.specs.Fields.{batch_fields, reply_fields};
-ghost use Rattle.wire.specs.Spelling.{batch_body, reply_body, BatchHolds, ReplyHolds, SpellsBatch, SpellsReply};
+ghost use Rattle.wire.specs.Spelling.{batch_body, reply_body, BatchHolds, ReplyHolds, SpellsBatch};
+ghost use Rattle.wire.specs.Spelling.{SpellsReply};
 
 use crate::error::WireError;
 use crate::field::MAX_BODY_LENGTH;
@@ -80,7 +82,8 @@ pub fn encode_batch_1(alloc: Global, batch: &Batch) -> Result<Vec<u8>, WireError
 
 #[tactic(auto, unfolding(crate::specs::Spelling::reply_body))]
 fn put_reply(out: &mut Vec<u8>, reply: &Reply) -> Result<(), AllocError>
-    ensures text { OnOk result (out.new.items ≡ out.old.items ++ reply_body (reply_fields reply.now)) }
+    ensures text { OnOk result (out.new.items
+        ≡ out.old.items ++ reply_body (reply_fields reply.now)) }
     ensures holds { OnOk result (ReplyHolds (reply_fields reply.now)) }
 {
     out.push(2)?;
@@ -90,8 +93,8 @@ fn put_reply(out: &mut Vec<u8>, reply: &Reply) -> Result<(), AllocError>
     Ok(())
 }
 
-/// Encodes a reply as a frame. Returns `Long` exactly where its body exceeds [`MAX_BODY_LENGTH`]. The right
-/// reply to a batch that has a frame fits (`laws::reply_fits`).
+/// Encodes a reply as a frame. Returns `Long` exactly where its body exceeds [`MAX_BODY_LENGTH`].
+/// The right reply to a batch that has a frame fits (`laws::reply_fits`).
 pub fn encode_reply(alloc: Global, reply: &Reply) -> Result<Vec<u8>, WireError>
     ensures spelled { IfOk result (λ bytes. SpellsReply bytes.items reply.now) }
     ensures long { IsErrOf result WireError.Long ↔

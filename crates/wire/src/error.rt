@@ -7,8 +7,8 @@ use crate::source::Failed;
 use std::alloc::{AllocError, AllocFailed};
 use thiserror::Error;
 
-/// Why there is no value: the first fault of the bytes, memory that ran out, or a reader or a writer that
-/// failed. The text of each is its number and its name, as `1 Short`.
+/// Why there is no value: the first fault of the bytes, memory that ran out, or a reader or a
+/// writer that failed. The text of each is its number and its name, as `1 Short`.
 #[derive(Clone, Copy, Debug, PartialEq, Eq, Error)]
 pub enum WireError {
     /// The input ends inside a frame.
@@ -41,7 +41,8 @@ pub enum WireError {
     /// The body ends inside a field.
     #[error("10 Cut")]
     Cut = 10,
-    /// A growth of memory was refused in this call, or [`upgrade`](crate::upgrade) has written 2^64 - 1 frames.
+    /// A growth of memory was refused in this call, or [`upgrade`](crate::upgrade) has written 2^64
+    /// - 1 frames.
     #[error("11 Memory")]
     Memory = 11,
     /// The reader failed in this call.

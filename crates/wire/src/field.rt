@@ -1,11 +1,12 @@
-//! The fields that frames are made of. Each function reads one at the front and returns it with the bytes
-//! after it.
+//! The fields that frames are made of. Each function reads one at the front and returns it with the
+//! bytes after it.
 
 ghost use Rattle.std.specs.Prelude.{◌≡◌, ◌⊎◌, ◌+◌, ◌*◌, ◌<◌, ◌≤◌, IfOk, length};
 ghost use Rattle.byteorder.specs.Endian.{big_number};
 ghost use Rattle.keyspace.specs.Tables.{bytes_at};
 ghost use Rattle.wire.specs.Lying.{IsRestOf, index_of};
-ghost use Rattle.wire.specs.Reading.{Gives, number_at, signed_at, count_at, marks_at, kind_at, key_at, body_at};
+ghost use Rattle.wire.specs.Reading.{Gives, number_at, signed_at, count_at, marks_at, kind_at};
+ghost use Rattle.wire.specs.Reading.{key_at, body_at};
 
 use crate::error::WireError;
 use byteorder::{BigEndian, ByteOrder};
@@ -82,8 +83,8 @@ pub fn after_kind(kind: u8, bytes: &[u8]) -> Result<&[u8], WireError>
     Ok(rest)
 }
 
-/// Returns for how many of `count` values to take memory at once: no more than the bytes can hold, where each
-/// value takes at least `least` of them.
+/// Returns for how many of `count` values to take memory at once: no more than the bytes can hold,
+/// where each value takes at least `least` of them.
 pub fn room_for(count: u16, least: usize, bytes: &[u8]) -> usize
     requires some { 0 < least }
     ensures few { result ≤ count }
@@ -93,7 +94,8 @@ pub fn room_for(count: u16, least: usize, bytes: &[u8]) -> usize
     (count as usize).min(bytes.len() / least)
 }
 
-/// Reads a key of at most `limit` bytes, and returns its index in the frame, the key and the bytes after it. None is copied.
+/// Reads a key of at most `limit` bytes, and returns its index in the frame, the key and the bytes
+/// after it. None is copied.
 #[tactic(auto, unfolding(crate::specs::Reading::key_at))]
 pub fn key_of<'a>(
     frame: &[u8],

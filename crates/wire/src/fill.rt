@@ -1,6 +1,7 @@
 //! Reads the bytes of one frame, and none beyond it.
 
-ghost use Rattle.std.specs.Prelude.{◌≡◌, ◌≢◌, ◌<◌, ◌≤◌, ◌+◌, ◌-◌, length, take, vec_len, not, IfOk, IfErr, IsTrue, OnErr, OnOk};
+ghost use Rattle.std.specs.Prelude.{◌≡◌, ◌≢◌, ◌<◌, ◌≤◌, ◌+◌, ◌-◌, length, take, vec_len, not, IfOk};
+ghost use Rattle.std.specs.Prelude.{IfErr, IsTrue, OnErr, OnOk};
 ghost use Rattle.std.specs.Io.KnownBytes.{Consumes, IsAtEnd};
 ghost use Rattle.keys.specs.Key.{IsBytes};
 ghost use Rattle.wire.specs.Filling.{MovesInto, TakesFewer};
@@ -12,7 +13,8 @@ use crate::field::MAX_BODY_LENGTH;
 use crate::source::{Failed, Source};
 use byteorder::{BigEndian, ByteOrder};
 
-// The most bytes of a chunk, as long as the buffer holds fewer. So a length that no body follows takes little memory.
+// The most bytes of a chunk, as long as the buffer holds fewer. So a length that no body follows
+// takes little memory.
 const CHUNK_LENGTH: usize = 262_144;
 
 // Reads into the slice until it is full or the input ends. Returns how many bytes it read.
@@ -37,8 +39,9 @@ fn read_into<R: Source>(reader: &mut R, room: &mut [u8]) -> Result<usize, Failed
     Ok(count)
 }
 
-// Appends a chunk of at most `most` bytes to the buffer, whose memory is filled once per chunk, however few bytes each
-// read gives. Returns whether there was a complete chunk before the end of the input.
+// Appends a chunk of at most `most` bytes to the buffer, whose memory is filled once per chunk,
+// however few bytes each read gives. Returns whether there was a complete chunk before the end of
+// the input.
 fn read_chunk<R: Source>(
     reader: &mut R,
     buffer: &mut Vec<u8>,
@@ -46,19 +49,22 @@ fn read_chunk<R: Source>(
 ) -> Result<bool, WireError>
     requires some { 0 < most }
     ensures bytes { OnOk result
-        (MovesInto (R.remaining reader.old) (R.remaining reader.new) buffer.old.items buffer.new.items) }
+        (MovesInto (R.remaining reader.old) (R.remaining reader.new) buffer.old.items
+        buffer.new.items) }
     ensures within { OnOk result (vec_len buffer.new ≤ vec_len buffer.old + most) }
     ensures more { IfOk result (λ more. IsTrue more → vec_len buffer.old < vec_len buffer.new) }
     ensures end { IfOk result (λ more. IsTrue (not more) → IsAtEnd (R.remaining reader.new)) }
     ensures cut { OnErr result (TakesFewer most (R.remaining reader.old) (R.remaining reader.new)) }
     ensures ok { OnOk result (R.failures reader.new ≡ R.failures reader.old) }
-    ensures read { IfErr result (λ e. e ≡ WireError.Read → R.failures reader.old < R.failures reader.new) }
+    ensures read { IfErr result (λ e. e ≡ WireError.Read
+        → R.failures reader.old < R.failures reader.new) }
     ensures memory { IfErr result (λ e. e ≢ WireError.Read
         → (e ≡ WireError.Memory) × (R.failures reader.new ≡ R.failures reader.old)) }
 {
     let held = buffer.len();
     let wanted = most.min(CHUNK_LENGTH.max(held));
-    // Room for one byte more, the end of a single key that stands last, and for none beyond it, since a batch keeps the buffer.
+    // Room for one byte more, the end of a single key that stands last, and for none beyond it,
+    // since a batch keeps the buffer.
     buffer.reserve_exact(wanted + 1)?;
     buffer.resize(held + wanted, 0)?;
     let count = read_into(reader, &mut buffer[held..])?;
@@ -70,13 +76,16 @@ fn read_chunk<R: Source>(
 fn fill<R: Source>(reader: &mut R, buffer: &mut Vec<u8>, target: usize) -> Result<(), WireError>
     requires room { vec_len buffer.old ≤ target }
     ensures bytes { OnOk result
-        (MovesInto (R.remaining reader.old) (R.remaining reader.new) buffer.old.items buffer.new.items) }
+        (MovesInto (R.remaining reader.old) (R.remaining reader.new) buffer.old.items
+        buffer.new.items) }
     ensures within { OnOk result (vec_len buffer.new ≤ target) }
     ensures end { OnOk result (vec_len buffer.new < target → IsAtEnd (R.remaining reader.new)) }
     ensures cut { OnErr result
-        (TakesFewer (target - vec_len buffer.old) (R.remaining reader.old) (R.remaining reader.new)) }
+        (TakesFewer (target - vec_len buffer.old) (R.remaining reader.old)
+        (R.remaining reader.new)) }
     ensures ok { OnOk result (R.failures reader.new ≡ R.failures reader.old) }
-    ensures read { IfErr result (λ e. e ≡ WireError.Read → R.failures reader.old < R.failures reader.new) }
+    ensures read { IfErr result (λ e. e ≡ WireError.Read
+        → R.failures reader.old < R.failures reader.new) }
     ensures memory { IfErr result (λ e. e ≢ WireError.Read
         → (e ≡ WireError.Memory) × (R.failures reader.new ≡ R.failures reader.old)) }
 {
@@ -103,8 +112,9 @@ fn settled_by(front: &[u8]) -> usize
     4 + length
 }
 
-/// Reads the bytes of the next frame into the buffer: as many as settle what it says, or all that are left. The buffer is
-/// empty at the end of the input. Memory is filled once per chunk of 256 KiB, however few bytes each read gives.
+/// Reads the bytes of the next frame into the buffer: as many as settle what it says, or all that
+/// are left. The buffer is empty at the end of the input. Memory is filled once per chunk of 256
+/// KiB, however few bytes each read gives.
 pub fn fill_frame<R: Source>(reader: &mut R, buffer: &mut Vec<u8>) -> Result<(), WireError>
     ensures taken { OnOk result
         (Consumes (R.remaining reader.old) (R.remaining reader.new) buffer.new.items) }
@@ -114,7 +124,8 @@ pub fn fill_frame<R: Source>(reader: &mut R, buffer: &mut Vec<u8>) -> Result<(),
         (vec_len buffer.new < frame_length buffer.new.items → IsAtEnd (R.remaining reader.new)) }
     ensures part { IfErr result (TakesPart (R.remaining reader.old) (R.remaining reader.new)) }
     ensures ok { OnOk result (R.failures reader.new ≡ R.failures reader.old) }
-    ensures read { IfErr result (λ e. e ≡ WireError.Read → R.failures reader.old < R.failures reader.new) }
+    ensures read { IfErr result (λ e. e ≡ WireError.Read
+        → R.failures reader.old < R.failures reader.new) }
     ensures memory { IfErr result (λ e. e ≢ WireError.Read
         → (e ≡ WireError.Memory) × (R.failures reader.new ≡ R.failures reader.old)) }
 {

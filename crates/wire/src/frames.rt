@@ -1,6 +1,7 @@
 //! The batches of a reader, frame after frame.
 
-ghost use Rattle.std.specs.Prelude.{◌≡◌, ◌≢◌, ◌<◌, ◌↔◌, IfOk, IfErr, IfSome, IfNone, OnOk, IsSome, IsErrOf, Some, None};
+ghost use Rattle.std.specs.Prelude.{◌≡◌, ◌≢◌, ◌<◌, ◌↔◌, IfOk, IfErr, IfSome, IfNone, OnOk, IsSome};
+ghost use Rattle.std.specs.Prelude.{IsErrOf, Some, None};
 ghost use Rattle.std.specs.Io.KnownBytes.{IsAtEnd};
 ghost use Rattle.wire.specs.NextFrame.{TakesFrame, TakesPart, IsFaultOf};
 ghost use Rattle.wire.specs.Frames.{frames_reader, refusal_of};
@@ -12,8 +13,8 @@ use crate::source::Source;
 use keyspace::Batch;
 use std::alloc::Global;
 
-/// Iterates over the batches of a reader, frame after frame. Reads no byte beyond the frame that is asked
-/// for.
+/// Iterates over the batches of a reader, frame after frame. Reads no byte beyond the frame that is
+/// asked for.
 #[derive(Debug, Drop)]
 pub struct Frames<R> {
     reader: R,
@@ -34,8 +35,8 @@ pub fn read_frames<R: Source>(alloc: Global, reader: R) -> Frames<R>
     }
 }
 
-/// Returns the batch of the next frame, or `None` at the end of the input. The batch keeps the buffer that the frame was
-/// read into.
+/// Returns the batch of the next frame, or `None` at the end of the input. The batch keeps the
+/// buffer that the frame was read into.
 pub fn read_next<R: Source>(alloc: Global, reader: &mut R) -> Result<Option<Batch>, WireError>
     ensures batch { IfOk result (λ found. IfSome found
         (TakesFrame (R.remaining reader.old) (R.remaining reader.new))) }
@@ -45,8 +46,10 @@ pub fn read_next<R: Source>(alloc: Global, reader: &mut R) -> Result<Option<Batc
         → IfSome (R.remaining reader.old) (IsFaultOf e)) }
     ensures part { IfErr result (TakesPart (R.remaining reader.old) (R.remaining reader.new)) }
     ensures ok { OnOk result (R.failures reader.new ≡ R.failures reader.old) }
-    ensures read { IfErr result (λ e. e ≡ WireError.Read → R.failures reader.old < R.failures reader.new) }
-    ensures others { IfErr result (λ e. e ≢ WireError.Read → R.failures reader.new ≡ R.failures reader.old) }
+    ensures read { IfErr result (λ e. e ≡ WireError.Read
+        → R.failures reader.old < R.failures reader.new) }
+    ensures others { IfErr result (λ e. e ≢ WireError.Read
+        → R.failures reader.new ≡ R.failures reader.old) }
     ensures never_write { IfErr result (λ e. e ≢ WireError.Write) }
 {
     let mut frame = Vec::new(alloc);
@@ -60,28 +63,31 @@ pub fn read_next<R: Source>(alloc: Global, reader: &mut R) -> Result<Option<Batc
 }
 
 impl<R: Source> Frames<R> {
-    /// Returns the next batch, or `None` where the input ends between two frames. Returns `Read` only where
-    /// the reader failed in this call. After a refusal every later call returns the same refusal and reads
-    /// nothing.
+    /// Returns the next batch, or `None` where the input ends between two frames. Returns `Read`
+    /// only where the reader failed in this call. After a refusal every later call returns the same
+    /// refusal and reads nothing.
     pub fn next(&mut self) -> Result<Option<Batch>, WireError>
         ensures batch { IfOk result (λ found. IfSome found
-            (TakesFrame (R.remaining (frames_reader self.old)) (R.remaining (frames_reader self.new)))) }
+            (TakesFrame (R.remaining (frames_reader self.old))
+            (R.remaining (frames_reader self.new)))) }
         ensures end { IfOk result (λ found. IfNone found
             (IsAtEnd (R.remaining (frames_reader self.old))
             × IsAtEnd (R.remaining (frames_reader self.new)))) }
 
-        // If the reader reports its bytes, any other refusal than `Memory` and `Read` is the fault of those
-        // left.
+        // If the reader reports its bytes, any other refusal than `Memory` and `Read` is the fault
+        // of those left.
         ensures fault { refusal_of self.old ≡ None → IfErr result (λ e.
             e ≢ WireError.Memory → e ≢ WireError.Read
             → IfSome (R.remaining (frames_reader self.old)) (IsFaultOf e)) }
         ensures part { refusal_of self.old ≡ None → IfErr result
-            (TakesPart (R.remaining (frames_reader self.old)) (R.remaining (frames_reader self.new))) }
+            (TakesPart (R.remaining (frames_reader self.old))
+            (R.remaining (frames_reader self.new))) }
         ensures read { refusal_of self.old ≡ None → (IsErrOf result WireError.Read ↔
             (R.failures (frames_reader self.old) < R.failures (frames_reader self.new))) }
 
         ensures refused { IfSome (refusal_of self.old) (λ e. result ≡ Err e) }
-        ensures rests { IsSome (refusal_of self.old) → frames_reader self.new ≡ frames_reader self.old }
+        ensures rests { IsSome (refusal_of self.old)
+            → frames_reader self.new ≡ frames_reader self.old }
         ensures err { IfErr result (λ e. refusal_of self.new ≡ Some e) }
         ensures ok { OnOk result (refusal_of self.new ≡ None) }
         ensures never_write { refusal_of self.old ≡ None → IfErr result (λ e. e ≢ WireError.Write) }

@@ -10,8 +10,8 @@ ghost use Rattle.wire.specs.Fields.{batch_fields, reply_fields};
 ghost use Rattle.wire.specs.Spelling.{batch_body, reply_body, IsShort, SpellsBatch, SpellsReply};
 ghost use Rattle.wire.specs.Reading.{batch_fault, reply_fault, version_told};
 
-/// A value has at most one spelling in each wire version, a text spells at most one value, and no frame
-/// begins another. So decoding returns the encoded value, whatever follows it.
+/// A value has at most one spelling in each wire version, a text spells at most one value, and no
+/// frame begins another. So decoding returns the encoded value, whatever follows it.
 pub fn one_spelling()
     // A frame of one wire version begins none of the other.
     ensures batches { (v w : WireVersionValue) (x y s t : List ℕ) (a b : BatchValue)
@@ -25,18 +25,21 @@ pub fn one_spelling()
 
     ensures replies { (x y s t : List ℕ) (a b : ReplyValue)
         → SpellsReply x a → SpellsReply y b → x ++ s ≡ y ++ t → (x ≡ y) × (a ≡ b) }
-    ensures reply_text { (x y : List ℕ) (a : ReplyValue) → SpellsReply x a → SpellsReply y a → x ≡ y }
-    ensures reply_read { (x s : List ℕ) (a : ReplyValue) → SpellsReply x a → reply_fault (x ++ s) ≡ None }
+    ensures reply_text { (x y : List ℕ) (a : ReplyValue) → SpellsReply x a → SpellsReply y a
+        → x ≡ y }
+    ensures reply_read { (x s : List ℕ) (a : ReplyValue) → SpellsReply x a
+        → reply_fault (x ++ s) ≡ None }
 
     // A frame of a batch begins none of a reply, nor the other way round.
     ensures kinds { (v : WireVersionValue) (x y s t : List ℕ) (a : BatchValue) (r : ReplyValue)
         → SpellsBatch v x a → SpellsReply y r → x ++ s ≢ y ++ t }
 {}
 
-/// The right reply to a batch that fits a frame of either wire version fits one too: it has no more entries
-/// than the batch has transactions and, for each, no more places than read ranges.
+/// The right reply to a batch that fits a frame of either wire version fits one too: it has no more
+/// entries than the batch has transactions and, for each, no more places than read ranges.
 pub fn reply_fits()
-    ensures fits { (v : WireVersionValue) (window : ℤ) (ws : List Write) (b : BatchValue) (r : ReplyValue)
+    ensures fits { (v : WireVersionValue) (window : ℤ) (ws : List Write) (b : BatchValue)
+        (r : ReplyValue)
         → Judged window ws b r → IsShort (batch_body v (batch_fields b))
         → IsShort (reply_body (reply_fields r)) }
 {}

@@ -3,8 +3,10 @@
 ghost use Rattle.std.specs.Prelude.{◌≡◌, ◌≤◌, ◌*◌, length, map};
 ghost use Rattle.std.specs.List.{flat_map};
 ghost use Rattle.keys.specs.declared.key.TheConstants.{MAX_KEY_LENGTH};
-ghost use Rattle.wire.specs.Fields.{range_fields, txn_fields, batch_fields, entry_fields, reply_fields};
-ghost use Rattle.wire.specs.Spelling.{key_text, ends_text, range_text, txn_text, batch_body, entry_text, reply_body};
+ghost use Rattle.wire.specs.Fields.{range_fields, txn_fields, batch_fields, entry_fields};
+ghost use Rattle.wire.specs.Fields.{reply_fields};
+ghost use Rattle.wire.specs.Spelling.{key_text, ends_text, range_text, txn_text, batch_body};
+ghost use Rattle.wire.specs.Spelling.{entry_text, reply_body};
 
 use crate::single::is_single_key;
 use crate::version::WireVersion;

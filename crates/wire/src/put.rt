@@ -8,7 +8,8 @@ ghost use Rattle.byteorder.specs.Endian.{big_bytes};
 ghost use Rattle.keys.specs.declared.key.TheConstants.{MAX_KEY_LENGTH};
 ghost use Rattle.keyspace.specs.Places.{ArePlaces};
 ghost use Rattle.wire.specs.Fields.{range_fields, txn_fields, entry_fields};
-ghost use Rattle.wire.specs.Spelling.{signed_text, key_text, ends_text, formed_text, range_text, marks_text, txn_text, verdict_text, places_text, entry_text};
+ghost use Rattle.wire.specs.Spelling.{signed_text, key_text, ends_text, formed_text, range_text};
+ghost use Rattle.wire.specs.Spelling.{marks_text, txn_text, verdict_text, places_text, entry_text};
 
 use crate::single::is_single_key;
 use crate::version::WireVersion;
@@ -57,7 +58,8 @@ fn put_key(out: &mut Vec<u8>, key: &[u8]) -> Result<(), AllocError>
 }
 
 fn put_ends(out: &mut Vec<u8>, range: &RangeRef<'_>) -> Result<(), AllocError>
-    ensures text { OnOk result (out.new.items ≡ out.old.items ++ ends_text (range_fields range.now)) }
+    ensures text { OnOk result (out.new.items
+        ≡ out.old.items ++ ends_text (range_fields range.now)) }
 {
     put_key(out, range.begin())?;
     put_key(out, range.end())
@@ -65,7 +67,8 @@ fn put_ends(out: &mut Vec<u8>, range: &RangeRef<'_>) -> Result<(), AllocError>
 
 #[tactic(auto, unfolding(crate::specs::Spelling::formed_text))]
 fn put_formed(out: &mut Vec<u8>, range: &RangeRef<'_>) -> Result<(), AllocError>
-    ensures text { OnOk result (out.new.items ≡ out.old.items ++ formed_text (range_fields range.now)) }
+    ensures text { OnOk result (out.new.items
+        ≡ out.old.items ++ formed_text (range_fields range.now)) }
 {
     if is_single_key(range.begin(), range.end()) {
         out.push(1)?;
@@ -106,7 +109,8 @@ fn put_ranges(
 
 #[tactic(auto, unfolding(crate::specs::Spelling::txn_text))]
 fn put_txn(out: &mut Vec<u8>, version: WireVersion, txn: &TxnRef<'_>) -> Result<(), AllocError>
-    ensures text { OnOk result (out.new.items ≡ out.old.items ++ txn_text version (txn_fields txn.now)) }
+    ensures text { OnOk result (out.new.items
+        ≡ out.old.items ++ txn_text version (txn_fields txn.now)) }
     ensures fits { FitsSigned w64 txn.now.snapshot }
 {
     put_i64(out, txn.snapshot)?;
@@ -152,7 +156,8 @@ fn put_verdict(out: &mut Vec<u8>, verdict: Verdict) -> Result<(), AllocError>
 
 #[tactic(auto, using(crate::proofs::PlaceLists::few_places), unfolding(crate::specs::Spelling::entry_text))]
 fn put_entry(out: &mut Vec<u8>, entry: &Entry) -> Result<(), AllocError>
-    ensures text { OnOk result (out.new.items ≡ out.old.items ++ entry_text (entry_fields entry.now)) }
+    ensures text { OnOk result (out.new.items
+        ≡ out.old.items ++ entry_text (entry_fields entry.now)) }
     ensures places { ArePlaces entry.now.places }
 {
     let places = entry.places.as_slice();

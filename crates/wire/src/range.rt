@@ -13,7 +13,8 @@ use crate::version::WireVersion;
 use keys::MAX_KEY_LENGTH;
 use keyspace::Span;
 
-// The fewest bytes that a range takes in either version: in version 2, a form and the length of a key.
+// The fewest bytes that a range takes in either version: in version 2, a form and the length of a
+// key.
 const MIN_RANGE_LENGTH: usize = 3;
 
 // Reads both ends of a range.
@@ -22,7 +23,8 @@ fn ends_of<'a>(frame: &[u8], bytes: &'a [u8]) -> Result<(Span, &'a [u8]), WireEr
     requires short { length frame.now ≤ 4 + MAX_BODY_LENGTH }
     requires rest { IsRestOf frame.now bytes.now }
     ensures reads { Gives (λ x. (range_read frame.now x.0, x.1.now)) result (ends_at bytes.now) }
-    ensures place { IfOk result (λ x. IsBetween (index_of frame.now bytes.now) x.0 (index_of frame.now x.1.now)) }
+    ensures place { IfOk result (λ x. IsBetween (index_of frame.now bytes.now) x.0
+        (index_of frame.now x.1.now)) }
     ensures both { IfOk result (λ x. x.0.begin + x.0.begin_length < x.0.end) }
     ensures rest { IfOk result (λ x. IsRestOf frame.now x.1.now) }
 {
@@ -46,7 +48,8 @@ fn form_0_of<'a>(frame: &[u8], bytes: &'a [u8]) -> Result<(Span, &'a [u8]), Wire
     requires short { length frame.now ≤ 4 + MAX_BODY_LENGTH }
     requires rest { IsRestOf frame.now bytes.now }
     ensures reads { Gives (λ x. (range_read frame.now x.0, x.1.now)) result (form_at 0 bytes.now) }
-    ensures place { IfOk result (λ x. IsBetween (index_of frame.now bytes.now) x.0 (index_of frame.now x.1.now)) }
+    ensures place { IfOk result (λ x. IsBetween (index_of frame.now bytes.now) x.0
+        (index_of frame.now x.1.now)) }
     ensures rest { IfOk result (λ x. IsRestOf frame.now x.1.now) }
 {
     let (span, rest) = ends_of(frame, bytes)?;
@@ -64,7 +67,8 @@ fn form_1_of<'a>(frame: &[u8], bytes: &'a [u8]) -> Result<(Span, &'a [u8]), Wire
     requires short { length frame.now ≤ 4 + MAX_BODY_LENGTH }
     requires rest { IsRestOf frame.now bytes.now }
     ensures reads { Gives (λ x. (range_read frame.now x.0, x.1.now)) result (form_at 1 bytes.now) }
-    ensures place { IfOk result (λ x. IsBetween (index_of frame.now bytes.now) x.0 (index_of frame.now x.1.now)) }
+    ensures place { IfOk result (λ x. IsBetween (index_of frame.now bytes.now) x.0
+        (index_of frame.now x.1.now)) }
     ensures rest { IfOk result (λ x. IsRestOf frame.now x.1.now) }
 {
     let (begin, key, rest) = key_of(frame, MAX_SINGLE_KEY_LENGTH, bytes)?;
@@ -84,7 +88,8 @@ fn formed_of<'a>(frame: &[u8], bytes: &'a [u8]) -> Result<(Span, &'a [u8]), Wire
     requires short { length frame.now ≤ 4 + MAX_BODY_LENGTH }
     requires rest { IsRestOf frame.now bytes.now }
     ensures reads { Gives (λ x. (range_read frame.now x.0, x.1.now)) result (formed_at bytes.now) }
-    ensures place { IfOk result (λ x. IsBetween (index_of frame.now bytes.now) x.0 (index_of frame.now x.1.now)) }
+    ensures place { IfOk result (λ x. IsBetween (index_of frame.now bytes.now) x.0
+        (index_of frame.now x.1.now)) }
     ensures rest { IfOk result (λ x. IsRestOf frame.now x.1.now) }
 {
     let (form, rest) = u8_at(bytes)?;
@@ -102,8 +107,10 @@ fn range_of<'a>(
 ) -> Result<(Span, &'a [u8]), WireError>
     requires short { length frame.now ≤ 4 + MAX_BODY_LENGTH }
     requires rest { IsRestOf frame.now bytes.now }
-    ensures reads { Gives (λ x. (range_read frame.now x.0, x.1.now)) result (range_at version bytes.now) }
-    ensures place { IfOk result (λ x. IsBetween (index_of frame.now bytes.now) x.0 (index_of frame.now x.1.now)) }
+    ensures reads { Gives (λ x. (range_read frame.now x.0, x.1.now)) result
+        (range_at version bytes.now) }
+    ensures place { IfOk result (λ x. IsBetween (index_of frame.now bytes.now) x.0
+        (index_of frame.now x.1.now)) }
     ensures rest { IfOk result (λ x. IsRestOf frame.now x.1.now) }
 {
     match version {
@@ -124,7 +131,8 @@ pub fn push_ranges<'a>(
     requires short { length frame.now ≤ 4 + MAX_BODY_LENGTH }
     requires rest { IsRestOf frame.now bytes.now }
     requires apart { AreApart 0 spans.old.items (index_of frame.now bytes.now) }
-    ensures reads { Gives (λ rest. (map (range_read frame.now) (drop (length spans.old.items) spans.new.items), rest.now))
+    ensures reads { Gives (λ rest.
+        (map (range_read frame.now) (drop (length spans.old.items) spans.new.items), rest.now))
         result (many_at (range_at version) count bytes.now) }
     ensures front { OnOk result (take (length spans.old.items) spans.new.items ≡ spans.old.items) }
     ensures count { OnOk result (length spans.new.items ≡ length spans.old.items + count) }

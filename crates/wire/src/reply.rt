@@ -1,12 +1,14 @@
 //! The reading of a frame of a reply.
 
-ghost use Rattle.std.specs.Prelude.{◌≡◌, ◌≢◌, ◌+◌, ◌<◌, ◌≤◌, [], length, map, take, vec_len, IfOk, IfErr, OnOk, Some, None};
+ghost use Rattle.std.specs.Prelude.{◌≡◌, ◌≢◌, ◌+◌, ◌<◌, ◌≤◌, [], length, map, take, vec_len, IfOk};
+ghost use Rattle.std.specs.Prelude.{IfErr, OnOk, Some, None};
 ghost use Rattle.byteorder.specs.Endian.{big_number};
 ghost use Rattle.keyspace.specs.Places.{ArePlaces};
 ghost use Rattle.keyspace.specs.declared.reply.Verdict.TheVariants.{Conflict};
 ghost use Rattle.wire.specs.Fields.{entry_fields, reply_fields};
 ghost use Rattle.wire.specs.Spelling.{SpellsReply};
-ghost use Rattle.wire.specs.Reading.{Gives, verdict_at, most_places, place_at, places_at, entry_at, many_at, reply_at, read_reply, reply_fault};
+ghost use Rattle.wire.specs.Reading.{Gives, verdict_at, most_places, place_at, places_at, entry_at};
+ghost use Rattle.wire.specs.Reading.{many_at, reply_at, read_reply, reply_fault};
 
 use crate::error::WireError;
 use crate::field::{after_kind, body_of, count_of, i64_at, room_for, u8_at, u16_at};
@@ -131,8 +133,8 @@ pub fn read_frame(alloc: Global, bytes: &[u8]) -> Result<(Reply, usize), WireErr
     Ok((reply, 4 + body.len()))
 }
 
-/// Decodes the frame at the front and returns its reply and its length in bytes. What follows the frame isn't
-/// looked at. A refusal other than `Memory` is the frame's first fault.
+/// Decodes the frame at the front and returns its reply and its length in bytes. What follows the
+/// frame isn't looked at. A refusal other than `Memory` is the frame's first fault.
 pub fn decode_reply(alloc: Global, bytes: &[u8]) -> Result<(Reply, usize), WireError>
     ensures within { IfOk result (λ found. found.1 ≤ length bytes.now) }
     ensures spelled { IfOk result (λ found. SpellsReply (take found.1 bytes.now) found.0) }

@@ -12,10 +12,11 @@ use crate::source::Source;
 use keyspace::Reply;
 use std::alloc::Global;
 
-/// Returns the reply of the next frame, or `None` at the end of the input. Reads no byte beyond the frame.
+/// Returns the reply of the next frame, or `None` at the end of the input. Reads no byte beyond the
+/// frame.
 ///
-/// If the reader reports its bytes, any other refusal than `Memory` and `Read` is the fault of those left. `Read` is returned
-/// only where the reader failed in this call.
+/// If the reader reports its bytes, any other refusal than `Memory` and `Read` is the fault of
+/// those left. `Read` is returned only where the reader failed in this call.
 pub fn read_reply<R: Source>(alloc: Global, reader: &mut R) -> Result<Option<Reply>, WireError>
     ensures reply { IfOk result (λ found. IfSome found
         (TakesReply (R.remaining reader.old) (R.remaining reader.new))) }
@@ -25,8 +26,10 @@ pub fn read_reply<R: Source>(alloc: Global, reader: &mut R) -> Result<Option<Rep
         → IfSome (R.remaining reader.old) (IsReplyFaultOf e)) }
     ensures part { IfErr result (TakesPart (R.remaining reader.old) (R.remaining reader.new)) }
     ensures ok { OnOk result (R.failures reader.new ≡ R.failures reader.old) }
-    ensures read { IfErr result (λ e. e ≡ WireError.Read → R.failures reader.old < R.failures reader.new) }
-    ensures others { IfErr result (λ e. e ≢ WireError.Read → R.failures reader.new ≡ R.failures reader.old) }
+    ensures read { IfErr result (λ e. e ≡ WireError.Read
+        → R.failures reader.old < R.failures reader.new) }
+    ensures others { IfErr result (λ e. e ≢ WireError.Read
+        → R.failures reader.new ≡ R.failures reader.old) }
 {
     let mut frame = Vec::new(alloc);
     fill_frame(reader, &mut frame)?;

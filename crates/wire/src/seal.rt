@@ -7,8 +7,8 @@ ghost use Rattle.wire.specs.Lying.{AreApart, range_read};
 use keyspace::Span;
 use std::alloc::AllocError;
 
-/// Puts the zero byte after each single key, which ends its range. The byte there was read before: the form or the length
-/// of a range, or a count. One byte is appended for a key at the very end.
+/// Puts the zero byte after each single key, which ends its range. The byte there was read before:
+/// the form or the length of a range, or a count. One byte is appended for a key at the very end.
 pub fn seal(frame: &mut Vec<u8>, spans: &[Span]) -> Result<(), AllocError>
     requires apart { AreApart 0 spans.now (vec_len frame.old) }
     ensures told { OnOk result

@@ -1,6 +1,7 @@
 //! The writers that text and frames go to.
 
-ghost use Rattle.std.specs.Prelude.{◌≡◌, ◌+◌, ◌<◌, ◌≤◌, ℕ, List, Option, length, take, IfOk, IfSome, OnOk, OnErr};
+ghost use Rattle.std.specs.Prelude.{◌≡◌, ◌+◌, ◌<◌, ◌≤◌, ℕ, List, Option, length, take, IfOk};
+ghost use Rattle.std.specs.Prelude.{IfSome, OnOk, OnErr};
 ghost use Rattle.std.specs.Io.KnownBytes.{Appends, Keeps};
 ghost use Rattle.wire.specs.Sink.{sink_writer, sink_failures, sink_given};
 
@@ -15,26 +16,29 @@ pub trait Sink {
     // How often it has failed.
     ghost failures: { Self → ℕ };
 
-    /// Writes a prefix of the bytes and returns how many it took. Takes none of a non-empty slice only
-    /// where it fails.
+    /// Writes a prefix of the bytes and returns how many it took. Takes none of a non-empty slice
+    /// only where it fails.
     fn write(&mut self, bytes: &[u8]) -> Result<usize, Failed>
         ensures bound { IfOk result (λ n. n ≤ length bytes.now) }
         ensures some { IfOk result (λ n. 0 < length bytes.now → 0 < n) }
-        ensures bytes { IfOk result (λ n. Appends (given self.old) (given self.new) (take n bytes.now)) }
-        ensures kept { OnErr result (IfSome (given self.new) (λ _. Keeps (given self.old) (given self.new))) }
+        ensures bytes { IfOk result (λ n. Appends (given self.old) (given self.new)
+            (take n bytes.now)) }
+        ensures kept { OnErr result (IfSome (given self.new)
+            (λ _. Keeps (given self.old) (given self.new))) }
         ensures ok { OnOk result (failures self.new ≡ failures self.old) }
         ensures failed { OnErr result (failures self.new ≡ failures self.old + 1) };
 
     /// Passes on what the writer holds back. The bytes given to it stay.
     fn flush(&mut self) -> Result<(), Failed>
         ensures given { OnOk result (Keeps (given self.old) (given self.new)) }
-        ensures kept { OnErr result (IfSome (given self.new) (λ _. Keeps (given self.old) (given self.new))) }
+        ensures kept { OnErr result (IfSome (given self.new)
+            (λ _. Keeps (given self.old) (given self.new))) }
         ensures ok { OnOk result (failures self.new ≡ failures self.old) }
         ensures failed { OnErr result (failures self.new ≡ failures self.old + 1) };
 }
 
-/// Writes all of the bytes, in as many calls as it takes. After a failure the sink was given a prefix of
-/// them.
+/// Writes all of the bytes, in as many calls as it takes. After a failure the sink was given a
+/// prefix of them.
 pub fn write_all<W: Sink>(writer: &mut W, bytes: &[u8]) -> Result<(), Failed>
     ensures whole { OnOk result (Appends (W.given writer.old) (W.given writer.new) bytes.now) }
     ensures beginning { OnErr result (IfSome (W.given writer.new) (λ _.
@@ -61,9 +65,9 @@ pub fn write_and_flush<W: Sink>(writer: &mut W, bytes: &[u8]) -> Result<(), Fail
     writer.flush()
 }
 
-/// A [`Sink`] over any writer of `std`. After an interruption it tries again, at most 1,000 times in one
-/// call. A writer that takes none of a non-empty slice has failed. Its count of failures stops at `u64::MAX`:
-/// from then on it reports no bytes and passes none on.
+/// A [`Sink`] over any writer of `std`. After an interruption it tries again, at most 1,000 times
+/// in one call. A writer that takes none of a non-empty slice has failed. Its count of failures
+/// stops at `u64::MAX`: from then on it reports no bytes and passes none on.
 #[derive(Debug, Drop)]
 pub struct StdSink<W> {
     writer: W,

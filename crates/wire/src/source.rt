@@ -1,6 +1,7 @@
 //! The readers that frames come from.
 
-ghost use Rattle.std.specs.Prelude.{◌≡◌, ◌+◌, ◌<◌, ◌≤◌, ℕ, List, Option, length, take, IfOk, IfSome, OnOk, OnErr};
+ghost use Rattle.std.specs.Prelude.{◌≡◌, ◌+◌, ◌<◌, ◌≤◌, ℕ, List, Option, length, take, IfOk};
+ghost use Rattle.std.specs.Prelude.{IfSome, OnOk, OnErr};
 ghost use Rattle.std.specs.Io.KnownBytes.{Consumes, IsAtEnd, Keeps};
 ghost use Rattle.wire.specs.Source.{source_reader, source_failures, source_remaining};
 
@@ -18,13 +19,14 @@ pub trait Source {
     // How often it has failed.
     ghost failures: { Self → ℕ };
 
-    /// Reads into the front of the buffer and returns how many bytes it wrote. Returns 0 for a non-empty
-    /// buffer only at the end of the input. A failed read takes no byte.
+    /// Reads into the front of the buffer and returns how many bytes it wrote. Returns 0 for a
+    /// non-empty buffer only at the end of the input. A failed read takes no byte.
     fn read(&mut self, buffer: &mut [u8]) -> Result<usize, Failed>
         ensures bound { IfOk result (λ n. n ≤ length buffer.new) }
         ensures bytes { IfOk result (λ n.
             Consumes (remaining self.old) (remaining self.new) (take n buffer.new)) }
-        ensures end { IfOk result (λ n. n ≡ 0 → 0 < length buffer.new → IsAtEnd (remaining self.new)) }
+        ensures end { IfOk result (λ n. n ≡ 0 → 0 < length buffer.new
+            → IsAtEnd (remaining self.new)) }
         ensures kept { OnErr result (IfSome (remaining self.new) (λ _.
             Keeps (remaining self.old) (remaining self.new))) }
         ensures ok { OnOk result (failures self.new ≡ failures self.old) }
@@ -34,8 +36,9 @@ pub trait Source {
 /// The most times that one read or write is tried again after an interruption.
 pub const MAX_RETRIES: u32 = 1_000;
 
-/// A [`Source`] over any reader of `std`. After an interruption it tries again, at most 1,000 times in one
-/// call. Its count of failures stops at `u64::MAX`: from then on it reports no bytes and gives none.
+/// A [`Source`] over any reader of `std`. After an interruption it tries again, at most 1,000 times
+/// in one call. Its count of failures stops at `u64::MAX`: from then on it reports no bytes and
+/// gives none.
 #[derive(Debug, Drop)]
 pub struct StdSource<R> {
     reader: R,

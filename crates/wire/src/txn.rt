@@ -16,8 +16,8 @@ use std::alloc::Global;
 // The fewest bytes that a transaction takes.
 const MIN_TXN_LENGTH: usize = 13;
 
-// Reads a transaction, and appends the spans of its ranges, those of the read ranges first. After an error some of them may
-// have been appended.
+// Reads a transaction, and appends the spans of its ranges, those of the read ranges first. After
+// an error some of them may have been appended.
 #[tactic(auto, unfolding(crate::specs::Reading::txn_at, crate::specs::Reading::version_at))]
 fn row_of<'a>(
     version: WireVersion,
@@ -28,9 +28,13 @@ fn row_of<'a>(
     requires short { length frame.now ≤ 4 + MAX_BODY_LENGTH }
     requires rest { IsRestOf frame.now bytes.now }
     requires apart { AreApart 0 spans.old.items (index_of frame.now bytes.now) }
-    ensures reads { Gives (λ x. (txn_read frame.now spans.new.items (length spans.old.items) x.0, x.1.now)) result
+    ensures reads { Gives (λ x. (
+      txn_read frame.now spans.new.items (length spans.old.items) x.0,
+      x.1.now,
+    )) result
         (txn_at version bytes.now) }
-    ensures row { IfOk result (λ x. AreRows (length spans.old.items) (x.0 ∷ []) (length spans.new.items)) }
+    ensures row { IfOk result (λ x. AreRows (length spans.old.items) (x.0 ∷ [])
+        (length spans.new.items)) }
     ensures front { OnOk result (take (length spans.old.items) spans.new.items ≡ spans.old.items) }
     ensures apart { IfOk result (λ x. AreApart 0 spans.new.items (index_of frame.now x.1.now)) }
     ensures rest { IfOk result (λ x. IsRestOf frame.now x.1.now) }
@@ -70,7 +74,8 @@ pub fn txns_of<'a>(
 {
     let room = room_for(count, MIN_TXN_LENGTH, bytes);
     let mut rows = Vec::with_capacity(alloc, room)?;
-    // Room for two ranges of each transaction, one read and one written. If there are more, it grows.
+    // Room for two ranges of each transaction, one read and one written. If there are more, it
+    // grows.
     let mut spans = Vec::with_capacity(alloc, 2 * room)?;
     let mut rest = bytes;
     for _ in 0..count {

@@ -23,7 +23,8 @@ fn ones_between(low: usize, high: usize) -> u64
 // Sets the bits of the mask in one word.
 fn set_in_word(words: &mut [u64], word: usize, mask: u64)
     requires within { word < length words.old }
-    ensures set { (bit : ℕ) → HasBit words.new bit ↔ (HasBit words.old bit ⊎ IsInWord word mask bit) }
+    ensures set { (bit : ℕ) → HasBit words.new bit
+        ↔ (HasBit words.old bit ⊎ IsInWord word mask bit) }
 {
     words[word] |= mask;
 }
@@ -32,7 +33,8 @@ fn set_in_word(words: &mut [u64], word: usize, mask: u64)
 fn set_words(words: &mut [u64], first: usize, last: usize)
     requires ordered { first ≤ last }
     requires within { last ≤ length words.old }
-    ensures set { (bit : ℕ) → HasBit words.new bit ↔ (HasBit words.old bit ⊎ IsInRun first last (bit / 64)) }
+    ensures set { (bit : ℕ) → HasBit words.new bit
+        ↔ (HasBit words.old bit ⊎ IsInRun first last (bit / 64)) }
 {
     words[first..last].fill(u64::MAX);
 }
@@ -65,7 +67,8 @@ fn any_in_word(words: &[u64], word: usize, mask: u64) -> bool
 fn any_in_words(words: &[u64], first: usize, last: usize) -> bool
     requires ordered { first ≤ last }
     requires within { last ≤ length words.now }
-    ensures found { IsTrue result ↔ ((bit : ℕ) × IsInRun first last (bit / 64) × HasBit words.now bit) }
+    ensures found { IsTrue result ↔ ((bit : ℕ) × IsInRun first last (bit / 64)
+        × HasBit words.now bit) }
 {
     words[first..last].iter().any(|word| *word != 0)
 }

@@ -1,6 +1,8 @@
-//! The answering of many queries: the filter is asked first, and the boundaries for those that it leaves open.
+//! The answering of many queries: the filter is asked first, and the boundaries for those that it
+//! leaves open.
 
-ghost use Rattle.std.specs.Prelude.{◌≡◌, ◌+◌, ◌<◌, ◌≤◌, ◌↔◌, Bool, List, ◌++◌, length, take, drop, slice_get, IfOk, OnOk, IsSomeAnd, IsTrue};
+ghost use Rattle.std.specs.Prelude.{◌≡◌, ◌+◌, ◌<◌, ◌≤◌, ◌↔◌, Bool, List, ◌++◌, length, take, drop};
+ghost use Rattle.std.specs.Prelude.{slice_get, IfOk, OnOk, IsSomeAnd, IsTrue};
 ghost use Rattle.std.specs.List.{AllZip};
 ghost use Rattle.keys.specs.Range.{IsEmpty};
 ghost use Rattle.stepmap.specs.Covers.{IsAbove};
@@ -16,7 +18,8 @@ use std::alloc::AllocError;
 use tree::SIDE;
 
 impl StepMap {
-    // Answers the next of the queries, and appends the answers. At most `SIDE` of them are looked up, side by side.
+    // Answers the next of the queries, and appends the answers. At most `SIDE` of them are looked
+    // up, side by side.
     pub(super) fn answer_some<L: QueryList>(
         &self,
         queries: &L,
@@ -37,16 +40,18 @@ impl StepMap {
         Ok(())
     }
 
-    // Marks the next of the queries, and appends the marks: true where the filter leaves a query open. Returns the places of
-    // these. There are at most `SIDE`.
+    // Marks the next of the queries, and appends the marks: true where the filter leaves a query
+    // open. Returns the places of these. There are at most `SIDE`.
     fn mark_some<L: QueryList>(
         &self,
         queries: &L,
         marks: &mut Vec<bool>,
     ) -> Result<ArrayVec<usize, SIDE>, AllocError>
         requires some { length marks.old.items < length (L.queries queries.now) }
-        ensures marked { IfOk result (λ places. (told : List Bool) × (marks.new.items ≡ marks.old.items ++ told)
-            × (1 ≤ length told) × AreMarked self.now (L.queries queries.now) (length marks.old.items) told places.items) }
+        ensures marked { IfOk result (λ places. (told : List Bool)
+            × (marks.new.items ≡ marks.old.items ++ told)
+            × (1 ≤ length told) × AreMarked self.now (L.queries queries.now)
+            (length marks.old.items) told places.items) }
     {
         let count = queries.len();
         let mut places = ArrayVec::new();
@@ -56,7 +61,8 @@ impl StepMap {
         Ok(places)
     }
 
-    // Marks the next queries the same way, at least one and up to `SIDE`, as far as there is room for their places, and adds the places.
+    // Marks the next queries the same way, at least one and up to `SIDE`, as far as there is room
+    // for their places, and adds the places.
     fn mark_next<L: QueryList>(
         &self,
         queries: &L,
@@ -86,7 +92,8 @@ impl StepMap {
         Ok(())
     }
 
-    // Returns bounds of the ranges of the next queries, at least one and at most as many as is said.
+    // Returns bounds of the ranges of the next queries, at least one and at most as many as is
+    // said.
     fn bounds_from<L: QueryList>(
         &self,
         queries: &L,
@@ -110,12 +117,17 @@ impl StepMap {
         bounds_at(&self.filter, hashes.as_slice())
     }
 
-    // Returns whether the query at the index is to be looked up: its range isn't empty, and this bound of it leaves it open. The bound
-    // has bounds of single keys only, and only from the edge on.
+    // Returns whether the query at the index is to be looked up: its range isn't empty, and this
+    // bound of it leaves it open. The bound has bounds of single keys only, and only from the edge
+    // on.
     fn is_open<L: QueryList>(&self, queries: &L, index: usize, bound: i64) -> bool
-        requires bound { IsSomeAnd (slice_get (L.queries queries.now) index) (λ q. IsBound self.now q.0 bound) }
-        ensures filled { IsTrue result → IsSomeAnd (slice_get (L.queries queries.now) index) (λ q. ¬ IsEmpty q.0) }
-        ensures others { ¬ IsTrue result → IsSomeAnd (slice_get (L.queries queries.now) index) (λ q. ¬ IsAbove self.now q.0 q.1) }
+        requires bound { IsSomeAnd (slice_get (L.queries queries.now) index)
+            (λ q. IsBound self.now q.0 bound) }
+        ensures filled { IsTrue result
+            → IsSomeAnd (slice_get (L.queries queries.now) index) (λ q. ¬ IsEmpty q.0) }
+        ensures others { ¬ IsTrue result
+            → IsSomeAnd (slice_get (L.queries queries.now) index)
+            (λ q. ¬ IsAbove self.now q.0 q.1) }
     {
         if queries.hash(index).is_none() {
             return !queries.query(index).range.is_empty();

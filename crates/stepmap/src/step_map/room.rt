@@ -1,6 +1,7 @@
 //! The room for writes: a complete round is swept if there is none, and memory is taken.
 
-ghost use Rattle.std.specs.Prelude.{◌≡◌, ℕ, ◌+◌, ◌*◌, ◌<◌, ◌≤◌, nat_le, List, [], length, OnOk, OnErr};
+ghost use Rattle.std.specs.Prelude.{◌≡◌, ℕ, ◌+◌, ◌*◌, ◌<◌, ◌≤◌, nat_le, List, [], length, OnOk};
+ghost use Rattle.std.specs.Prelude.{OnErr};
 ghost use Rattle.arena.specs.Arena.{HasRoomFor as HasSlotsFor};
 ghost use Rattle.filter.specs.Filter.{bound};
 ghost use Rattle.stepmap.specs.StepMap.{AreSteps};
@@ -27,7 +28,8 @@ impl StepMap {
         ranges <= (self.limit - self.boundaries.len()) / 2
     }
 
-    // Returns whether there is room for `count` ranges. If there is none, it sweeps a complete round first.
+    // Returns whether there is room for `count` ranges. If there is none, it sweeps a complete
+    // round first.
     pub(super) fn make_room(&mut self, ranges: usize) -> bool
         ensures map { self.new ≡ made_room ranges self.old }
         ensures room { result ≡ nat_le (length self.new.boundaries + 2 * ranges) self.new.limit }
@@ -40,7 +42,8 @@ impl StepMap {
         self.has_room_for(ranges)
     }
 
-    // Sweeps a complete round from the front, wherever the cursor is; the next sweep begins at the front.
+    // Sweeps a complete round from the front, wherever the cursor is; the next sweep begins at the
+    // front.
     fn sweep_round(&mut self)
         ensures map { self.new ≡ after_round self.old }
     {
@@ -57,7 +60,8 @@ impl StepMap {
         self.cursor.clear();
     }
 
-    // Takes the memory that writing ranges with keys of these lengths needs, instead of any taken before.
+    // Takes the memory that writing ranges with keys of these lengths needs, instead of any taken
+    // before.
     pub(super) fn reserve(&mut self, lengths: &[KeyLengths]) -> Result<(), AllocError>
         requires room { HasRoomFor (length lengths.now) self.old }
         ensures ok { OnOk result (self.new ≡ record self.old { ready = lengths.now }) }
@@ -76,8 +80,8 @@ impl StepMap {
     }
 }
 
-// Takes the memory that writing ranges with keys of these lengths needs, and keeps these as those that are ready. The filter
-// grows first, to a few cells for each boundary that there may be then.
+// Takes the memory that writing ranges with keys of these lengths needs, and keeps these as those
+// that are ready. The filter grows first, to a few cells for each boundary that there may be then.
 fn take_memory(
     boundaries: &mut Boundaries<FAN_OUT>,
     filter: &mut Filter,
@@ -87,7 +91,8 @@ fn take_memory(
     requires few { length boundaries.old.boundaries + 2 * length lengths.now ≤ MAX_LIMIT }
     ensures ready { OnOk result (ready.new.items ≡ lengths.now) }
     ensures keys { OnOk result (HasSlotsFor (spare_in boundaries.new) (each_length lengths.now)) }
-    ensures nodes { OnOk result (length boundaries.new.boundaries + 2 * length lengths.now ≤ boundaries.new.room) }
+    ensures nodes { OnOk result (length boundaries.new.boundaries + 2 * length lengths.now
+        ≤ boundaries.new.room) }
     ensures boundaries { boundaries.new.boundaries ≡ boundaries.old.boundaries }
     ensures room { boundaries.old.room ≤ boundaries.new.room }
     ensures bounds { (key : List ℕ) → bound filter.new key ≡ bound filter.old key }
@@ -97,8 +102,8 @@ fn take_memory(
     boundaries.reserve(lengths)
 }
 
-// Returns the least number of cells that the filter should have for n boundaries: one for three of them, and one for each where these
-// are few. A single key that is written makes two boundaries.
+// Returns the least number of cells that the filter should have for n boundaries: one for three of
+// them, and one for each where these are few. A single key that is written makes two boundaries.
 fn cells_for(boundaries: usize) -> usize {
     (boundaries / 3).max(boundaries.min(EARLY_CELLS))
 }
