@@ -1,43 +1,11 @@
 //! Batches like those before, resolved by a conflict set. They take memory for their replies alone: the script compares how many
 //! allocations the two tests take, of which one resolves twenty batches more.
-ghost use Rattle.std.specs.Prelude.{◌≡◌};
 
-use conflict::ConflictSet;
+use crate::chained::Chained;
 use keyspace::{Batch, WINDOW};
 use std::alloc::{AllocError, Global};
 use std::test::Fail;
 use test_values::{Unmade, batch};
-
-// A conflict set, with the greatest version that it has resolved.
-#[derive(Drop)]
-struct Chained {
-    set: ConflictSet,
-    resolved: i64,
-    ghost same: { set.resolved ≡ resolved },
-}
-
-impl Chained {
-    fn new(alloc: Global) -> Result<Self, Unmade> {
-        match ConflictSet::new(alloc, WINDOW, 1_000) {
-            Ok(set) => Ok(Chained { set, resolved: -1 }),
-            Err(_refused) => Err(Unmade::Memory),
-        }
-    }
-
-    // Resolves a batch, and returns how many transactions it has.
-    fn resolve(&mut self, batch: &Batch) -> Result<usize, Unmade> {
-        if batch.version <= self.resolved {
-            return Err(Unmade::Beyond("version"));
-        }
-        match self.set.resolve(batch) {
-            Ok(reply) => {
-                self.resolved = batch.version;
-                Ok(reply.entries.len())
-            }
-            Err(_stop) => Err(Unmade::Memory),
-        }
-    }
-}
 
 // Makes forty batches of one chain, all alike: the first transaction commits a range that the second reads, and the third asks for
 // its report.
@@ -55,13 +23,21 @@ fn forty(alloc: Global) -> Result<Vec<Batch>, Unmade> {
     Ok(batches)
 }
 
+// Resolves a batch, and returns how many transactions it has.
+fn count_resolved(set: &mut Chained, batch: &Batch) -> Result<usize, Unmade> {
+    match set.resolve(batch)? {
+        Ok(reply) => Ok(reply.entries.len()),
+        Err(_stop) => Err(Unmade::Memory),
+    }
+}
+
 // Resolves the first of forty batches, so many, and returns how many transactions they have.
 fn resolve(alloc: Global, count: usize) -> Result<usize, Unmade> {
     let batches = forty(alloc)?;
-    let mut set = Chained::new(alloc)?;
+    let mut set = Chained::new(alloc, WINDOW, 1_000)?;
     let mut txns = 0_usize;
     for batch in batches.iter().take(count) {
-        txns = txns.saturating_add(set.resolve(batch)?);
+        txns = txns.saturating_add(count_resolved(&mut set, batch)?);
     }
     Ok(txns)
 }

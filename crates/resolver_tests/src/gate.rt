@@ -1,6 +1,5 @@
 //! A core whose gate is full.
 
-use conflict::MAX_WINDOW;
 use keyspace::{Answer, WINDOW};
 use resolver::{Core, MAX_PROXIES, OpenError, Stop};
 use std::alloc::Global;
@@ -10,22 +9,10 @@ use test_values::{Unmade, batch_of, show_answer};
 
 /// Opens a core of the default window.
 pub fn open(alloc: Global, proxies: usize) -> Result<Result<Core, OpenError>, Unmade> {
-    open_by(alloc, proxies, WINDOW, MAX_LIMIT)
-}
-
-fn open_by(
-    alloc: Global,
-    proxies: usize,
-    window: i64,
-    limit: usize,
-) -> Result<Result<Core, OpenError>, Unmade> {
     if proxies == 0 || proxies > MAX_PROXIES {
         return Err(Unmade::Beyond("proxies"));
     }
-    if window < 1 || window > MAX_WINDOW || limit == 0 || limit > MAX_LIMIT {
-        return Err(Unmade::Beyond("core"));
-    }
-    Ok(Core::new(alloc, proxies, window, limit))
+    Ok(Core::new(alloc, proxies, WINDOW, MAX_LIMIT))
 }
 
 /// Returns the next answer owed to a proxy that the core knows.

@@ -1,7 +1,7 @@
 //! A resolver over lanes and its clients in one hand.
+ghost use Rattle.std.specs.Prelude.{◌≤◌};
 ghost use Rattle.resolver.specs.Resolver.{AreClients};
 
-use conflict::MAX_WINDOW;
 use keyspace::{Answer, Batch, WINDOW};
 use lane::{MAX_CAPACITY, Taken};
 use resolver::{Account, Client, MAX_PROXIES, OpenError, Resolver, Stop, Turn, open};
@@ -24,26 +24,20 @@ impl Service {
         proxies: usize,
         capacity: usize,
     ) -> Result<Result<Self, OpenError>, Unmade> {
-        Service::open_by(alloc, proxies, capacity, WINDOW, MAX_LIMIT)
-    }
-
-    fn open_by(
-        alloc: Global,
-        proxies: usize,
-        capacity: usize,
-        window: i64,
-        limit: usize,
-    ) -> Result<Result<Self, OpenError>, Unmade> {
         if proxies == 0 || proxies > MAX_PROXIES || capacity == 0 || capacity > MAX_CAPACITY {
             return Err(Unmade::Beyond("service"));
         }
-        if window < 1 || window > MAX_WINDOW || limit == 0 || limit > MAX_LIMIT {
-            return Err(Unmade::Beyond("core"));
-        }
-        Ok(match open(alloc, proxies, capacity, window, limit) {
-            Ok((resolver, clients)) => Ok(Service { resolver, clients }),
-            Err(error) => Err(error),
-        })
+        Ok(Service::new(alloc, proxies, capacity))
+    }
+
+    fn new(alloc: Global, proxies: usize, capacity: usize) -> Result<Self, OpenError>
+        requires least_proxies { 1 ≤ proxies }
+        requires most_proxies { proxies ≤ MAX_PROXIES }
+        requires least_capacity { 1 ≤ capacity }
+        requires most_capacity { capacity ≤ MAX_CAPACITY }
+    {
+        let (resolver, clients) = open(alloc, proxies, capacity, WINDOW, MAX_LIMIT)?;
+        Ok(Service { resolver, clients })
     }
 
     /// Sends a batch on the request lane of the proxy, and returns whether the lane has accepted it.
