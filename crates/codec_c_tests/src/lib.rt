@@ -1,4 +1,5 @@
-//! The codec of `wire` for C, for the tests of `include/archcaraway_frames.h`: that header is compared with it byte for byte.
+//! The codec of `wire` for C, for the tests of `include/archcaraway_frames.h`: that header is
+//! compared with it byte for byte.
 #![tactic(auto)]
 
 ghost use Rattle.std.specs.Prelude.{◌≡◌, pos, take, IfOk};
@@ -7,8 +8,8 @@ ghost use Rattle.codec_c_tests.specs.Again.{IsBatchAgain, IsReplyAgain};
 use std::alloc::Global;
 use wire::{WireError, decode_batch, decode_reply, encode_batch_1, encode_reply};
 
-/// Decodes the frame of a batch, of either version, and writes its frame in version 1 and the length of that. Returns 0, or the
-/// number of the refusal.
+/// Decodes the frame of a batch, of either version, and writes its frame in version 1 and the
+/// length of that. Returns 0, or the number of the refusal.
 #[unsafe(no_mangle)]
 pub extern "C" fn codec_encode_batch_1(
     alloc: Global,
@@ -24,7 +25,8 @@ pub extern "C" fn codec_encode_batch_1(
     }
 }
 
-/// Decodes the frame of a reply, and writes its frame again and the length of that. Returns 0, or the number of the refusal.
+/// Decodes the frame of a reply, and writes its frame again and the length of that. Returns 0, or
+/// the number of the refusal.
 #[unsafe(no_mangle)]
 pub extern "C" fn codec_read_reply(
     alloc: Global,
@@ -66,7 +68,8 @@ fn reply_again(alloc: Global, frame: &[u8]) -> Result<Vec<u8>, WireError>
     }
 }
 
-// Writes the bytes to the front of a buffer, or returns 2, as for a frame that is too long, where they don't fit.
+// Writes the bytes to the front of a buffer, or returns 2, as for a frame that is too long, if they
+// don't fit.
 fn write(bytes: &[u8], out: &mut [u8], out_length: &mut usize) -> i32
     ensures written { result ≡ pos 0 → take out_length.new out.new ≡ bytes.now }
 {

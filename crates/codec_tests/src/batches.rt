@@ -1,4 +1,5 @@
-//! Tests of `decode_batch`, `encode_batch` and `encode_batch_1`: the worked frames, and wire version 1.
+//! Tests of `decode_batch`, `encode_batch` and `encode_batch_1`: the worked frames, and wire
+//! version 1.
 
 use crate::rows::{Way, expect_rows};
 use std::test::Fail;
@@ -18,8 +19,8 @@ const BATCHES_2: &str = "\
 0000002c 03 0000000000000000 0000000000000064 ffffffffffffffff 0001 0000000000000000 00 0000 0001 01 0001 6b \
      => 48 bytes: 0>100 received -1; W[6b,6b00) @0";
 
-// Version 0 with no entries; version 100, committed, and conflict with place 0; and one entry committed. The first and the
-// last answer [`BATCHES_1`].
+// Version 0 with no entries; version 100, committed, and conflict with place 0; and one entry
+// committed. The first and the last answer [`BATCHES_1`].
 const REPLIES: &str = "\
 0000000b 02 0000000000000000 0000 => 15 bytes: 0 empty
 00000013 02 0000000000000064 0002 02 0000 00 0001 0000 => 23 bytes: 100 committed conflict:0

@@ -29,7 +29,7 @@ fn answers<R: Source + Drop>(alloc: Global, reader: R, count: u32) -> Result<Str
     Ok(text)
 }
 
-// The first three answers over these bytes, given by so many a call.
+// The first three answers over these bytes, given n per call.
 fn by_step(alloc: Global, bytes: &[u8], step: usize, fails: bool) -> Result<String, Unmade> {
     let reader = Pieces::new(bytes, step, fails);
     answers(alloc, StdSource::new(reader), 3)
@@ -66,7 +66,7 @@ const ANSWERS: &str = "\
 0000001b 01 ffffffffffffffff 0000000000000000 ffffffffffffffff 0001 => 10 Cut | 10 Cut | 10 Cut
 0000001c 01 ffffffffffffffff 0000000000000000 ffffffffffffffff 0000 00 => 4 Trailing | 4 Trailing | 4 Trailing";
 
-// What is answered where the reader fails behind the first frame.
+// What is answered if the reader fails after the first frame.
 const FAILED: &str = "\
 0000001b 01 ffffffffffffffff 0000000000000000 ffffffffffffffff 0000 => -1>0 received -1 | 12 Read | 12 Read";
 
@@ -93,7 +93,7 @@ fn short_second_frame(rt: HostRuntime) -> Result<(), Fail> {
     expect_rows(&rt, rt.alloc(), Way::Frames(100_000, false), SHORT_SECOND)
 }
 
-// What comes of the first run where its reader fails after so many of all its bytes.
+// The outcome of the first run if its reader fails after n of its bytes.
 fn failed_after(count: usize, all: usize) -> &'static str {
     if count < 31 {
         "12 Read | 12 Read | 12 Read"
@@ -104,7 +104,7 @@ fn failed_after(count: usize, all: usize) -> &'static str {
     }
 }
 
-// What comes of the first run where it ends after so many of all its bytes.
+// The outcome of the first run if it ends after n of its bytes.
 fn cut_after(count: usize, all: usize) -> &'static str {
     if count == 0 {
         "none | none | none"
@@ -119,7 +119,7 @@ fn cut_after(count: usize, all: usize) -> &'static str {
     }
 }
 
-// The first answers that are wrong where the reader gives a beginning of these bytes; or nothing.
+// The first wrong answers if the reader gives a prefix of these bytes; or nothing.
 fn first_wrong(alloc: Global, bytes: &[u8], step: usize, fails: bool) -> Result<String, Unmade> {
     for count in 0..=bytes.len() {
         let shown = by_step(alloc, &bytes[..count], step, fails)?;
@@ -135,7 +135,8 @@ fn first_wrong(alloc: Global, bytes: &[u8], step: usize, fails: bool) -> Result<
     Ok(String::new(alloc))
 }
 
-// The same of the first run in both wire versions: an empty batch of 31 bytes, and one with one write.
+// The same of the first run in both wire versions: an empty batch of 31 bytes, and one with one
+// write.
 fn first_wrong_of_run(alloc: Global, step: usize, fails: bool) -> Result<String, Unmade> {
     for texts in [[EMPTY_BATCH, ONE_WRITE], [EMPTY_BATCH_2, ONE_WRITE_2]] {
         let bytes = joined(alloc, &texts)?;

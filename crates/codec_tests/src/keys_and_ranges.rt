@@ -37,7 +37,8 @@ fn borrows_a_range(rt: HostRuntime) -> Result<(), Fail> {
     expect(&rt, borrowed(rt.alloc()), "[61,62)")
 }
 
-// Whether the range meets the other, begins with a key that it holds, and ends with one that it doesn't hold.
+// Whether the range meets the other, begins with a key that it holds, and ends with one that it
+// doesn't hold.
 fn is_like(range: &Range, other: &Range) -> bool {
     range.meets(other) && range.holds(range.begin.as_bytes()) && !range.holds(range.end.as_bytes())
 }

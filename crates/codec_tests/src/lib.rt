@@ -1,7 +1,8 @@
-//! Tests of the data and of its wire form, by the public calls of `keys`, `keyspace` and `wire` alone: worked frames and
-//! the fault that each other one is refused for, readers and writers that give out anywhere, keys, ranges, and the ranks of a batch.
-//! `workload` has the tests of the program of that name, by the public calls of `workload_program`. Random and largest values are tests of the
-//! Cargo edition (`cargo/tests`).
+//! Tests of the data and of its wire form, by the public calls of `keys`, `keyspace` and `wire`
+//! alone: worked frames and the fault that each other one is refused for, readers and writers that
+//! give out anywhere, keys, ranges, and the ranks of a batch. `workload` has the tests of the
+//! program of that name, by the public calls of `workload_program`. Random and largest values are
+//! tests of the Cargo edition (`cargo/tests`).
 #![tactic(auto)]
 
 #[cfg(test)]

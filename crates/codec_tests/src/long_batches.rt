@@ -8,7 +8,7 @@ use std::test::Fail;
 use test_values::{Unmade, range, txn};
 use wire::{WireError, WireVersion, decode_batch};
 
-// The digits of this head and of a key of so many bytes.
+// The digits of this head and of a key of n bytes.
 fn frame_to_key(alloc: Global, head: &str, length: usize) -> Result<Vec<u8>, Unmade> {
     let mut bytes = bytes_of(alloc, head)?;
     for _ in 0..length {
@@ -36,7 +36,8 @@ fn push_lengths(text: &mut String, range: &RangeRef<'_>) -> Result<(), Unmade> {
     Ok(())
 }
 
-// What comes of the frame of such a head and key: the bytes that it takes, and the lengths of the keys.
+// What comes of the frame of such a head and key: the bytes that it takes, and the lengths of the
+// keys.
 fn lengths_of(alloc: Global, head: &str, length: usize) -> Result<String, Unmade> {
     let bytes = frame_to_key(alloc, head, length)?;
     match decode_batch(alloc, &bytes) {

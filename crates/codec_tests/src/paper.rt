@@ -11,8 +11,8 @@ pub(crate) enum End {
     TakesNothing,
 }
 
-/// A writer that takes at most `step` bytes a call and `room` bytes in all, and counts its flushes. It is interrupted so many
-/// times before each call that takes some, and before each flush.
+/// A writer that takes at most `step` bytes per call and `room` bytes in all, and counts its
+/// flushes. It is interrupted n times before each call that takes some, and before each flush.
 #[derive(Drop)]
 pub(crate) struct Paper {
     pub(crate) bytes: Vec<u8>,

@@ -1,4 +1,5 @@
-//! Tests of the ranks of a batch's ranges: by hand, at random compared with a plain count, and where memory is refused.
+//! Tests of the ranks of a batch's ranges: by hand, at random compared with a plain count, and
+//! where memory is refused.
 
 use crate::rows::expect;
 use keys::{MAX_RANKED, Ranks};
@@ -10,7 +11,8 @@ use test_values::{Unmade, batch, batch_of, ranges, single_key, txn};
 // Five ranges with five begins, and an empty range.
 const THREE_TXNS: &str = "0>1: R[b,d) R[m,m) W[a,c); W[aa,y); R[c,d) W[,a)";
 
-// The indices of the ranges in order, each with its begin in hexadecimal, those of the write ranges, and the runs.
+// The indices of the ranges in order, each with its begin in hexadecimal, those of the write
+// ranges, and the runs.
 fn show_ranks(alloc: Global, txns: &Txns) -> Result<String, Unmade> {
     let ranges = txns.ranges();
     if ranges.len() > MAX_RANKED {

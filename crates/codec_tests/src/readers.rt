@@ -3,8 +3,8 @@
 use std::io;
 use std::io::{ErrorKind, Read};
 
-/// A reader that gives at most `step` bytes a call. It is interrupted so many times before each call that
-/// gives some. At the end it fails where `fails` is set.
+/// A reader that gives at most `step` bytes per call. It is interrupted n times before each call
+/// that gives some. At the end it fails where `fails` is set.
 #[derive(Drop)]
 pub(crate) struct Pieces<'a> {
     pub(crate) bytes: &'a [u8],

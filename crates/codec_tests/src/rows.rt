@@ -1,5 +1,5 @@
-//! Tables of texts: each row is what is read, `=>`, and what comes of it as text. A row that is too long goes on in the next
-//! line of the source, behind a backslash.
+//! Tables of texts: each row is what is read, `=>`, and what comes of it as text. A row that is too
+//! long continues in the next line of the source, after a backslash.
 
 use crate::frames::of_text;
 use crate::texts::{batch_at, batch_both_ways, reply_at, reply_both_ways};
@@ -21,9 +21,10 @@ pub(crate) enum Way {
     BatchBothWays(WireVersion),
     /// `decode_reply` reads it, and the reply is encoded again.
     ReplyBothWays,
-    /// `Frames` reads it, at most so many bytes a call, and its reader fails at the end where that is said.
+    /// `Frames` reads it, at most n bytes per call, and its reader fails at the end where that is
+    /// said.
     Frames(usize, bool),
-    /// `upgrade` reads it, and its writer takes at most so many bytes a call.
+    /// `upgrade` reads it, and its writer takes at most n bytes per call.
     Upgrade(usize),
 }
 

@@ -1,5 +1,5 @@
-//! The texts of the frames that several tests read, and what comes of a text, as text too. Blanks stand between the fields
-//! of a text and aren't part of the bytes.
+//! The texts of the frames that several tests read, and what comes of a text, as text too. Blanks
+//! stand between the fields of a text and aren't part of the bytes.
 
 use keyspace::Batch;
 use std::alloc::Global;
@@ -44,7 +44,7 @@ pub(crate) fn bytes_of(alloc: Global, text: &str) -> Result<Vec<u8>, Unmade> {
     }
 }
 
-/// The bytes of these texts, one after the other.
+/// The bytes of these texts, in sequence.
 pub(crate) fn joined(alloc: Global, texts: &[&str]) -> Result<Vec<u8>, Unmade> {
     let mut bytes = Vec::new(alloc);
     for text in texts {

@@ -18,7 +18,7 @@ fn upgraded_onto(alloc: Global, bytes: &[u8], paper: Paper) -> (Result<u64, Wire
     (answer, writer.into_inner())
 }
 
-/// What upgrading a text answers, and behind that what it has written.
+/// What upgrading a text answers, and then what it has written.
 pub(crate) fn upgraded_text(alloc: Global, text: &str, step: usize) -> Result<String, Unmade> {
     let bytes = bytes_of(alloc, text)?;
     let paper = Paper::new(alloc, step, ALL, End::Fails);
@@ -30,7 +30,8 @@ pub(crate) fn upgraded_text(alloc: Global, text: &str, step: usize) -> Result<St
     })
 }
 
-// The frames of an empty batch and of one with one write; and those of both behind and before others of version 2.
+// The frames of an empty batch and of one with one write; and those of both after and before others
+// of version 2.
 const UPGRADED: &str = "\
 0000001b 01 ffffffffffffffff 0000000000000000 ffffffffffffffff 0000 \
      0000002e 01 0000000000000000 0000000000000064 ffffffffffffffff 0001 0000000000000000 00 0000 0001 0001 61 0001 62 \
@@ -123,7 +124,8 @@ fn writer_fails_everywhere(rt: HostRuntime) -> Result<(), Fail> {
     Ok(())
 }
 
-// Writes `ab` to a writer that is interrupted so often before each call that takes some: how that ends, and what it took.
+// Writes `ab` to a writer that is interrupted so often before each call that takes some: how that
+// ends, and what it took.
 fn interrupted(alloc: Global, interruptions: u32) -> Result<String, Unmade> {
     let mut paper = Paper::new(alloc, ALL, ALL, End::Fails);
     paper.interruptions = interruptions;

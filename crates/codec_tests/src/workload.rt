@@ -1,5 +1,5 @@
-//! What no clause of `workload_program` says: that a file decodes again, that what is drawn varies, which words are taken, and that what is
-//! written is passed on.
+//! What no clause of `workload_program` says: that a file decodes again, that what is drawn varies,
+//! which words are taken, and that what is written is passed on.
 
 use crate::texts::is_again;
 use keyspace::Batch;
@@ -21,7 +21,8 @@ fn words(alloc: Global, text: &str) -> Result<Vec<String>, Fail> {
     Ok(words)
 }
 
-// Whether the frame of a batch is read whole, as a batch of these versions and as many transactions, which has the same frame.
+// Whether the complete frame of a batch is read, as a batch of these versions and as many
+// transactions, which has the same frame.
 fn decodes_again(alloc: Global, batch: &Batch) -> Result<bool, WireError> {
     let frame = encode_batch_1(alloc, batch)?;
     let (decoded, used) = decode_batch(alloc, &frame)?;
@@ -69,7 +70,7 @@ fn words_within_limits(rt: HostRuntime) -> Result<(), Fail> {
     Ok(())
 }
 
-// Draws so many ranges, and returns how many begins they have.
+// Draws `count` ranges, and returns how many begins they have.
 fn count_begins(alloc: Global, shape: Shape, count: u32) -> Result<usize, Fail> {
     let mut random = Random::new(1);
     let mut begins = BTreeSet::new(alloc);
@@ -132,7 +133,8 @@ fn batches_vary(rt: HostRuntime) -> Result<(), Fail> {
     Ok(())
 }
 
-// A writer that holds back the bytes that it is given until it is flushed, and has no more room after so many.
+// A writer that holds back the bytes that it is given until it is flushed, and has no more room
+// after n bytes.
 #[derive(Drop)]
 struct HoldsBack {
     held: usize,
@@ -241,7 +243,8 @@ impl Env for GivenWords<'_> {
     }
 }
 
-// Runs by the words of an environment, and returns the exit code, and how many bytes were passed on as output.
+// Runs by the words of an environment, and returns the exit code, and how many bytes were passed on
+// as output.
 fn run_in_words(alloc: Global, words: &[&[u8]]) -> (u8, usize) {
     let mut out = StdSink::new(HoldsBack::new(1_000));
     let mut error = StdSink::new(HoldsBack::new(1_000));

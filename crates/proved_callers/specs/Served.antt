@@ -17,7 +17,7 @@ pub record HasDone (batches : List Batch) (answers : List Answer) (c : Client) :
   pub sent : c.requests.sent ≡ batches
   pub taken : c.replies.taken ≡ answers
 
--- The resolver stands for some log, and the clients are those of its lanes. Each has sent and taken what stands at its number.
+-- The resolver represents some log, and the clients are those of its lanes. Each has sent and taken the items at its number.
 pub record AreServing (window : ℤ) (r : ResolverState) (clients : List Client) (sent : List (List Batch))
     (taken : List (List Answer)) : Type 0 where
   pub resolving : IsResolving r
@@ -37,7 +37,7 @@ pub record ServedFor (window : ℤ) (log : List Step) (complete : Bool) (proxy :
   -- it has received, in order and once, the answers of the reference resolver; all of them where all is complete
   pub in_order : IsBeginning received (answers window log proxy)
   pub all_received : complete ≡ true → received ≡ answers window log proxy
-  -- where all is complete, it has received one answer a batch
+  -- if all is complete, it has received one answer per batch
   pub each_answered : complete ≡ true → length received ≡ length sent
   -- a transaction that was reported to it as committed is committed; if the account is complete, each of its committed ones was reported
   pub reported :

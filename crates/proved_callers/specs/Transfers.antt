@@ -50,7 +50,7 @@ abbrev pub proxy_of : Option Processed → ℕ
 proxy_of None = 0
 proxy_of (Some p) = p.proxy
 
--- transaction j of a proxy's batch is a transfer, of an amount of its own
+-- transaction j of a proxy's batch is a transfer of some amount
 abbrev pub transfers : Accounts → (ℕ → ℕ → ℤ → ℤ → ℤ) → List Processed → Plans
 transfers a amounts ps i j = transfer a (amounts (proxy_of (slice_get ps i)) j)
 

@@ -10,11 +10,13 @@ use keyspace::{Batch, Reply, WINDOW};
 use std::alloc::Global;
 use stepmap::MAX_LIMIT;
 
-/// Resolves two batches with a new set. Each reply is right after the writes that the batches before it commit.
+/// Resolves two batches with a new set. Each reply is right after the writes that the batches
+/// before it commit.
 pub fn judge_two(alloc: Global, first: &Batch, second: &Batch) -> Result<(Reply, Reply), SetStop>
     requires rising { first.now.version <ℤ second.now.version }
     ensures first { IfOk result (λ replies. Judged WINDOW [] first.now replies.0) }
-    ensures second { IfOk result (λ replies. Judged WINDOW (writes_of first.now replies.0) second.now replies.1) }
+    ensures second { IfOk result (λ replies. Judged WINDOW (writes_of first.now replies.0)
+        second.now replies.1) }
 {
     let mut set = ConflictSet::new(alloc, WINDOW, MAX_LIMIT)?;
     let one = set.resolve(first)?;

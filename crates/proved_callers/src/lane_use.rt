@@ -5,7 +5,7 @@ ghost use Rattle.std.specs.Prelude.{◌≡◌, IfOk};
 use lane::{LaneError, Taken, lane};
 use std::alloc::Global;
 
-/// Sends an item along a new lane, and takes it with both ends in one hand.
+/// Sends an item along a new lane, and takes it with both ends in one thread.
 pub fn through(alloc: Global, item: u64) -> Result<u64, LaneError>
     ensures same { IfOk result (λ taken. taken ≡ item) }
 {

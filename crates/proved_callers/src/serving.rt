@@ -26,18 +26,21 @@ pub struct Served {
     pub account: Account,
 }
 
-/// Serves two proxies in one thread, by lanes that hold one batch or answer, with the default window.
+/// Serves two proxies in one thread, by lanes that hold one batch or answer, with the default
+/// window.
 ///
-/// Proxy 0 sends the first batch and proxy 1 the second, and each closes its lane. Then the resolver takes so many turns. After
-/// each of them each proxy takes an answer, if one has come. A turn that answers a stop doesn't end this, since later turns still
-/// hand out. The only refusal is that of memory.
+/// Proxy 0 sends the first batch and proxy 1 the second, and each closes its lane. Then the
+/// resolver takes `turns` turns. After each of them each proxy takes an answer, if one has come. A
+/// turn that answers a stop doesn't end this, since later turns still hand out. The only refusal is
+/// that of memory.
 pub fn serve_two(
     alloc: Global,
     first: Batch,
     second: Batch,
     turns: usize,
 ) -> Result<Served, OpenError>
-    ensures served { IfOk result (λ served. (log : List Step) × AreServed WINDOW log first second served) }
+    ensures served { IfOk result (λ served. (log : List Step)
+        × AreServed WINDOW log first second served) }
 {
     let (mut resolver, mut clients) = open(alloc, 2, 1, WINDOW, MAX_LIMIT)?;
     send_only(&mut clients[0], first);
@@ -51,21 +54,24 @@ pub fn serve_two(
     })
 }
 
-/// Serves two proxies as [`serve_two`] does. If all transactions of both batches are transfers between the same two accounts, the sum of
-/// these is unchanged, whatever is committed and in whichever order.
+/// Serves two proxies as [`serve_two`] does. If all transactions of both batches are transfers
+/// between the same two accounts, the sum of these is unchanged, whatever is committed and in
+/// whichever order.
 pub fn transfer_two(
     alloc: Global,
     first: Batch,
     second: Batch,
     turns: usize,
 ) -> Result<Served, OpenError>
-    ensures sum { IfOk result (λ served. (log : List Step) × AreServed WINDOW log first second served
+    ensures sum { IfOk result (λ served. (log : List Step)
+        × AreServed WINDOW log first second served
         × SumStays WINDOW log first second) }
 {
     serve_two(alloc, first, second, turns)
 }
 
-// Takes so many turns, and an answer of each of two proxies after each of them, if one has come. Returns those of each proxy.
+// Takes n turns, and an answer of each of two proxies after each of them, if one has come. Returns
+// those of each proxy.
 fn receive_all(
     alloc: Global,
     resolver: &mut Resolver,
@@ -73,8 +79,10 @@ fn receive_all(
     turns: usize,
 ) -> Result<(Vec<Answer>, Vec<Answer>), AllocError>
     ghost sent: { List Batch × List Batch }
-    requires serving { AreServing WINDOW resolver.old clients.old (sent.0 ∷ sent.1 ∷ []) ([] ∷ [] ∷ []) }
-    ensures serving { IfOk result (λ received. AreServing WINDOW resolver.new clients.new (sent.0 ∷ sent.1 ∷ [])
+    requires serving { AreServing WINDOW resolver.old clients.old (sent.0 ∷ sent.1 ∷ [])
+        ([] ∷ [] ∷ []) }
+    ensures serving { IfOk result (λ received. AreServing WINDOW resolver.new clients.new
+        (sent.0 ∷ sent.1 ∷ [])
         (received.0.items ∷ received.1.items ∷ [])) }
 {
     let mut first = Vec::new(alloc);
@@ -87,7 +95,8 @@ fn receive_all(
     Ok((first, second))
 }
 
-// Sends the only batch of a new client, and closes its lane. An open lane that was never used has room for it.
+// Sends the only batch of a new client, and closes its lane. An open lane that was never used has
+// room for it.
 fn send_only(client: &mut Client, batch: Batch)
     requires new { IsNewClient 1 client.old }
     ensures sent { client.new.requests.sent ≡ batch ∷ [] }

@@ -9,8 +9,8 @@ use std::rt::Stdin;
 use std::{fs, io};
 use wire::StdSource;
 
-/// The files that the process can open, and its standard input. `std` tells neither which file it opened nor what a file holds, so
-/// no clause does.
+/// The files that the process can open, and its standard input. `std` tells neither which file it
+/// opened nor what a file holds, so no clause does.
 #[derive(Drop)]
 pub struct Disk<'a, R> {
     pub rt: &'a R,

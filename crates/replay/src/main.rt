@@ -1,6 +1,8 @@
-//! The program `replay` reads a recorded file of batch frames, resolves the batches in order and prints the verdicts.
+//! The program `replay` reads a recorded file of batch frames, resolves the batches in order and
+//! prints the verdicts.
 //!
-//! The library `replay_program` does all of it, over any words, files and streams. Here it is given those of the process.
+//! The library `replay_program` does all of it, over any words, files and streams. Here it is given
+//! those of the process.
 #![tactic(auto)]
 
 ghost use Rattle.std.specs.Prelude.{◌≡◌, ◌<◌, ◌⊎◌, IsErr};
@@ -24,14 +26,16 @@ fn main(rt: HostRuntime) -> Status {
     start(&rt, rt.stdin(), out, &mut StdSink::new(rt.stderr()))
 }
 
-// Runs the program on the words and the files of the process. Where there is no buffer for standard output, it can't start.
+// Runs the program on the words and the files of the process. Without a buffer for standard output,
+// it can't start.
 fn start<
     R: Files<File = File> + Env + AllocGlobal + Threads + Wait + Copy + Send + 'static,
     O: Write + Drop,
     E: Sink,
 >(rt: &R, input: Stdin, out: io::Result<BufWriter<O>>, error: &mut E) -> Status
     ensures quiet { result ≡ Status.Done → Keeps (E.given error.old) (E.given error.new) }
-    ensures no_buffer { IsErr out → (result ≡ Status.Failed) × ((E.failures error.old < E.failures error.new)
+    ensures no_buffer { IsErr out → (result ≡ Status.Failed)
+        × ((E.failures error.old < E.failures error.new)
         ⊎ Appends (E.given error.old) (E.given error.new) (start_line StartError.Memory)) }
 {
     let Ok(out) = out else {

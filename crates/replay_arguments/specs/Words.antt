@@ -82,7 +82,7 @@ is_kept _ = false
 abbrev pub IsFormOf : Form → Bool → Bool → Bool → Type 0
 IsFormOf form frames json check = (is_frames form ≡ frames) × (is_json form ≡ json) × (is_kept form ≡ check)
 
--- what is found for the form: replies are kept exactly where some are named to be checked
+-- the form that is found: replies are kept exactly if some are named to be checked
 pub record HoldsForm (rows : List Row) (form : Form) : Type 0 where
   pub frames : one_of (codes "frames") rows ≡ Some (bool_text (is_frames form))
   pub json : one_of (codes "json") rows ≡ Some (bool_text (is_json form))
@@ -137,7 +137,7 @@ IsTaken words = faults_of words ≡ []
 abbrev pub AsksForText : List (List ℕ) → Type 0
 AsksForText words = (kind : ErrorKind) × IsAmong kind (faults_of words) × IsRequest kind
 
--- what is found for an option is of these texts
+-- the text found for an option is one of these
 abbrev pub Has : (List ℕ → Type 0) → List ℕ → List Row → Type 0
 Has is_text name rows = (text : List ℕ) × (one_of name rows ≡ Some text) × is_text text
 
@@ -188,12 +188,12 @@ inputs_of (Some names) = count_inputs names
 abbrev pub HasInputOnce : List Row → Type 0
 HasInputOnce rows = inputs_of (all_of (codes "FILE") rows) + inputs_of (all_of (codes "check") rows) ≤ 1
 
--- what is found is of no use: two forms, a number out of its range, no files or too many, other than one file of replies
+-- the arguments that are found are of no use: two forms, a number out of its range, no files or too many, other than one file of replies
 -- a file, or standard input twice
 abbrev pub IsOfNoUse : List Row → Type 0
 IsOfNoUse rows = (¬ HasForm rows)
     ⊎ ((¬ HasNumbers rows) ⊎ ((¬ HasFiles rows) ⊎ ((¬ HasRepliesEach rows) ⊎ (¬ HasInputOnce rows))))
 
--- The words are mistaken: `clap` finds a mistake, or else what it finds is of no use.
+-- The words are mistaken: `clap` finds a mistake, or else the arguments that it finds are of no use.
 abbrev pub IsMistaken : List (List ℕ) → Type 0
 IsMistaken words = ((kind : ErrorKind) × IsAmong kind (faults_of words) × IsMistake kind) ⊎ IsOfNoUse (rows_of_words words)

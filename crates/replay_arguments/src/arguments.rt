@@ -1,8 +1,12 @@
 //! The words of the command line.
 
-ghost use Rattle.std.specs.Prelude.{◌≡◌, ◌≢◌, ◌≤◌, IfErr, IfOk, IfSome, OnOk, Some, codes, length, map, string_bytes, vec_len};
+ghost use Rattle.std.specs.Prelude.{◌≡◌, ◌≢◌, ◌≤◌, IfErr, IfOk, IfSome, OnOk, Some, codes, length};
+ghost use Rattle.std.specs.Prelude.{map, string_bytes, vec_len};
 ghost use Rattle.clap.specs.Words.{all_of, found_of, rows_of};
-ghost use Rattle.replay_arguments.specs.Words.{AsksForText, HasFiles, HasForm, HasInputOnce, HasNumbers, HasReplies, HoldsForm, HoldsNumbers, HoldsOptions, IsFormOf, IsMistaken, IsRefusalBy, IsRefusalOf, IsTaken, faults_of, rows_of_words};
+ghost use Rattle.replay_arguments.specs.Words.{AsksForText, HasFiles, HasForm, HasInputOnce};
+ghost use Rattle.replay_arguments.specs.Words.{HasNumbers, HasReplies, HoldsForm, HoldsNumbers};
+ghost use Rattle.replay_arguments.specs.Words.{HoldsOptions, IsFormOf, IsMistaken, IsRefusalBy};
+ghost use Rattle.replay_arguments.specs.Words.{IsRefusalOf, IsTaken, faults_of, rows_of_words};
 ghost use Rattle.clap.specs.declared.error.kind.ErrorKind.{ErrorKind};
 ghost use Rattle.replay_output.specs.declared.options.form.Form.{Form as FormValue};
 
@@ -22,16 +26,17 @@ pub use refusal::Refusal;
 /// What the command line asks for. `Options` keeps its numbers within their ranges.
 #[derive(Debug, Drop)]
 pub struct CommandLine<'a> {
-    /// The names of the files, from 1 to [`MAX_PROXIES`]. At most one name is [`STANDARD_INPUT`](crate::STANDARD_INPUT), of these
-    /// and those of replies.
+    /// The names of the files, from 1 to [`MAX_PROXIES`]. At most one name is
+    /// [`STANDARD_INPUT`](crate::STANDARD_INPUT), of these and those of replies.
     pub files: Vec<&'a str>,
-    /// The names of the files of replies, one a file where replies are kept to be checked, and else none.
+    /// The names of the files of replies, one per file if replies are kept to be checked, and
+    /// otherwise none.
     pub replies: Vec<&'a str>,
     pub options: Options,
 }
 
-/// Reads the words of the command line, of which the first is the program's name. An error says how the program ends in place of
-/// replaying, by [`Refusal::end`].
+/// Reads the words of the command line, of which the first is the program's name. An error says how
+/// the program ends instead of replaying, by [`Refusal::end`].
 pub fn read_words<'a>(alloc: Global, words: &'a [String]) -> Result<CommandLine<'a>, Refusal>
     ensures options { IfOk result (λ line.
         HoldsOptions (rows_of_words (map string_bytes words.entry.now)) line.options) }
@@ -43,11 +48,14 @@ pub fn read_words<'a>(alloc: Global, words: &'a [String]) -> Result<CommandLine<
     ensures replies { IfOk result (λ line. line.options.form ≡ Form.Kept
         → all_of (codes "check") (rows_of_words (map string_bytes words.entry.now))
         ≡ Some (map (λ name. name.now) line.replies.items)) }
-    ensures as_many { IfOk result (λ line. line.options.form ≡ Form.Kept → vec_len line.replies ≡ vec_len line.files) }
+    ensures as_many { IfOk result (λ line. line.options.form ≡ Form.Kept
+        → vec_len line.replies ≡ vec_len line.files) }
     ensures input { OnOk result (HasInputOnce (rows_of_words (map string_bytes words.entry.now))) }
     ensures taken { OnOk result (IsTaken (map string_bytes words.entry.now)) }
-    ensures shown { (text : _) → result ≡ Err (Refusal.Shown text) → AsksForText (map string_bytes words.entry.now) }
-    ensures refused { (text : _) → result ≡ Err (Refusal.Refused text) → IsMistaken (map string_bytes words.entry.now) }
+    ensures shown { (text : _) → result ≡ Err (Refusal.Shown text)
+        → AsksForText (map string_bytes words.entry.now) }
+    ensures refused { (text : _) → result ≡ Err (Refusal.Refused text)
+        → IsMistaken (map string_bytes words.entry.now) }
 {
     let matches = parse(alloc, words)?;
     let Some(form) = form_of(&matches) else {
@@ -63,7 +71,7 @@ pub fn read_words<'a>(alloc: Global, words: &'a [String]) -> Result<CommandLine<
         return Err(refuse(alloc, ErrorKind::TooManyValues, message)?);
     };
     if !has_input_once(&matches) {
-        let message = "standard input, -, is wanted at most once";
+        let message = "standard input (-) can be given only once";
         return Err(refuse(alloc, ErrorKind::ArgumentConflict, message)?);
     }
     let replies = replies_of(alloc, &matches, form, files.len())?;
@@ -97,7 +105,8 @@ fn parse<'a>(alloc: Global, words: &'a [String]) -> Result<ArgMatches<'a>, Refus
 
 // Returns the files, unless there are none or more than [`MAX_PROXIES`].
 fn files_of<'m, 'a>(matches: &'m ArgMatches<'a>) -> Option<&'m [&'a str]>
-    ensures files { IfSome result (λ files. all_of (codes "FILE") (rows_of (found_of matches.entry.now))
+    ensures files { IfSome result (λ files. all_of (codes "FILE")
+        (rows_of (found_of matches.entry.now))
         ≡ Some (map (λ name. name.now) files.now)) }
     ensures least { IfSome result (λ files. 1 ≤ length files.now) }
     ensures most { IfSome result (λ files. length files.now ≤ MAX_PROXIES) }
@@ -117,7 +126,8 @@ fn replies_of<'a>(
     form: Form,
     files: usize,
 ) -> Result<Vec<&'a str>, Refusal>
-    ensures replies { IfOk result (λ replies. form ≡ Form.Kept → all_of (codes "check") (rows_of (found_of matches.now))
+    ensures replies { IfOk result (λ replies. form ≡ Form.Kept
+        → all_of (codes "check") (rows_of (found_of matches.now))
         ≡ Some (map (λ name. name.now) replies.items)) }
     ensures as_many { IfOk result (λ replies. form ≡ Form.Kept → vec_len replies ≡ files) }
     ensures shown { (text : _) → result ≢ Err (Refusal.Shown text) }
@@ -136,7 +146,8 @@ fn replies_of<'a>(
 
 // Returns the files of replies, unless they are another number than there are files.
 fn named_replies<'m, 'a>(matches: &'m ArgMatches<'a>, files: usize) -> Option<&'m [&'a str]>
-    ensures replies { IfSome result (λ replies. all_of (codes "check") (rows_of (found_of matches.entry.now))
+    ensures replies { IfSome result
+        (λ replies. all_of (codes "check") (rows_of (found_of matches.entry.now))
         ≡ Some (map (λ name. name.now) replies.now)) }
     ensures as_many { IfSome result (λ replies. length replies.now ≡ files) }
     ensures none { result ≡ None → ¬ HasReplies files (rows_of (found_of matches.entry.now)) }
@@ -148,7 +159,7 @@ fn named_replies<'m, 'a>(matches: &'m ArgMatches<'a>, files: usize) -> Option<&'
     Some(replies)
 }
 
-// Returns how answers are to be told, unless two ways are asked for.
+// Returns the form of printed answers, unless two forms are requested.
 fn form_of(matches: &ArgMatches) -> Option<Form>
     ensures form { IfSome result (HoldsForm (rows_of (found_of matches.now))) }
     ensures none { result ≡ None → ¬ HasForm (rows_of (found_of matches.now)) }
@@ -174,7 +185,8 @@ fn one_form(frames: bool, json: bool, check: bool) -> Option<Form>
     }
 }
 
-// Returns the options with this form, unless a number is out of its range. `clap` refuses such numbers itself.
+// Returns the options with this form, unless a number is out of its range. `clap` refuses such
+// numbers itself.
 fn options_of(matches: &ArgMatches, form: Form) -> Option<Options>
     ensures numbers { IfSome result (HoldsNumbers (rows_of (found_of matches.now))) }
     ensures form { IfSome result (λ options. options.form ≡ form) }

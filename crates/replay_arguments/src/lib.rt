@@ -1,7 +1,7 @@
 //! The command line of the program `replay`, and the files that it names.
 //!
-//! [`read_words`] reads the arguments. It returns a [`CommandLine`], or a [`Refusal`] that says how the program ends. [`open_files`]
-//! opens the files by their names, through any [`Files`].
+//! [`read_words`] reads the arguments. It returns a [`CommandLine`], or a [`Refusal`] that says how
+//! the program ends. [`open_files`] opens the files by their names, through any [`Files`].
 //!
 //! The definitions are in `specs/Words.antt` and `specs/Opening.antt`.
 #![tactic(auto)]

@@ -23,7 +23,8 @@ pub enum OpeningError {
 
 impl OpeningError {
     fn new(proxy: usize, error: FileError) -> Self
-        ensures place { (at : ℕ) → result ≡ OpeningError.CannotOpen at → (at ≡ proxy) × (error ≡ FileError.CannotOpen) }
+        ensures place { (at : ℕ) → result ≡ OpeningError.CannotOpen at → (at ≡ proxy)
+            × (error ≡ FileError.CannotOpen) }
         ensures memory { result ≡ OpeningError.Memory → error ≡ FileError.Memory }
     {
         match error {
@@ -33,17 +34,19 @@ impl OpeningError {
     }
 }
 
-/// Opens the files of these names, of which each is that of the proxy at its place. The first that can't be opened is the error.
-/// A folder opens, and fails when it is read.
+/// Opens the files of these names, of which each is that of the proxy at its place. The first that
+/// can't be opened is the error. A folder opens, and fails when it is read.
 pub fn open_files<F: Files>(
     alloc: Global,
     files: &F,
     names: &[&str],
 ) -> Result<Vec<F::Reader>, OpeningError>
     ensures contents { IfOk result (λ readers.
-        map F.Reader.remaining readers.items ≡ contents_each (F.contents files.now) (map (λ name. name.now) names.now)) }
+        map F.Reader.remaining readers.items
+        ≡ contents_each (F.contents files.now) (map (λ name. name.now) names.now)) }
     ensures refused { (proxy : ℕ) → result ≡ Err (OpeningError.CannotOpen proxy)
-        → IsFirstRefused (F.has_opened files.now) (F.cannot_open files.now) (map (λ name. name.now) names.now) proxy }
+        → IsFirstRefused (F.has_opened files.now) (F.cannot_open files.now)
+        (map (λ name. name.now) names.now) proxy }
 {
     let mut readers = Vec::with_capacity(alloc, names.len()).map_err(|_| OpeningError::Memory)?;
     for (proxy, name) in names.iter().enumerate() {
@@ -56,7 +59,8 @@ pub fn open_files<F: Files>(
     Ok(readers)
 }
 
-/// Prints the line of the cause, and returns how the program ends. A failed write changes nothing. Takes no memory.
+/// Prints the line of the cause, and returns how the program ends. A failed write changes nothing.
+/// Takes no memory.
 pub fn fail_to_open<W: Sink>(error: &mut W, cause: OpeningError) -> Status
     ensures status { result ≡ Status.Failed }
     ensures line { (W.failures error.old < W.failures error.new)
@@ -67,7 +71,8 @@ pub fn fail_to_open<W: Sink>(error: &mut W, cause: OpeningError) -> Status
 }
 
 fn print_opening_error<W: Sink>(error: &mut W, cause: OpeningError) -> Result<(), Failed>
-    ensures text { OnOk result (Appends (W.given error.old) (W.given error.new) (opening_line cause)) }
+    ensures text { OnOk result (Appends (W.given error.old) (W.given error.new)
+        (opening_line cause)) }
     ensures failed { IsErr result ↔ (W.failures error.old < W.failures error.new) }
     ensures least_failures { W.failures error.old ≤ W.failures error.new }
 {

@@ -58,7 +58,7 @@ ending_line (Stopped stop) = codes "replay: stop " ++ stop_name stop ++ codes "\
 abbrev pub proxy_lines : List ProxyFailure → List ℕ
 proxy_lines failures = flat_map lines_of_failure (enumerate_from 0 failures)
 
--- the whole text
+-- the complete text
 abbrev pub failure_lines : List ProxyFailure → Ending → List ℕ
 failure_lines failures ending = proxy_lines failures ++ ending_line ending
 

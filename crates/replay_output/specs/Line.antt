@@ -11,7 +11,7 @@ use Rattle.replay_output.specs.declared.options.form.Form.TheVariants.{Words, Fr
 use Rattle.replay_output.specs.declared.line.Line.{Line}
 use Rattle.replay_output.specs.Lines.{line}
 
--- the answer that it tells of
+-- its answer
 abbrev pub answer_of : Line → Answer
 answer_of l = l.answer.value
 
@@ -35,7 +35,7 @@ kept_of Json answer = None
 pub record IsLineOf (form : Form) (proxy : ℕ) (l : Line) : Type 0 where
   pub text : l.text ≡ line form proxy (answer_of l)
   pub sorted_by : l.version ≡ version_of_answer (answer_of l)
-  -- the reply itself, where it is kept
+  -- the reply itself, if it is kept
   pub kept : l.reply ≡ kept_of form (answer_of l)
 
 -- the lines at each number are those of answers to that proxy

@@ -1,4 +1,4 @@
--- The printed text of answers: this project's own formats, one line an answer.
+-- The printed text of answers: this project's own formats, one line per answer.
 use Rattle.std.specs.Prelude.{ℕ, Bool, true, false, if◌then◌else◌, List, [], ◌∷◌, ◌++◌, codes, map}
 use Rattle.std.specs.List.{flat_map, join_by, enumerate_from}
 use Rattle.std.specs.Fmt.{decimal, signed_decimal}
@@ -100,6 +100,6 @@ lines_of_proxy form proxy = flat_map (line form proxy.0) proxy.1
 abbrev pub lines_in_order : Form → List (List Answer) → List ℕ
 lines_in_order form answers = flat_map (lines_of_proxy form) (enumerate_from 0 answers)
 
--- the whole text, given each proxy's answers as received; a proxy's number is its index
+-- the complete text, given each proxy's answers as received; a proxy's number is its index
 abbrev pub lines : Form → List (List Answer) → List ℕ
 lines form received = lines_in_order form (map in_order received)

@@ -26,19 +26,19 @@ numbered number =
     else if number == 5 then ConflictJson
     else PlacesJson
 
--- it stands for a letter, or for a word at most MOST_IN_A_ROW times in a row
+-- it represents a letter, or a word at most MOST_IN_A_ROW times in a row
 abbrev pub IsUnit : ℕ → Type 0
 IsUnit unit = unit < FIRST_WORD + WORDS * MOST_IN_A_ROW
 
--- the word that a unit stands for
+-- the word that a unit represents
 abbrev pub word_of : ℕ → Word
 word_of unit = numbered ((unit - FIRST_WORD) % WORDS)
 
--- how many times in a row it stands for that word
+-- how many times in a row it repeats that word
 abbrev pub times_of : ℕ → ℕ
 times_of unit = (unit - FIRST_WORD) / WORDS + 1
 
--- the text of a unit: below the first word that letter alone, and from there on its word, so many times
+-- the text of a unit: below the first word that letter alone, and from there on its word, repeated
 abbrev pub spelled : ℕ → List ℕ
 spelled unit = if ltb unit FIRST_WORD then unit ∷ [] else repeat (times_of unit) (word_text (word_of unit))
 

@@ -1,8 +1,11 @@
 //! What failed, and its lines on standard error.
 
-ghost use Rattle.std.specs.Prelude.{◌≡◌, ◌↔◌, ◌<◌, ◌≤◌, ◌++◌, codes, decimal, length, IsErr, IsTrue, MatchOption, OnErr, OnOk, if◌then◌else◌};
+ghost use Rattle.std.specs.Prelude.{◌≡◌, ◌↔◌, ◌<◌, ◌≤◌, ◌++◌, codes, decimal, length, IsErr};
+ghost use Rattle.std.specs.Prelude.{IsTrue, MatchOption, OnErr, OnOk, if◌then◌else◌};
 ghost use Rattle.std.specs.Io.KnownBytes.{Appends, Keeps};
-ghost use Rattle.replay_output.specs.Failures.{fault_name, stop_name, fault_line, loss_line, lines_of_failure, proxy_lines, ending_line, failure_lines, with_loss, IsClean, NothingFailed};
+ghost use Rattle.replay_output.specs.Failures.{fault_name, stop_name, fault_line, loss_line};
+ghost use Rattle.replay_output.specs.Failures.{lines_of_failure, proxy_lines, ending_line};
+ghost use Rattle.replay_output.specs.Failures.{failure_lines, with_loss, IsClean, NothingFailed};
 
 use itoa::Buffer;
 use resolver::Stop;
@@ -38,7 +41,8 @@ pub enum Ending {
 }
 
 impl Ending {
-    /// Returns the ending of a run that was complete or not, and that met a stop or none. A stop decides.
+    /// Returns the ending of a run that was complete or not, and that met a stop or none. A stop
+    /// decides.
     pub fn new(complete: bool, stop: Option<Stop>) -> Self
         ensures ending { MatchOption stop
             (result ≡ (if complete then Ending.Complete else Ending.Incomplete))
@@ -67,8 +71,8 @@ pub fn note_loss(failures: &mut [ProxyFailure], proxy: usize)
     failures[proxy].lost = true;
 }
 
-/// Prints a line for each failure: those of each proxy, whose number is its index, and last that of the ending. A proxy's
-/// fault comes before its loss. Takes no memory.
+/// Prints a line for each failure: those of each proxy, whose number is its index, and last that of
+/// the ending. A proxy's fault comes before its loss. Takes no memory.
 ///
 /// After an error some of the text may be written.
 pub fn print_failures<W: Sink>(
@@ -173,7 +177,8 @@ fn print_stop<W: Sink>(error: &mut W, stop: Stop) -> Result<(), Failed>
     write_all(error, b"\n")
 }
 
-/// Returns the number and the name of a fault, as its `Display` prints them. A contract doesn't see what a derived `Display` prints.
+/// Returns the number and the name of a fault, as its `Display` prints them. A contract doesn't see
+/// what a derived `Display` prints.
 pub fn fault_text(fault: WireError) -> &'static str
     ensures name { result.now ≡ fault_name fault }
 {
@@ -196,7 +201,7 @@ pub fn fault_text(fault: WireError) -> &'static str
     }
 }
 
-// The number and the name of a stop, likewise.
+// The number and the name of a stop, the same way.
 fn stop_text(stop: Stop) -> &'static str
     ensures name { result.now ≡ stop_name stop }
 {

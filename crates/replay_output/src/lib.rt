@@ -1,8 +1,9 @@
 //! What a run of the program `replay` prints, and how it ends.
 //!
-//! [`Options`] says how a run is set up, its [`Form`] how answers are printed. [`Line`] is the line of one answer, ready to be
-//! printed. [`print_report`] prints the lines of all answers in order, and then what failed, of each proxy ([`ProxyFailure`]) and of
-//! the run ([`Ending`]). [`fail_to_start`] prints why a run could not start. [`Status`] is how the program ends.
+//! [`Options`] says how a run is set up, its [`Form`] how answers are printed. [`Line`] is the line
+//! of one answer, ready to be printed. [`print_report`] prints the lines of all answers in order,
+//! and then what failed, of each proxy ([`ProxyFailure`]) and of the run ([`Ending`]).
+//! [`fail_to_start`] prints why a run could not start. [`Status`] is how the program ends.
 //!
 //! The texts are defined in `specs/Lines.antt`, `specs/Failures.antt` and `specs/Start.antt`.
 #![tactic(auto)]

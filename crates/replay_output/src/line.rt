@@ -2,7 +2,8 @@
 
 ghost use Rattle.std.specs.Prelude.{◌≡◌, ◌++◌, IfSome, OnOk, codes, false};
 ghost use Rattle.keyspace.specs.Answer.{version_of_answer};
-ghost use Rattle.replay_output.specs.Lines.{conflict_word, entry_word, words, frame_word, line, outcome, plain_line};
+ghost use Rattle.replay_output.specs.Lines.{conflict_word, entry_word, words, frame_word, line};
+ghost use Rattle.replay_output.specs.Lines.{outcome, plain_line};
 ghost use Rattle.replay_output.specs.Line.{IsLineOf, answer_of, kept_of, version_of_line};
 
 use crate::options::Form;
@@ -24,7 +25,7 @@ pub use packed::PackedText;
 /// The line of an answer to a proxy, ready to be printed, or the reply where it is kept.
 #[derive(Drop)]
 pub struct Line {
-    /// The answer that the line tells of. It has no bytes.
+    /// The answer of the line. It has no bytes.
     pub answer: Snapshot<Answer>,
     /// The version that lines are sorted by.
     pub version: i64,
@@ -37,8 +38,9 @@ pub struct Line {
 impl Line {
     /// Makes the line of an answer to this proxy, in this form.
     ///
-    /// Returns none where memory is refused, or where the frame exceeds [`MAX_BODY_LENGTH`](wire::MAX_BODY_LENGTH). The right
-    /// reply to a batch that was read doesn't exceed it.
+    /// Returns none where memory is refused, or where the frame exceeds
+    /// [`MAX_BODY_LENGTH`](wire::MAX_BODY_LENGTH). The right reply to a batch that was read doesn't
+    /// exceed it.
     pub fn new(alloc: Global, form: Form, proxy: usize, answer: Answer) -> Option<Self>
         ensures line { IfSome result (IsLineOf form proxy) }
         ensures answer { IfSome result (λ line. answer_of line ≡ answer) }
@@ -75,7 +77,7 @@ fn text_of(alloc: Global, form: Form, proxy: usize, answer: &Answer) -> Option<P
     Some(text)
 }
 
-// Returns the reply, where it is to be kept.
+// Returns the reply, if it must be kept.
 fn kept_of(form: Form, answer: Answer) -> Option<Reply>
     ensures kept { result ≡ kept_of form answer }
 {
@@ -85,7 +87,7 @@ fn kept_of(form: Form, answer: Answer) -> Option<Reply>
     }
 }
 
-// Puts the line of words behind the text. With `frames` a reply is told as its frame.
+// Appends the line of words. With `frames` a reply is printed as its frame.
 fn print_plain(
     alloc: Global,
     text: &mut PackedText,
@@ -113,7 +115,8 @@ fn version(answer: &Answer) -> i64
     }
 }
 
-// Puts a blank and the frame of a reply behind the text, in lower-case hexadecimal. There is room for the end of the line.
+// Appends a blank and the frame of a reply, in lower-case hexadecimal. There is room for the end of
+// the line.
 fn print_frame(alloc: Global, text: &mut PackedText, reply: &Reply) -> Option<()>
     ensures text { IfSome result (λ _. text.new ≡ text.old ++ codes " " ++ frame_word reply.now) }
 {
@@ -124,7 +127,7 @@ fn print_frame(alloc: Global, text: &mut PackedText, reply: &Reply) -> Option<()
     text.write_all(word.as_bytes()).ok()
 }
 
-// Puts a blank and what became of the batch behind the text.
+// Appends a blank and the fate of the batch.
 fn print_outcome(text: &mut PackedText, answer: &Answer) -> io::Result<()>
     ensures text { OnOk result (text.new ≡ text.old ++ codes " " ++ outcome false answer.now) }
 {
@@ -135,7 +138,7 @@ fn print_outcome(text: &mut PackedText, answer: &Answer) -> io::Result<()>
     }
 }
 
-// Puts the words of the entries behind the text, a blank before each.
+// Appends the words of the entries, a blank before each.
 fn print_words(text: &mut PackedText, entries: &[Entry]) -> io::Result<()>
     ensures text { OnOk result (text.new ≡ text.old ++ codes " " ++ words entries.now) }
 {

@@ -25,7 +25,7 @@ pub struct Options {
     pub window: i64,
     /// How many boundaries its conflict set keeps at most.
     pub limit: usize,
-    /// How answers are told.
+    /// The form of printed answers.
     pub form: Form,
     ghost least_capacity: { 1 ≤ capacity },
     ghost most_capacity: { capacity ≤ MAX_CAPACITY },
@@ -38,7 +38,8 @@ pub struct Options {
 impl Options {
     /// Returns these options if each number is within its range.
     pub fn new(capacity: usize, window: i64, limit: usize, form: Form) -> Option<Self>
-        ensures some { IsSome result ↔ ((1 ≤ capacity) × (capacity ≤ MAX_CAPACITY) × (pos 1 ≤ℤ window)
+        ensures some { IsSome result ↔ ((1 ≤ capacity) × (capacity ≤ MAX_CAPACITY)
+            × (pos 1 ≤ℤ window)
             × (window ≤ℤ MAX_WINDOW) × (1 ≤ limit) × (limit ≤ MAX_LIMIT)) }
         ensures capacity { IfSome result (λ options. options.capacity ≡ capacity) }
         ensures window { IfSome result (λ options. options.window ≡ window) }
@@ -61,7 +62,8 @@ impl Options {
 }
 
 impl Default for Options {
-    ghost is_default = { λ options. (options.capacity ≡ 16) × (options.window ≡ WINDOW) × (options.limit ≡ 1000000) × (options.form ≡ Words) };
+    ghost is_default = { λ options. (options.capacity ≡ 16) × (options.window ≡ WINDOW)
+        × (options.limit ≡ 1000000) × (options.form ≡ Words) };
 
     fn default() -> Self {
         Options {

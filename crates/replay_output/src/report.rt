@@ -1,6 +1,7 @@
 //! All that is printed once every file was replayed: the answers, and what failed.
 
-ghost use Rattle.std.specs.Prelude.{◌≡◌, ◌≢◌, ◌↔◌, ◌<◌, ℕ, map, take, length, vec_items, IfSome, IsErr, IsOk, OnOk};
+ghost use Rattle.std.specs.Prelude.{◌≡◌, ◌≢◌, ◌↔◌, ◌<◌, ℕ, map, take, length, vec_items, IfSome};
+ghost use Rattle.std.specs.Prelude.{IsErr, IsOk, OnOk};
 ghost use Rattle.std.specs.Io.KnownBytes.{Appends, Keeps};
 ghost use Rattle.replay_output.specs.Failures.{failure_lines, with_loss, NothingFailed};
 ghost use Rattle.replay_output.specs.Line.{AreLines, TakesToSort, answers_of};
@@ -27,11 +28,12 @@ pub struct Report {
     pub status: Status,
 }
 
-/// Prints the lines of the answers to `out`, as [`print_answers`] does, and flushes it. Then prints what failed to `error`,
-/// as [`print_failures`] does. `received` and `failures` hold those of each proxy at its number.
+/// Prints the lines of the answers to `out`, as [`print_answers`] does, and flushes it. Then prints
+/// what failed to `error`, as [`print_failures`] does. `received` and `failures` hold those of each
+/// proxy at its number.
 ///
-/// Where memory is refused while the lines of a proxy are sorted, that proxy has a loss from then on. No memory is taken to sort up to
-/// 20 lines. A write or a flush that fails has no line of its own.
+/// If memory is refused while the lines of a proxy are sorted, that proxy has a loss from then on.
+/// No memory is taken to sort up to 20 lines. A write or a flush that fails has no line.
 pub fn print_report<O: Sink, E: Sink>(
     alloc: Global,
     out: &mut O,
@@ -44,7 +46,8 @@ pub fn print_report<O: Sink, E: Sink>(
     ensures lines { (form : Form) → AreLines form (map vec_items received.old)
         → OnOk result.printed (Appends (O.given out.old) (O.given out.new)
         (lines form (map answers_of (map vec_items received.old)))) }
-    ensures memory { (proxy : ℕ) → result.printed ≡ Err (PrintError.Memory proxy) → proxy < length received.old }
+    ensures memory { (proxy : ℕ) → result.printed ≡ Err (PrintError.Memory proxy)
+        → proxy < length received.old }
     ensures takes { (proxy : ℕ) → result.printed ≡ Err (PrintError.Memory proxy)
         → TakesToSort (map vec_items received.old) proxy }
     ensures nothing { (proxy : ℕ) → result.printed ≡ Err (PrintError.Memory proxy)
@@ -53,7 +56,8 @@ pub fn print_report<O: Sink, E: Sink>(
         → result.printed ≡ Err PrintError.Write → IfSome (O.given out.new) (λ _. (n : ℕ)
         × Appends (O.given out.old) (O.given out.new)
         (take n (lines form (map answers_of (map vec_items received.old))))) }
-    ensures write { (result.printed ≡ Err PrintError.Write) ↔ (O.failures out.old < O.failures out.new) }
+    ensures write { (result.printed ≡ Err PrintError.Write)
+        ↔ (O.failures out.old < O.failures out.new) }
     ensures failure_lines { OnOk result.told (Appends (E.given error.old) (E.given error.new)
         (failure_lines failures.new ending)) }
     ensures told { IsErr result.told ↔ (E.failures error.old < E.failures error.new) }
@@ -89,10 +93,14 @@ fn print_and_flush<W: Sink>(
     ensures lines { (form : Form) → AreLines form (map vec_items received.old)
         → OnOk result (Appends (W.given out.old) (W.given out.new)
         (lines form (map answers_of (map vec_items received.old)))) }
-    ensures memory { (proxy : ℕ) → result ≡ Err (PrintError.Memory proxy) → proxy < length received.old }
-    ensures takes { (proxy : ℕ) → result ≡ Err (PrintError.Memory proxy) → TakesToSort (map vec_items received.old) proxy }
-    ensures nothing { (proxy : ℕ) → result ≡ Err (PrintError.Memory proxy) → W.given out.new ≡ W.given out.old }
-    ensures beginning { (form : Form) → AreLines form (map vec_items received.old) → result ≡ Err PrintError.Write
+    ensures memory { (proxy : ℕ) → result ≡ Err (PrintError.Memory proxy)
+        → proxy < length received.old }
+    ensures takes { (proxy : ℕ) → result ≡ Err (PrintError.Memory proxy)
+        → TakesToSort (map vec_items received.old) proxy }
+    ensures nothing { (proxy : ℕ) → result ≡ Err (PrintError.Memory proxy)
+        → W.given out.new ≡ W.given out.old }
+    ensures beginning { (form : Form) → AreLines form (map vec_items received.old)
+        → result ≡ Err PrintError.Write
         → IfSome (W.given out.new) (λ _. (n : ℕ) × Appends (W.given out.old) (W.given out.new)
         (take n (lines form (map answers_of (map vec_items received.old))))) }
     ensures write { (result ≡ Err PrintError.Write) ↔ (W.failures out.old < W.failures out.new) }

@@ -38,7 +38,8 @@ impl From<OpenError> for StartError {
     }
 }
 
-/// Prints the line of the cause, and returns how the program ends. A failed write changes nothing. Takes no memory.
+/// Prints the line of the cause, and returns how the program ends. A failed write changes nothing.
+/// Takes no memory.
 pub fn fail_to_start<W: Sink>(error: &mut W, cause: StartError) -> Status
     ensures status { result ≡ Status.Failed }
     ensures line { (W.failures error.old < W.failures error.new)
@@ -50,7 +51,8 @@ pub fn fail_to_start<W: Sink>(error: &mut W, cause: StartError) -> Status
 
 /// Prints the line of the cause. After an error some of the text may be written.
 pub fn print_start_error<W: Sink>(error: &mut W, cause: StartError) -> Result<(), Failed>
-    ensures text { OnOk result (Appends (W.given error.old) (W.given error.new) (start_line cause)) }
+    ensures text { OnOk result (Appends (W.given error.old) (W.given error.new)
+        (start_line cause)) }
     ensures failed { IsErr result ↔ (W.failures error.old < W.failures error.new) }
     ensures least_failures { W.failures error.old ≤ W.failures error.new }
 {

@@ -17,12 +17,12 @@ abbrev pub replies_kept : List Line → List Reply
 replies_kept ls = flat_map (λ (l : Line). option_to_list l.reply) ls
 
 -- Memory is taken to compare the replies of the proxy of this number: it has an answer, or a reply to it was recorded, or it is the
--- last one, behind which the last line is told.
+-- last one, after which the last line is printed.
 abbrev pub TakesToCompare : List (List Reply) → List (List Line) → ℕ → Type 0
 TakesToCompare recorded received proxy =
     (1 ≤ count_at received proxy) ⊎ ((1 ≤ count_at recorded proxy) ⊎ (proxy + 1 ≡ length received))
 
--- the whole text, given the replies that were recorded of each proxy, and its answers
+-- the complete text, given the replies that were recorded of each proxy, and its answers
 abbrev pub check_lines : List (List Reply) → List (List Answer) → List ℕ
 check_lines recorded received = check_text (count_lines received) (map expected received) recorded
 

@@ -16,11 +16,11 @@ use Rattle.replay_program.specs.Replies.{IsCauseOf, IsReplyFile, replies_line}
 use Rattle.replay_output.specs.Start.{start_line}
 use Rattle.replay_arguments.specs.Words.{AsksForText, HasInputOnce, HoldsOptions, IsTaken, is_kept, rows_of_words}
 
--- the line was told, or standard error failed
+-- the line was printed, or standard error failed
 abbrev pub Told : Written → List ℕ → Type 0
 Told error line = HasFailed error ⊎ Took error line
 
--- a file can't be opened: nothing was printed, and the first such file was told
+-- a file can't be opened: nothing was printed, and the first such file was reported
 pub record DidNotOpen (has_opened cannot_open : List ℕ → Type 0) (names : List (List ℕ)) (out error : Written) :
     Type 0 where
   pub proxy : ℕ
@@ -28,7 +28,7 @@ pub record DidNotOpen (has_opened cannot_open : List ℕ → Type 0) (names : Li
   pub nothing_printed : out.after ≡ out.before
   pub told : Told error (opening_line (opening.CannotOpen proxy))
 
--- the files of replies were not read: nothing was printed, and the cause was told
+-- the files of replies were not read: nothing was printed, and the cause was reported
 pub record DidNotReadReplies (has_opened cannot_open : List ℕ → Type 0) (contents : List ℕ → Option (List ℕ))
     (names : List (List ℕ)) (out error : Written) : Type 0 where
   pub cause : RepliesError
@@ -84,11 +84,11 @@ pub record AsksToCheck (words : List (List ℕ)) (options : Options) (names repl
   pub as_many : length replies ≡ length names
   pub kept : options.form ≡ Kept
 
--- what is told of words that aren't text
+-- the message about arguments that aren't text
 abbrev pub not_text : List ℕ
 not_text = codes "error: invalid UTF-8 was detected in one or more arguments\n\nUsage: replay [OPTIONS] <FILE>...\n\nFor more information, try '--help'.\n"
 
--- the words could not be read as text: nothing was printed, and that was told
+-- the arguments could not be read as text: nothing was printed, and that was reported
 abbrev pub HasReadNoText : Written → Written → Type 0
 HasReadNoText out error = (out.after ≡ out.before) × Told error not_text
 
@@ -103,14 +103,14 @@ pub record HasReplayed (contents : List ℕ → Option (List ℕ)) (words : List
   pub asked : AsksToReplay words options names
   pub replayed : IsReplayed options (contents_each contents names) out.before out.after
 
--- the files of these names were resolved and compared with those of replies, and there are so many differences
+-- the files of these names were resolved and compared with those of replies, and the number of differences is as said
 pub record ChecksFiles (So_many : ℕ → Type 0) (contents : List ℕ → Option (List ℕ)) (options : Options)
     (names replies : List (List ℕ)) (before after : Option (List ℕ)) : Type 0 where
   pub recorded : List (List Reply)
   pub read : AreRecorded contents replies recorded
   pub checked : IsChecked So_many recorded options (contents_each contents names) before after
 
--- all that the words ask for was read, resolved and compared, and there are so many differences
+-- all files of the arguments were read, resolved and compared, and the number of differences is as said
 pub record HasChecked (So_many : ℕ → Type 0) (contents : List ℕ → Option (List ℕ)) (words : List (List ℕ)) (out : Written) :
     Type 0 where
   pub options : Options

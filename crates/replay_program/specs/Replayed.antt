@@ -37,7 +37,7 @@ pub record IsFileOf (bytes : Option (List ℕ)) (batches : List Batch) : Type 0 
   pub frames : TakesFrames bytes left batches
   pub at_end : IsAtEnd left
 
--- what the reference resolver answers by this log, to each of so many proxies
+-- the answers of the reference resolver to this log, for each of n proxies
 abbrev pub answers_each : ℤ → List Step → ℕ → List (List Answer)
 answers_each window log proxies = map (answers window log) (range_with_len 0 proxies)
 
@@ -57,7 +57,7 @@ pub record LineSaysCommitted (form : Form) (answers : List (List Answer)) (proxy
   pub at_version : reply.version ≡ version
   pub at_index : IsSomeAnd (slice_get reply.entries index) (SaysCommitted form)
 
--- All was read and resolved, and what is to be printed of the answers was. There is one log of the reference resolver that
+-- All was read and resolved, and the text of the answers was printed. There is one log of the reference resolver that
 -- holds the batches of each file once, in order, and no others. What was printed is of its answers, all of them.
 pub record IsReplayedBy (Printed : List (List Answer) → Type 0) (options : Options) (files : List (Option (List ℕ))) :
     Type 0 where
@@ -94,7 +94,7 @@ abbrev pub IsReplayed : Options → List (Option (List ℕ)) → Option (List �
 IsReplayed options files before after =
     IsReplayedBy (λ answers. Appends before after (lines options.form answers)) options files
 
--- all was read, resolved and compared: the text printed is the lines of the differences, and there are so many
+-- all was read, resolved and compared: the text printed is the lines of the differences, and their number is as said
 abbrev pub IsChecked : (ℕ → Type 0) → List (List Reply) → Options → List (Option (List ℕ)) → Option (List ℕ) → Option (List ℕ)
     → Type 0
 IsChecked So_many recorded options files before after =
@@ -103,7 +103,7 @@ IsChecked So_many recorded options files before after =
 
 -- what became of a writer
 pub record Written : Type 0 where
-  -- the bytes that it was given, where it tells them
+  -- the bytes that it was given, if it reports them
   pub before : Option (List ℕ)
   pub after : Option (List ℕ)
   -- how often it had failed, and has failed
@@ -125,7 +125,7 @@ HasFailed writer = writer.failures_before < writer.failures_after
 abbrev pub Took : Written → List ℕ → Type 0
 Took writer text = Appends writer.before writer.after text
 
--- a beginning of this text, where it still tells its bytes
+-- a prefix of this text, if it still reports its bytes
 abbrev pub TookBeginning : Written → List ℕ → Type 0
 TookBeginning writer text = IfSome writer.after (λ _. (n : ℕ) × Took writer (take n text))
 
@@ -134,13 +134,13 @@ abbrev pub ending_of : Bool → Option Stop → Ending
 ending_of complete None = if complete then Complete else Incomplete
 ending_of complete (Some stop) = Stopped stop
 
--- the run could not start: nothing was printed, and the cause was told
+-- the run could not start: nothing was printed, and the cause was reported
 pub record DidNotStart (out error : Written) : Type 0 where
   pub cause : StartError
   pub nothing_printed : out.after ≡ out.before
   pub told : HasFailed error ⊎ Took error (start_line cause)
 
--- the same failures, with the loss of one of so many proxies, for which memory is taken
+-- the same failures, with the loss of one of n proxies, for which memory is taken
 abbrev pub IsWithLoss : ℕ → (ℕ → Type 0) → List ProxyFailure → List ProxyFailure → Type 0
 IsWithLoss proxies Takes failures told =
     (proxy : ℕ) × (proxy < proxies) × Takes proxy × (told ≡ with_loss proxy failures)

@@ -13,7 +13,7 @@ use Rattle.replay_output.specs.Failures.{fault_name}
 use Rattle.replay_arguments.specs.Opening.{IsFirstRefused, contents_each}
 use Rattle.replay_output.specs.Start.{start_line}
 
--- the frames of these replies stand at the front, in order, and just those frames leave
+-- the frames of these replies are at the front, in order, and just those frames leave
 abbrev pub TakesReplies : Option (List ℕ) → Option (List ℕ) → List Reply → Type 0
 TakesReplies old new [] = new ≡ old
 TakesReplies old new (reply ∷ rest) =
@@ -25,7 +25,7 @@ pub record IsReplyFile (bytes : Option (List ℕ)) (replies : List Reply) : Type
   pub taken : TakesReplies bytes left replies
   pub at_end : IsAtEnd left
 
--- the frames of some replies stand at the front, and a fault other than these two is the first one of what follows
+-- the frames of some replies are at the front, and a fault other than these two is the first one of the next bytes
 pub record HasReplyFault (bytes : Option (List ℕ)) (e : WireError) : Type 0 where
   pub replies : List Reply
   pub left : Option (List ℕ)

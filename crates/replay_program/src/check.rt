@@ -1,4 +1,5 @@
-//! All that follows the opening of the files of a check: their batches are resolved, and the answers compared.
+//! All that follows the opening of the files of a check: their batches are resolved, and the
+//! answers compared.
 
 ghost use Rattle.std.specs.Prelude.{◌≡◌, ◌≢◌, ◌≤◌, map, vec_items, vec_len};
 ghost use Rattle.std.specs.Io.KnownBytes.{Keeps};
@@ -21,9 +22,9 @@ mod report;
 pub use replies::{RepliesError, fail_to_read_replies, read_replies};
 pub use report::{CheckReport, print_check};
 
-/// Replays the files of these readers as [`replay_over`](crate::replay_over) does, and compares the answers with the replies that
-/// were recorded of each proxy, at its place. Prints a line for each difference and a last line to `out`, and one line a failure to
-/// `error`.
+/// Replays the files of these readers as [`replay_over`](crate::replay_over) does, and compares the
+/// answers with the replies that were recorded of each proxy, at its place. Prints a line for each
+/// difference and a last line to `out`, and one line a failure to `error`.
 pub fn check_over<
     S: Source + Send + Drop + 'static,
     G: Gatekeeper + ShareKeeper + Send + Sync + Drop + 'static,
@@ -44,18 +45,22 @@ pub fn check_over<
     requires most_files { vec_len readers ≤ MAX_PROXIES }
     requires as_many { vec_len recorded ≡ vec_len readers }
     requires kept { options.form ≡ Kept }
-    ensures done { result ≡ Status.Done → IsChecked (λ count. count ≡ 0) (map vec_items recorded.items) options
+    ensures done { result ≡ Status.Done
+        → IsChecked (λ count. count ≡ 0) (map vec_items recorded.items) options
         (map S.remaining readers.items) (O.given out.old) (O.given out.new) }
-    ensures differs { result ≡ Status.Differs → IsChecked (λ count. count ≢ 0) (map vec_items recorded.items) options
+    ensures differs { result ≡ Status.Differs
+        → IsChecked (λ count. count ≢ 0) (map vec_items recorded.items) options
         (map S.remaining readers.items) (O.given out.old) (O.given out.new) }
     ensures quiet { result ≢ Status.Failed → Keeps (E.given error.old) (E.given error.new) }
 
     // Something failed, and its lines were written, or the writer failed.
     ensures failed { result ≡ Status.Failed
-        → FailsToPrint (check_lines (map vec_items recorded.items)) (TakesToCompare (map vec_items recorded.items))
+        → FailsToPrint (check_lines (map vec_items recorded.items))
+        (TakesToCompare (map vec_items recorded.items))
         options (map S.remaining readers.items)
         (written (O.given out.old) (O.given out.new) (O.failures out.old) (O.failures out.new))
-        (written (E.given error.old) (E.given error.new) (E.failures error.old) (E.failures error.new)) }
+        (written (E.given error.old) (E.given error.new) (E.failures error.old)
+        (E.failures error.new)) }
     ensures ends { result ≢ Status.Usage }
 {
     serial::laws::answers_tell_verdicts();

@@ -1,11 +1,13 @@
-//! Replays recorded files of batch frames: their batches are resolved and the answers printed, or compared with recorded replies.
+//! Replays recorded files of batch frames: their batches are resolved and the answers printed, or
+//! compared with recorded replies.
 //!
-//! [`run`] is the program `replay` over any words, files and streams, and [`run_in`] takes the words from an environment.
-//! Both are in `program`. `replay` does all that follows the opening of the files if the answers are printed, and `check` if they are
-//! compared.
+//! [`run`] is the program `replay` over any words, files and streams, and [`run_in`] takes the
+//! words from an environment. Both are in `program`. `replay` does all that follows the opening of
+//! the files if the answers are printed, and `check` if they are compared.
 //!
-//! What is printed is defined by `IsReplayed`, in `specs/Replayed.antt`, and how the program ends in `specs/Program.antt`. The public
-//! names of the crates below, which the program is made of, are exported here too.
+//! What is printed is defined by `IsReplayed`, in `specs/Replayed.antt`, and how the program ends
+//! in `specs/Program.antt`. The public names of the crates below, which the program is made of, are
+//! exported here too.
 #![tactic(auto)]
 
 mod check;

@@ -1,10 +1,12 @@
 //! The program, over any words, files and streams.
 
-ghost use Rattle.std.specs.Prelude.{◌≡◌, ◌≢◌, ◌≤◌, ℕ, List, IfOk, length, map, string_bytes, vec_len};
+ghost use Rattle.std.specs.Prelude.{◌≡◌, ◌≢◌, ◌≤◌, ℕ, List, IfOk, length, map, string_bytes};
+ghost use Rattle.std.specs.Prelude.{vec_len};
 ghost use Rattle.std.specs.Io.KnownBytes.{Keeps};
 ghost use Rattle.resolver.specs.declared.resolver_core.TheConstants.{MAX_PROXIES};
 ghost use Rattle.replay_arguments.specs.Opening.{contents_each};
-ghost use Rattle.replay_program.specs.Program.{ChecksFiles, FailsOnFiles, FailsToCheck, HasDifferences, IsDone, IsFailed, Told};
+ghost use Rattle.replay_program.specs.Program.{ChecksFiles, FailsOnFiles, FailsToCheck};
+ghost use Rattle.replay_program.specs.Program.{HasDifferences, IsDone, IsFailed, Told};
 ghost use Rattle.replay_program.specs.Replayed.{IsReplayed, written};
 ghost use Rattle.replay_arguments.specs.Words.{IsMistaken};
 
@@ -22,8 +24,9 @@ mod environment;
 
 pub use environment::run_in;
 
-/// Runs the program on the words of its command line, of which the first is the program's name. Help is printed to `out`, and
-/// why words are refused to `error`; else the files are replayed, as [`replay_files`] does.
+/// Runs the program on the words of its command line, of which the first is the program's name.
+/// Help is printed to `out`, and why words are refused to `error`; else the files are replayed, as
+/// [`replay_files`] does.
 pub fn run<R: Threads + Wait + Copy + Send + 'static, F: Files, O: Sink, E: Sink>(
     rt: &R,
     alloc: Global,
@@ -37,14 +40,18 @@ pub fn run<R: Threads + Wait + Copy + Send + 'static, F: Files, O: Sink, E: Sink
     ensures quiet { result ≡ Status.Done → Keeps (E.given error.old) (E.given error.new) }
     ensures quiet_too { result ≡ Status.Differs → Keeps (E.given error.old) (E.given error.new) }
     ensures failed { result ≡ Status.Failed
-        → IsFailed (F.has_opened files.now) (F.cannot_open files.now) (F.contents files.now) (map string_bytes words.now)
+        → IsFailed (F.has_opened files.now) (F.cannot_open files.now) (F.contents files.now)
+        (map string_bytes words.now)
         (written (O.given out.old) (O.given out.new) (O.failures out.old) (O.failures out.new))
-        (written (E.given error.old) (E.given error.new) (E.failures error.old) (E.failures error.new)) }
+        (written (E.given error.old) (E.given error.new) (E.failures error.old)
+        (E.failures error.new)) }
     ensures mistaken { result ≡ Status.Usage → IsMistaken (map string_bytes words.now) }
     ensures nothing { result ≡ Status.Usage → O.given out.new ≡ O.given out.old }
     ensures usage { result ≡ Status.Usage → (text : List ℕ)
-        × Told (written (E.given error.old) (E.given error.new) (E.failures error.old) (E.failures error.new)) text }
-    ensures differs { result ≡ Status.Differs → HasDifferences (F.contents files.now) (map string_bytes words.now)
+        × Told (written (E.given error.old) (E.given error.new) (E.failures error.old)
+        (E.failures error.new)) text }
+    ensures differs { result ≡ Status.Differs
+        → HasDifferences (F.contents files.now) (map string_bytes words.now)
         (written (O.given out.old) (O.given out.new) (O.failures out.old) (O.failures out.new)) }
 {
     match read_words(alloc, words) {
@@ -56,8 +63,8 @@ pub fn run<R: Threads + Wait + Copy + Send + 'static, F: Files, O: Sink, E: Sink
     }
 }
 
-/// Opens the files of a command line and replays them, as [`replay_over`] does. Where one can't be opened nothing is printed to
-/// `out`, and the first such file is told to `error`.
+/// Opens the files of a command line and replays them, as [`replay_over`] does. If one can't be
+/// opened, nothing is printed to `out`, and the first such file is reported to `error`.
 pub fn replay_files<R: Threads + Wait + Copy + Send + 'static, F: Files, O: Sink, E: Sink>(
     rt: &R,
     alloc: Global,
@@ -69,12 +76,15 @@ pub fn replay_files<R: Threads + Wait + Copy + Send + 'static, F: Files, O: Sink
     requires least_files { 1 ≤ vec_len line.now.files }
     requires most_files { vec_len line.now.files ≤ MAX_PROXIES }
     ensures done { result ≡ Status.Done → IsReplayed line.now.options
-        (contents_each (F.contents files.now) (map (λ name. name.now) line.now.files.items)) (O.given out.old) (O.given out.new) }
+        (contents_each (F.contents files.now) (map (λ name. name.now) line.now.files.items))
+        (O.given out.old) (O.given out.new) }
     ensures quiet { result ≡ Status.Done → Keeps (E.given error.old) (E.given error.new) }
-    ensures failed { result ≡ Status.Failed → FailsOnFiles (F.has_opened files.now) (F.cannot_open files.now)
+    ensures failed { result ≡ Status.Failed
+        → FailsOnFiles (F.has_opened files.now) (F.cannot_open files.now)
         (F.contents files.now) line.now.options (map (λ name. name.now) line.now.files.items)
         (written (O.given out.old) (O.given out.new) (O.failures out.old) (O.failures out.new))
-        (written (E.given error.old) (E.given error.new) (E.failures error.old) (E.failures error.new)) }
+        (written (E.given error.old) (E.given error.new) (E.failures error.old)
+        (E.failures error.new)) }
     ensures ends { result ≢ Status.Usage }
     ensures same { result ≢ Status.Differs }
 {
@@ -88,8 +98,9 @@ pub fn replay_files<R: Threads + Wait + Copy + Send + 'static, F: Files, O: Sink
     replay_over(rt, alloc, readers, line.options, &gatekeeper, out, error)
 }
 
-/// Opens the files of a command line, reads those of replies, and compares, as [`check_over`] does. Where a file can't be opened, or
-/// one of replies has a fault, nothing is printed to `out`, and the first such file is told to `error`.
+/// Opens the files of a command line, reads those of replies, and compares, as [`check_over`] does.
+/// If a file can't be opened, or one of replies has a fault, nothing is printed to `out`, and the
+/// first such file is reported to `error`.
 pub fn check_files<R: Threads + Wait + Copy + Send + 'static, F: Files, O: Sink, E: Sink>(
     rt: &R,
     alloc: Global,
@@ -102,18 +113,24 @@ pub fn check_files<R: Threads + Wait + Copy + Send + 'static, F: Files, O: Sink,
     requires most_files { vec_len line.now.files ≤ MAX_PROXIES }
     requires as_many { vec_len line.now.replies ≡ vec_len line.now.files }
     requires kept { line.now.options.form ≡ Form.Kept }
-    ensures done { result ≡ Status.Done → ChecksFiles (λ count. count ≡ 0) (F.contents files.now) line.now.options
-        (map (λ name. name.now) line.now.files.items) (map (λ name. name.now) line.now.replies.items)
+    ensures done { result ≡ Status.Done
+        → ChecksFiles (λ count. count ≡ 0) (F.contents files.now) line.now.options
+        (map (λ name. name.now) line.now.files.items)
+        (map (λ name. name.now) line.now.replies.items)
         (O.given out.old) (O.given out.new) }
-    ensures differs { result ≡ Status.Differs → ChecksFiles (λ count. count ≢ 0) (F.contents files.now) line.now.options
-        (map (λ name. name.now) line.now.files.items) (map (λ name. name.now) line.now.replies.items)
+    ensures differs { result ≡ Status.Differs
+        → ChecksFiles (λ count. count ≢ 0) (F.contents files.now) line.now.options
+        (map (λ name. name.now) line.now.files.items)
+        (map (λ name. name.now) line.now.replies.items)
         (O.given out.old) (O.given out.new) }
     ensures quiet { result ≢ Status.Failed → Keeps (E.given error.old) (E.given error.new) }
-    ensures failed { result ≡ Status.Failed → FailsToCheck (F.has_opened files.now) (F.cannot_open files.now)
+    ensures failed { result ≡ Status.Failed
+        → FailsToCheck (F.has_opened files.now) (F.cannot_open files.now)
         (F.contents files.now) line.now.options (map (λ name. name.now) line.now.files.items)
         (map (λ name. name.now) line.now.replies.items)
         (written (O.given out.old) (O.given out.new) (O.failures out.old) (O.failures out.new))
-        (written (E.given error.old) (E.given error.new) (E.failures error.old) (E.failures error.new)) }
+        (written (E.given error.old) (E.given error.new) (E.failures error.old)
+        (E.failures error.new)) }
     ensures ends { result ≢ Status.Usage }
 {
     let readers = match open_files(alloc, files, &line.files) {

@@ -12,11 +12,12 @@ use std::sync::{Arc, Wait};
 use std::thread::Threads;
 use wire::{Sink, Source};
 
-/// Replays the files of these readers, of which each is that of the proxy at its place. Prints one line an answer to `out`,
-/// sorted, and one line a failure to `error`. After a fault of a file, a failed read included, the lines of the frames before it
-/// still stand, and the other files go on.
+/// Replays the files of these readers, of which each is that of the proxy at its place. Prints one
+/// line per answer to `out`, sorted, and one line a failure to `error`. After a fault of a file, a
+/// failed read included, the lines of the frames before it remain, and the other files continue.
 ///
-/// A batch that is still held when all files have ended is answered `Held`. After a stop it isn't answered.
+/// A batch that is still held when all files have ended is answered `Held`. After a stop it isn't
+/// answered.
 pub fn replay_over<
     S: Source + Send + Drop + 'static,
     G: Gatekeeper + ShareKeeper + Send + Sync + Drop + 'static,
@@ -34,8 +35,9 @@ pub fn replay_over<
 ) -> Status
     requires least_files { 1 ≤ vec_len readers }
     requires most_files { vec_len readers ≤ MAX_PROXIES }
-    // There is one log of the reference resolver that holds the batches of each file once, in order, and nothing
-    // else; the text is the lines of its answers. The transactions that it reports as committed are serializable.
+    // There is one log of the reference resolver that holds the batches of each file once, in
+    // order, and nothing else; the text is the lines of its answers. The transactions that it
+    // reports as committed are serializable.
     ensures done { result ≡ Status.Done
         → IsReplayed options (map S.remaining readers.items) (O.given out.old) (O.given out.new) }
     ensures quiet { result ≡ Status.Done → Keeps (E.given error.old) (E.given error.new) }
@@ -43,7 +45,8 @@ pub fn replay_over<
     // Something failed, and its lines were written, or the writer failed.
     ensures failed { result ≡ Status.Failed → FailsToReplay options (map S.remaining readers.items)
         (written (O.given out.old) (O.given out.new) (O.failures out.old) (O.failures out.new))
-        (written (E.given error.old) (E.given error.new) (E.failures error.old) (E.failures error.new)) }
+        (written (E.given error.old) (E.given error.new) (E.failures error.old)
+        (E.failures error.new)) }
     ensures ends { result ≢ Status.Usage }
     ensures same { result ≢ Status.Differs }
 {
@@ -58,8 +61,9 @@ pub fn replay_over<
         all_sent,
         ..
     } = outcome;
-    // Without a stop no run leaves a batch unsent: a worker hands one back only where its answers have ended before.
-    // That isn't to be seen in what its lanes were given, so such a run counts as incomplete.
+    // Without a stop no run leaves a batch unsent: a worker hands one back only where its answers
+    // have ended before. That isn't to be seen in what its lanes were given, so such a run counts
+    // as incomplete.
     let ending = Ending::new(account.complete && all_sent, account.stop);
     print_report(alloc, out, error, &mut lines, &mut failures, ending).status
 }

@@ -6,7 +6,8 @@ use std::alloc::{AllocError, Global};
 use test_values::{Unmade, entry, reply};
 use wire::encode_reply;
 
-// The entry of a word, as it is printed: `committed`, `tooold`, `conflict`, or with one of these lists of places.
+// The entry of a word, as it is printed: `committed`, `tooold`, `conflict`, or with one of these
+// lists of places.
 fn entry_of(alloc: Global, word: &str) -> Result<Entry, Unmade> {
     match word {
         "committed" => Ok(entry(alloc, Verdict::Committed)),
@@ -34,7 +35,8 @@ fn entries_of(alloc: Global, words: &str) -> Result<Vec<Entry>, Unmade> {
     Ok(entries)
 }
 
-/// Reads an answer from its text: `100 committed conflict:0,2`, `100 empty`, `100 never` or `100 held`.
+/// Reads an answer from its text: `100 committed conflict:0,2`, `100 empty`, `100 never` or `100
+/// held`.
 pub fn answer_of(alloc: Global, text: &str) -> Result<Answer, Unmade> {
     let Some((version, words)) = text.split_once(' ') else {
         return Err(Unmade::Text("answer"));

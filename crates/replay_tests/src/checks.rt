@@ -1,4 +1,5 @@
-//! The program whole, where it compares its answers with the replies of another resolver, or tells them in JSON.
+//! The complete program, as it compares its answers with the replies of another resolver, or prints
+//! them in JSON.
 
 use crate::shelf::shell;
 use std::test::Fail;
@@ -55,8 +56,8 @@ fn replies_compared(rt: HostRuntime) -> Result<(), Fail> {
     Ok(())
 }
 
-// Nothing is compared where a file of replies can't be opened or has a fault. A fault of a file of batches is told behind the
-// differences that there are.
+// Nothing is compared if a file of replies can't be opened or has a fault. A fault of a file of
+// batches is reported after the differences.
 #[test]
 fn checks_that_fail(rt: HostRuntime) -> Result<(), Fail> {
     let rows: [(&[&str], &str); 4] = [

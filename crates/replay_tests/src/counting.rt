@@ -3,7 +3,8 @@
 use replay_program::Gatekeeper;
 use std::sync::atomic::{AtomicU64, Ordering};
 
-/// Lets every batch of two proxies pass, and counts for each the batches that it has read and the answers that it has taken.
+/// Lets every batch of two proxies pass, and counts for each the batches that it has read and the
+/// answers that it has taken.
 #[derive(Drop)]
 pub struct Counting {
     read: [AtomicU64; 2],

@@ -104,7 +104,8 @@ const FAULTS: [WireError; 15] = [
     WireError::Write,
 ];
 
-// What comes of a file with this fault and of this stop, in words, and what the errors themselves display.
+// What comes of a file with this fault and of this stop, in words, and what the errors themselves
+// display.
 fn told_and_displayed(
     alloc: Global,
     fault: WireError,

@@ -66,7 +66,8 @@ fn second_version_in_one_file(rt: HostRuntime) -> Result<(), Fail> {
     )
 }
 
-// Replays the first run, cut to this length, and returns whether it gives the frames before the cut.
+// Replays the first run, cut to this length, and returns whether it gives the frames before the
+// cut.
 fn is_cut<R: Threads + Wait + Copy + Send + 'static>(
     rt: &R,
     alloc: Global,

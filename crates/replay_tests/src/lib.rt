@@ -1,14 +1,18 @@
-//! Tests of what the program `replay` does once its files are open, by the public calls of `replay_program` alone.
+//! Tests of the program `replay` after its files are open, by the public calls of `replay_program`
+//! alone.
 //!
-//! `verdicts`, `reports`, `batches`, `options`, `proxies` and `files` are the worked rows, played over memory by `runs`, each a
-//! test of its row's name, and `sharing` those of files that use up their share; `meeting` holds back two proxies that wait for each
-//! other, `watching` when one is let through, and `stalling` a reader. `workers` looks at a worker alone, and
-//! the others at the command line and at what is printed. `shell` and `shell_failures` run the program whole, over the words of an
-//! environment and the files of a `shelf`, and `checks` those that compare with the replies of another resolver. The tests of `memory` pass whichever one growth is refused; `.ci/refused-memory` refuses
-//! each in turn.
+//! `verdicts`, `reports`, `batches`, `options`, `proxies` and `files` are the worked rows, played
+//! over memory by `runs`, each a test of its row's name, and `sharing` those of files that use up
+//! their share; `meeting` holds back two proxies that wait for each other, `watching` when one is
+//! admitted, and `stalling` a reader. `workers` looks at a worker alone, and the others at the
+//! command line and at what is printed. `shell` and `shell_failures` run the complete program, over
+//! the arguments of an environment and the files of a `shelf`, and `checks` those that compare with
+//! the replies of another resolver. The tests of `memory` pass whichever one growth is refused;
+//! `.ci/refused-memory` refuses each in turn.
 //!
-//! The contract of `replay_over` also lets a program through that always stops with `Memory`. Each test that wants a line
-//! refuses it, `empty_batch` first; so does `gate_full_through_replay`, which wants another stop.
+//! The contract of `replay_over` also lets a program through that always stops with `Memory`. Each
+//! test that wants a line refuses it, `empty_batch` first; so does `gate_full_through_replay`,
+//! which wants another stop.
 #![tactic(auto)]
 
 #[cfg(test)]

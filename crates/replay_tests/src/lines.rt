@@ -49,7 +49,7 @@ fn one_line_an_answer(rt: HostRuntime) -> Result<(), Fail> {
     Ok(())
 }
 
-// The line of three times so many transactions.
+// The line of three times this number of transactions.
 fn long_line(alloc: Global, count: usize) -> Result<String, Unmade> {
     let mut line = String::from_str(alloc, "0 100")?;
     for _ in 0..count {
@@ -160,7 +160,7 @@ fn forty_answers_of_one_proxy(rt: HostRuntime) -> Result<(), Fail> {
     Ok(())
 }
 
-// Prints two lines to a writer that takes so many bytes, and returns whether it fails.
+// Prints two lines to a writer that takes n bytes, and returns whether it fails.
 fn fails_after(alloc: Global, room: usize) -> Result<bool, Unmade> {
     let mut received = received_of(alloc, &["0 empty; 100 committed"])?;
     let mut out = StdSink::new(Failing::after(room));

@@ -1,7 +1,7 @@
 //! Two proxies that wait for each other.
 //!
-//! A program that replays its proxies one after another on one thread is refused here: neither proxy would send on before
-//! the other was answered.
+//! A program that replays its proxies one after another on one thread is refused here: neither
+//! proxy would send on before the other was answered.
 
 use crate::runs::{file_of, opened, reader, replayed_from};
 use lane::MAX_CAPACITY;
@@ -17,13 +17,14 @@ use test_values::Unmade;
 // How many questions are refused before all batches pass.
 const MAX_REFUSED: u64 = 1_000_000;
 
-// Proxy 1 sends its first batch only after the first of proxy 0 was answered, and proxy 0 its second only after that.
+// Proxy 1 sends its first batch only after the first of proxy 0 was answered, and proxy 0 its
+// second only after that.
 #[derive(Drop)]
 struct Meeting {
     // how many of the first answers of proxies 0 and 1 were taken
     answered: [AtomicU64; 2],
     refused: AtomicU64,
-    // the places of a batch and of an answer of proxy 0 that were told last
+    // the places of a batch and of an answer of proxy 0 that were reported last
     batch: AtomicU64,
     answer: AtomicU64,
 }
@@ -45,7 +46,8 @@ impl Meeting {
         answered.load(Ordering::SeqCst) > 0
     }
 
-    // Whether no batch had to pass for want of patience, and the places of proxy 0 were counted up to its second batch and answer.
+    // Whether no batch had to pass for want of patience, and the places of proxy 0 were counted up
+    // to its second batch and answer.
     fn has_met(&self) -> bool {
         self.refused.load(Ordering::SeqCst) <= MAX_REFUSED
             && self.batch.load(Ordering::SeqCst) == 1
@@ -121,8 +123,8 @@ fn two_proxies_meet_narrow_and_wide(rt: HostRuntime) -> Result<(), Fail> {
     meet(&rt, MAX_CAPACITY)
 }
 
-// A program that replays the proxies one after another on one thread is refused: neither proxy's batch is answered
-// before the other's, so the gatekeeper gives up.
+// A program that replays the proxies one after another on one thread is refused: neither proxy's
+// batch is answered before the other's, so the gatekeeper gives up.
 #[test]
 fn one_thread_only(rt: HostRuntime) -> Result<(), Fail> {
     meet(&rt, 2)

@@ -85,7 +85,8 @@ impl Row<'_> {
         self.begins(ended, proxy) && ended.count(proxy) == ended.counts.taken(proxy)
     }
 
-    // Whether a line of the first proxy is missing, and none of the other. Where it is the sort that is refused, all are missing.
+    // Whether a line of the first proxy is missing, and none of the other. Where it is the sort
+    // that is refused, all are missing.
     fn has_loss(&self, ended: &Ended, proxy: usize, other: usize) -> bool {
         if ended.out.is_empty() {
             return true;
@@ -95,7 +96,7 @@ impl Row<'_> {
             && self.has_all_taken(ended, other)
     }
 
-    // Whether the lines are those that there are where the file of the proxy ends behind the frames that were read.
+    // Whether the lines are those of a file of the proxy that ends after the frames that were read.
     fn is_cut(&self, ended: &Ended, proxy: usize) -> bool {
         let Some(cut) = self.cut.get(proxy) else {
             return false;

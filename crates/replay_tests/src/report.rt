@@ -1,4 +1,4 @@
-//! The whole of what is printed: the answers, what failed, and the status.
+//! The complete output: the answers, the failures, and the status.
 
 use crate::answers::{line_of, lines_of, received_of};
 use crate::failing::Failing;
@@ -72,7 +72,8 @@ fn answers_and_failures(rt: HostRuntime) -> Result<(), Fail> {
     Ok(())
 }
 
-// Prints the answers to this writer where nothing else fails. Returns the status, and whether standard error is empty.
+// Prints the answers to this writer where nothing else fails. Returns the status, and whether
+// standard error is empty.
 fn printed_to<W: Write + Drop>(alloc: Global, out: W) -> Result<(Status, bool), Unmade> {
     let mut out = StdSink::new(out);
     let mut error = StdSink::new(Vec::new(alloc));
@@ -111,7 +112,8 @@ fn flush_fails(rt: HostRuntime) -> Result<(), Fail> {
     Ok(())
 }
 
-// Reports two failures where standard error takes so many bytes. Returns whether all of them were told, and what comes of it.
+// Reports two failures to a standard error that takes n bytes. Returns whether all of them were
+// reported, and the outcome.
 fn told_in(alloc: Global, room: usize) -> Result<(bool, String), Unmade> {
     let mut out = StdSink::new(Vec::new(alloc));
     let mut error = StdSink::new(Failing::after(room));
@@ -137,8 +139,8 @@ fn error_output_fails_everywhere(rt: HostRuntime) -> Result<(), Fail> {
     Ok(())
 }
 
-// One answer to proxy 0, and more answers to proxy 1 than are sorted without memory, the last ones first. The outputs have room for
-// their lines.
+// One answer to proxy 0, and more answers to proxy 1 than are sorted without memory, the last ones
+// first. The outputs have room for their lines.
 fn to_sort(alloc: Global) -> Result<(Vec<Vec<Line>>, Vec<u8>, Vec<u8>), Unmade> {
     let mut many = Vec::new(alloc);
     for version in (0..21_u32).rev() {
@@ -178,7 +180,8 @@ fn sorted(alloc: Global) -> Result<(bool, String), Unmade> {
     Ok((report.printed.is_ok(), found))
 }
 
-// Where the sort is refused memory, nothing is printed, and the loss is that of the proxy whose lines were to be sorted.
+// If the sort is refused memory, nothing is printed, and the loss is that of the proxy whose lines
+// were to be sorted.
 #[test]
 fn sort_with_one_growth_refused(rt: HostRuntime) -> Result<(), Fail> {
     let (is_printed, found) = sorted(rt.alloc())?;

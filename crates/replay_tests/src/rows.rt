@@ -1,4 +1,5 @@
-//! Rows that are also played with memory refused: their files, and their lines where a file is cut, too.
+//! Rows that are also played with memory refused: their files, and their lines where a file is cut,
+//! too.
 
 use replay_program::Form;
 
@@ -6,11 +7,11 @@ use replay_program::Form;
 pub struct Row<'a> {
     /// The batches of each file.
     pub files: &'a [&'a [&'a str]],
-    /// How answers are told.
+    /// The form of printed answers.
     pub form: Form,
     /// The lines with ample memory.
     pub lines: &'a str,
-    /// The lines where a file, at its place, ends behind the first 0, 1, .. of its frames.
+    /// The lines if a file, at its place, ends after the first 0, 1, .. of its frames.
     pub cut: &'a [&'a [&'a str]],
 }
 

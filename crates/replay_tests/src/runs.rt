@@ -20,7 +20,7 @@ pub fn reader(file: Vec<u8>) -> Reader {
     StdSource::new(Cursor::new(file))
 }
 
-/// Puts the frame of a batch behind the file.
+/// Appends the frame of a batch to the file.
 pub fn push_batch(alloc: Global, file: &mut Vec<u8>, text: &str) -> Result<(), Unmade> {
     let batch = batch(alloc, text)?;
     match encode_batch_1(alloc, &batch) {
@@ -30,7 +30,7 @@ pub fn push_batch(alloc: Global, file: &mut Vec<u8>, text: &str) -> Result<(), U
     }
 }
 
-/// Makes the file of these batches, with these bytes behind them.
+/// Makes the file of these batches, with these bytes after them.
 pub fn file_of(alloc: Global, batches: &[&str], rest: &[u8]) -> Result<Vec<u8>, Unmade> {
     let mut file = Vec::new(alloc);
     for text in batches {
@@ -48,7 +48,8 @@ pub fn opened(alloc: Global, batches: &[&str], rest: &[u8]) -> Result<Vec<u8>, U
     Ok(file)
 }
 
-/// Puts how a run has ended into words, behind what it wrote to standard output and before what it wrote to standard error.
+/// Puts how a run has ended into words, behind what it wrote to standard output and before what it
+/// wrote to standard error.
 pub fn ended(status: Status, out: Vec<u8>, error: &[u8]) -> Result<String, Unmade> {
     let mut text = out;
     text.extend_from_slice(match status {
@@ -64,7 +65,7 @@ pub fn ended(status: Status, out: Vec<u8>, error: &[u8]) -> Result<String, Unmad
     }
 }
 
-/// Makes the gatekeeper that the program has, of so many proxies.
+/// Makes the gatekeeper that the program has, for n proxies.
 pub fn waiting_room(alloc: Global, proxies: usize) -> Result<Arc<WaitingRoom, Global>, AllocError> {
     Ok(Arc::new(alloc, WaitingRoom::new(alloc, proxies)?)?)
 }
@@ -89,7 +90,8 @@ pub fn replayed_from<
     ended(status, out.into_inner(), &error.into_inner())
 }
 
-/// Replays as the program does, from these readers to these writers. No other test calls what it calls, whose contract is long.
+/// Replays as the program does, from these readers to these writers. No other test calls what it
+/// calls, whose contract is long.
 pub fn replay_into<
     S: Source + Send + Drop + 'static,
     G: Gatekeeper + ShareKeeper + Send + Sync + Drop + 'static,
@@ -137,7 +139,7 @@ fn replayed<R: Threads + Wait + Copy + Send + 'static>(
     replayed_from(rt, alloc, readers, options, &gatekeeper)
 }
 
-/// Replays one file with the options, and compares what comes of it behind the line of version 0.
+/// Replays one file with the options, and compares the output after the line of version 0.
 pub fn ends<R: Abort + Threads + Wait + Copy + Send + 'static>(
     rt: &R,
     alloc: Global,

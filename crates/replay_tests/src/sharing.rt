@@ -1,7 +1,7 @@
 //! Rows of files that use up their share of what is held.
 //!
-//! The files of a row are the first of 64, of which the others are empty, so that the share of each is 16. A batch is named by
-//! its version, which is one more than its previous version.
+//! The files of a row are the first of 64, of which the others are empty, so that the share of each
+//! is 16. A batch is named by its version, which is one more than its previous version.
 
 use crate::runs::{gives, push_batch};
 use replay_program::Options;
@@ -22,7 +22,7 @@ struct Row<'a> {
     files: &'a [&'a [Batches]],
     // the batches from this one on are held to the end
     held: u32,
-    // what stands behind the batches of the last file
+    // the bytes after the batches of the last file
     rest: &'a [u8],
     // how the run ends
     ending: &'a str,
@@ -105,7 +105,8 @@ fn plays<R: Abort + AllocGlobal + Threads + Wait + Copy + Send + 'static>(
     gives(rt, alloc, wide, row.files(alloc)?, expected.as_str())
 }
 
-// The batch that is due lies behind a whole share in its own file, first in the one and then in the other.
+// The batch that is due comes after a full share in its own file, first in the one and then in the
+// other.
 #[test]
 fn each_behind_the_others_share(rt: HostRuntime) -> Result<(), Fail> {
     let row = Row {
@@ -156,7 +157,8 @@ fn faulty_file_behind_its_share(rt: HostRuntime) -> Result<(), Fail> {
     plays(&rt, &row)
 }
 
-// Two files of which each has as many batches as is its share of two, and one more, none of which is ever due.
+// Two files of which each has as many batches as is its share of two, and one more, none of which
+// is ever due.
 #[test]
 fn gate_full_of_two_shares(rt: HostRuntime) -> Result<(), Fail> {
     let alloc = rt.alloc();

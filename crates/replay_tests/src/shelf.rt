@@ -17,7 +17,7 @@ use std::thread::Threads;
 use test_values::Unmade;
 use wire::{Sink, StdSink, StdSource};
 
-/// A reader that tells a contract no bytes.
+/// A reader that reports no bytes to contracts.
 #[derive(Drop)]
 pub struct Recorded(Cursor<Vec<u8>>);
 

@@ -1,4 +1,4 @@
-//! The program whole: the words of its command line, and what comes of them.
+//! The complete program: its arguments, and their outcome.
 
 use crate::shelf::shell;
 use resolver::MAX_PROXIES;
@@ -79,7 +79,8 @@ fn options_away_from_their_defaults(rt: HostRuntime) -> Result<(), Fail> {
     )
 }
 
-// The first of 64 files has its share of batches before the one that is due, which is let through since all other files have ended.
+// The first of 64 files has its share of batches before the one that is due, which is admitted
+// since all other files have ended.
 #[test]
 fn due_behind_a_share(rt: HostRuntime) -> Result<(), Fail> {
     let mut words = vec![in rt.alloc(); "replay", "late"]?;
@@ -94,7 +95,7 @@ fn due_behind_a_share(rt: HostRuntime) -> Result<(), Fail> {
     Ok(())
 }
 
-// The first file that can't be opened is told, and nothing is printed.
+// The first file that can't be opened is reported, and nothing is printed.
 #[test]
 fn files_that_cannot_be_opened(rt: HostRuntime) -> Result<(), Fail> {
     gives(
@@ -124,7 +125,7 @@ fn files_that_cannot_be_opened(rt: HostRuntime) -> Result<(), Fail> {
     )
 }
 
-// Refused words are told on standard error alone, with status 2.
+// Refused arguments are reported on standard error alone, with status 2.
 #[test]
 fn words_that_are_refused(rt: HostRuntime) -> Result<(), Fail> {
     let rows: [&[&str]; 5] = [
@@ -159,7 +160,7 @@ fn words_that_are_no_text(rt: HostRuntime) -> Result<(), Fail> {
     Ok(())
 }
 
-// The words are those behind the program's name, whatever that is.
+// The arguments are those after the program's name, whatever that is.
 #[test]
 fn name_of_the_program(rt: HostRuntime) -> Result<(), Fail> {
     gives(

@@ -1,4 +1,4 @@
-//! The program whole, over streams that fail.
+//! The complete program, over streams that fail.
 
 use crate::failing::Failing;
 use crate::runs::ended;
@@ -10,7 +10,8 @@ use std::thread::Threads;
 use test_values::Unmade;
 use wire::StdSink;
 
-// How the program ends on these words, and what it writes to standard error, where standard output is this.
+// How the program ends on these words, and what it writes to standard error, where standard output
+// is this.
 fn ends_on<R: Threads + Wait + Copy + Send + 'static>(
     rt: &R,
     alloc: Global,

@@ -1,4 +1,4 @@
-//! A file that stalls while another goes on.
+//! A file that stalls while another continues.
 
 use crate::runs::{push_batch, replayed_from};
 use flow::{Stand, Told, WaitingRoom};
@@ -14,7 +14,7 @@ use std::{io, thread};
 use test_values::Unmade;
 use wire::StdSource;
 
-// How often a reader looks whether it may go on, before it goes on all the same.
+// How often a reader looks whether it may continue, before it continues anyway.
 const MAX_LOOKS: u32 = 100_000_000;
 
 // Reads a file, and stalls at this place until the other proxy stands or has closed its lane.
@@ -45,7 +45,8 @@ impl Read for Stalling {
     }
 }
 
-// Does what the program's gatekeeper does, and lets the reader of proxy 0 go on once proxy 1 isn't let through, or sends no more.
+// Does what the program's gatekeeper does, and lets the reader of proxy 0 continue once proxy 1
+// isn't admitted, or sends no more.
 #[derive(Drop)]
 struct Releasing {
     room: WaitingRoom,
@@ -126,7 +127,7 @@ fn every_second_line(alloc: Global) -> Result<String, Unmade> {
     Ok(lines)
 }
 
-// Replays the two files, of which the first stalls behind its first frames, and returns what comes of it.
+// Replays the two files, of which the first stalls after its first frames, and returns the outcome.
 fn replayed<R: Threads + Wait + Copy + Send + 'static>(
     rt: &R,
     alloc: Global,
@@ -151,7 +152,7 @@ fn replayed<R: Threads + Wait + Copy + Send + 'static>(
     replayed_from(rt, alloc, readers, Options::default(), &gatekeeper)
 }
 
-// The second proxy goes on up to its share, and waits there until the first has caught up.
+// The second proxy continues up to its share, and waits there until the first has caught up.
 #[test]
 fn stalled_file_stops_nobody(rt: HostRuntime) -> Result<(), Fail> {
     let found = replayed(&rt, rt.alloc(), true)?;
@@ -159,7 +160,7 @@ fn stalled_file_stops_nobody(rt: HostRuntime) -> Result<(), Fail> {
     Ok(())
 }
 
-// Where shares aren't kept, the second proxy fills the gate meanwhile.
+// If shares aren't kept, the second proxy fills the gate meanwhile.
 #[test]
 fn stalled_file_without_shares(rt: HostRuntime) -> Result<(), Fail> {
     let found = replayed(&rt, rt.alloc(), false)?;

@@ -1,5 +1,5 @@
-//! When a batch is let through: only where two looks one after another have found the same, with no batch taken between and none let
-//! through.
+//! When a batch is admitted: only if two looks in sequence have found the same, with no batch taken
+//! between and none let through.
 
 use crate::runs::{file_of, reader, replayed_from};
 use flow::{Stand, Told};
@@ -16,14 +16,16 @@ use test_values::Unmade;
 // How often the first look yields at most until the first batch is sent.
 const MAX_YIELDS: u64 = 10_000_000;
 
-// Tells of its one proxy that it stands, from its first batch on. During the first look that batch is sent, and so it is taken between
-// the first look and the second. The second batch may be sent once some batch was let through twice.
+// Tells of its one proxy that it stands, from its first batch on. During the first look that batch
+// is sent, and so it is taken between the first look and the second. The second batch may be sent
+// once some batch was admitted twice.
 #[derive(Drop)]
 struct Watched {
-    // how many batches the proxy has had in hand, and how many it may send
+    // how many batches the proxy has had ready, and how many it may send
     read: AtomicU64,
     open: AtomicU64,
-    // how many looks have found that it stands: all, those before a batch was let through, and those before one was again
+    // how many looks have found that it stands: all, those before a batch was admitted, and those
+    // before one was again
     looks: AtomicU64,
     first: AtomicU64,
     again: AtomicU64,
@@ -40,7 +42,7 @@ impl Watched {
         }
     }
 
-    // Lets the first batch be sent, and waits until the second is in hand.
+    // Lets the first batch be sent, and waits until the second is ready.
     fn let_first_be_sent(&self) {
         self.open.store(1, Ordering::SeqCst);
         for _ in 0..MAX_YIELDS {
@@ -96,8 +98,8 @@ impl ShareKeeper for Watched {
     }
 }
 
-// Replays two batches that are held, and returns what comes of it, and how many looks there were before a batch was let through and
-// before one was again.
+// Replays two batches that are held, and returns the outcome, and how many looks there were before
+// a batch was admitted and before one was again.
 fn replay_watched<R: Threads + Wait + Copy + Send + 'static>(
     rt: &R,
     alloc: Global,
@@ -115,7 +117,7 @@ fn replay_watched<R: Threads + Wait + Copy + Send + 'static>(
 fn two_looks_alike_let_a_batch_through(rt: HostRuntime) -> Result<(), Fail> {
     let (text, first, again) = replay_watched(&rt, rt.alloc())?;
     assert_eq!(rt; text.as_str(), "0 200 held\n0 300 held\ndone: ");
-    // The first look is forgotten when the batch is taken, and the third when one is let through.
+    // The first look is forgotten when the batch is taken, and the third when one is admitted.
     assert_eq!(rt; (first, again), (3, 5));
     Ok(())
 }

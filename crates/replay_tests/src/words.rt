@@ -64,7 +64,7 @@ fn push_options(alloc: Global, text: &mut String, line: &CommandLine) -> Result<
     Ok(())
 }
 
-// How the program ends in place of replaying.
+// How the program ends instead of replaying.
 fn end_of(alloc: Global, given: &str) -> Result<String, Unmade> {
     let words = words_of(alloc, given)?;
     let Err(refusal) = read_words(alloc, &words) else {
@@ -153,7 +153,7 @@ fn reasons_of_refusals(rt: HostRuntime) -> Result<(), Fail> {
         ),
         (
             "- f -",
-            "error: standard input, -, is wanted at most once\n",
+            "error: standard input (-) can be given only once\n",
         ),
         (many.as_str(), "error: from 1 to 64 files are wanted\n"),
     ] {
@@ -237,7 +237,7 @@ fn version_and_help(rt: HostRuntime) -> Result<(), Fail> {
     Ok(())
 }
 
-// How the program ends where standard output takes so many bytes.
+// How the program ends if standard output takes n bytes.
 fn end_with_room(alloc: Global, refusal: &Refusal, room: usize) -> Result<String, Unmade> {
     let mut error = StdSink::new(Vec::new(alloc));
     let status: Status = refusal.end(&mut StdSink::new(Failing::after(room)), &mut error);

@@ -46,7 +46,8 @@ fn connect(alloc: Global) -> Result<Connected, Unmade> {
     })
 }
 
-// Writes what a worker hands back: the lines of its answers, whether one was lost, the fault of its file and the batch unsent.
+// Writes what a worker returns: the lines of its answers, whether one was lost, the fault of its
+// file and the batch unsent.
 fn handed_back(alloc: Global, finished: &Finished) -> Result<String, Unmade> {
     let mut out = StdSink::new(Vec::new(alloc));
     for line in &finished.lines {
@@ -69,15 +70,16 @@ fn handed_back(alloc: Global, finished: &Finished) -> Result<String, Unmade> {
     Ok(text)
 }
 
-// Sends two answers on a lane that has room for them, and closes it. Returns whether both were sent.
+// Sends two answers on a lane that has room for them, and closes it. Returns whether both were
+// sent.
 fn send_two(replies: &mut Port<Answer>) -> bool {
     let are_sent = replies.send(Answer::Never(1)).is_ok() && replies.send(Answer::Held(2)).is_ok();
     replies.close();
     are_sent
 }
 
-// Works on a file where two answers lie in the reply lane, which is closed. Returns what the worker hands back, in words, and
-// whether it has sent nothing and closed its lane.
+// Works on a file with two answers in the reply lane, which is closed. Returns what the worker
+// returns, in words, and whether it has sent nothing and closed its lane.
 fn told(
     rt: &impl Wait,
     alloc: Global,
@@ -109,7 +111,8 @@ fn worked(rt: &impl Wait, alloc: Global, file: Vec<u8>) -> Result<(String, bool)
     Ok((text?, has_ended))
 }
 
-// Works on the file, and compares what the worker hands back behind the lines of the two answers. It sends nothing.
+// Works on the file, and compares what the worker returns after the lines of the two answers. It
+// sends nothing.
 fn hands_back(
     rt: &(impl Abort + Wait),
     alloc: Global,
@@ -142,8 +145,8 @@ fn stops_sending_at_end_of_answers(rt: HostRuntime) -> Result<(), Fail> {
     hands_back(&rt, rt.alloc(), file, "unsent 0\n")
 }
 
-// Takes batches up to the end of the lane, and then closes the replies. Returns whether there are so many, of the versions from
-// 0 on.
+// Takes batches up to the end of the lane, and then closes the replies. Returns whether there are
+// this many, of the versions from 0 on.
 fn takes_versions<R: Wait>(
     rt: &R,
     mut requests: Intake<Batch>,

@@ -1,4 +1,4 @@
--- Why a run stopped, beside the reference resolver: what the step of its log is that was taken last. This project's own.
+-- Why a run stopped, beside the reference resolver: the last step of its log. This project's own.
 use Rattle.std.specs.Prelude.{◌≡◌, ℕ, ℤ, ◌<ℤ◌, ◌⊎◌, List, [], ◌∷◌, ◌++◌, length, Some, IfSome}
 use Rattle.keyspace.specs.declared.batch.Batch.{Batch}
 use Rattle.keyspace.specs.Judged.{edge}
@@ -33,7 +33,7 @@ pub record Exceeds (limit : ℕ) (window : ℤ) (now : State) (batch : Held) : T
 
 -- While the batches held in this state leave, one that leaves exceeds the limit.
 pub record ExceedsAsTheyLeave (limit : ℕ) (window : ℤ) (first : State) : Type 0 where
-  -- so many have left before it
+  -- how many have left before it
   pub turns : ℕ
   pub batch : Held
   pub others : List Held
@@ -49,13 +49,13 @@ pub record FillsArena (limit : ℕ) (window : ℤ) (log : List Step) : Type 0 wh
       Exceeds limit window (run window last.before) (last.proxy, last.batch)
       ⊎ ExceedsAsTheyLeave limit window (admit window last.proxy last.batch (run window last.before))
 
--- what a stop tells of the log; where memory was refused, nothing
+-- what a stop says of the log; if memory was refused, nothing
 abbrev pub IsStopOf : ℕ → ℤ → List Step → Stop → Type 0
 IsStopOf limit window log resolver.Memory = Unit {0}
 IsStopOf limit window log resolver.GateFull = FillsGate window log
 IsStopOf limit window log resolver.ArenaFull = FillsArena limit window log
 
--- the resolver stands for a log, and the stop that it met, if any, is that of the log
+-- the resolver represents a log, and the stop that it met, if any, is that of the log
 pub record IsAccountedFor (r : ResolverState) : Type 0 where
   pub log : List Step
   pub stands : StandsOver r log

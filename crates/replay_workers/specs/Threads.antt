@@ -1,4 +1,4 @@
--- What each worker is given, and what the workers hand back. This project's own.
+-- The task of each worker, and what the workers return. This project's own.
 use Rattle.std.specs.Prelude.{◌≡◌, ℕ, ◌+◌, true, false, List, [], ◌∷◌, map, Option, None, Some, slice_get}
 use Rattle.std.specs.List.{All}
 use Rattle.keyspace.specs.declared.batch.Batch.{Batch}
@@ -12,7 +12,7 @@ use Rattle.replay_workers.specs.declared.threads.Work.{Work}
 use Rattle.replay_workers.specs.declared.threads.Started.{Started}
 use Rattle.replay_workers.specs.Worker.{HasWorked}
 
--- what a worker is given
+-- the task of a worker
 pub record Given (S : Type 0) : Type 0 where
   pub form : Form
   pub share : ℕ
@@ -29,7 +29,7 @@ module _ {S : Type 0} where
   given_each form share proxy (client ∷ clients) [] = []
   given_each form share proxy [] readers = []
 
-  -- what the worker of a task is to be given
+  -- the values that the worker of a task must get
   abbrev pub given_by : {G : Type 0} → Task S G → Given S
   given_by task = record {
     form = task.assignment.form;
@@ -39,7 +39,7 @@ module _ {S : Type 0} where
     reader = task.reader;
   }
 
-  -- what a worker was given that was promised this work
+  -- the values of a worker that was promised this work
   abbrev pub given_for : Work S → Given S
   given_for work = record {
     form = work.assignment.form;
@@ -49,7 +49,7 @@ module _ {S : Type 0} where
     reader = work.reader.value;
   }
 
-  -- what a worker was given that was started
+  -- the values of a worker that was started
   abbrev pub given_to : Started S → Given S
   given_to worker = given_for worker.handle.promise
 

@@ -8,7 +8,7 @@ pub record Look : Type 0 where
   pub told : List Told
   pub sent : List ℕ
 
--- so many answers were sent
+-- how many answers were sent
 abbrev pub SeesSent : List Lanes → Look → Type 0
 SeesSent lanes look =
     (proxy : ℕ) → proxy < length look.sent → slice_index look.sent proxy ≡ length (sent_to lanes proxy)

@@ -33,14 +33,14 @@ unsent_of Reached = None
 unsent_of (Fault e) = None
 unsent_of (Unsent batch) = Some batch
 
--- the frames of these batches stand at the front, in order, and just those frames leave
+-- the frames of these batches are at the front, in order, and just those frames leave
 abbrev pub TakesFrames : Option (List ℕ) → Option (List ℕ) → List Batch → Type 0
 TakesFrames old new [] = new ≡ old
 TakesFrames old new (batch ∷ rest) =
     (between : Option (List ℕ)) × TakesFrame old between batch × TakesFrames between new rest
 
 -- What was sent before, and then the batches of the frames at the front of the bytes, in order, is what is sent now. The
--- batch read last may be unsent. Where none is, and no fault was met, no bytes are left.
+-- batch read last may be unsent. If none is, and no fault was met, no bytes are left.
 pub record SendsFrames (bytes : Option (List ℕ)) (before now : List Batch) (fault : Option WireError)
     (unsent : Option Batch) : Type 0 where
   pub batches : List Batch
@@ -56,8 +56,8 @@ abbrev pub CannotSend : PortView Batch → IntakeView Answer → Type 0
 CannotSend requests replies =
     HasEnded replies ⊎ ((requests.closed ≡ true) ⊎ (MAX_SENT ≤ length requests.sent))
 
--- What a worker has done that was given this proxy's client, and a reader with these bytes left: what it sent is what it
--- read, what it took is what its lines tell, and it has closed its lane and taken answers to their end.
+-- What a worker has done that was given this proxy's client, and a reader with these bytes left: it sent the batches that it
+-- read, its lines are those of the answers that it took, and it has closed its lane and taken answers to their end.
 pub record HasWorked (form : Form) (proxy : ℕ) (bytes : Option (List ℕ)) (given : Client) (finished : Finished) :
     Type 0 where
   pub client : ClientGoesOn given finished.client
@@ -72,6 +72,6 @@ pub record HasWorked (form : Form) (proxy : ℕ) (bytes : Option (List ℕ)) (gi
 abbrev pub IsBelowShare : ℕ → PortView Batch → IntakeView Answer → Type 0
 IsBelowShare share requests replies = unanswered (length requests.sent) (length replies.taken) < share
 
--- what is told with this batch in hand
+-- the report with this batch ready
 abbrev pub stand_with : Batch → IntakeView Answer → Stand
 stand_with batch replies = record { previous = batch.previous; answered = length replies.taken }

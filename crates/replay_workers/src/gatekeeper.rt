@@ -5,9 +5,9 @@ ghost use Rattle.flow.specs.declared.told.Stand.{Stand as InHand};
 
 use flow::{Stand, Told, WaitingRoom};
 
-/// Says when workers may send their batches. A test holds workers back through one of its own.
+/// Says when workers may send their batches. A test holds workers back through another one.
 ///
-/// Places count from 0, those of the batches of a proxy and those of its answers alike.
+/// Places count from 0, both those of the batches of a proxy and those of its answers.
 pub trait Gatekeeper {
     /// Returns whether the proxy may send its batch at this place now. It is asked before each try.
     fn may_send(&self, proxy: usize, place: u64) -> bool;
@@ -16,13 +16,13 @@ pub trait Gatekeeper {
     fn answered(&self, proxy: usize, place: u64);
 }
 
-/// Keeps shares: says whose batch is let through where all have used up their share. The program's is a
-/// [`WaitingRoom`]. [`Unshared`] keeps none, for any [`Gatekeeper`].
+/// Keeps shares: says whose batch is let through where all have used up their share. The program's
+/// is a [`WaitingRoom`]. [`Unshared`] keeps none, for any [`Gatekeeper`].
 pub trait ShareKeeper {
     // A proxy whose share is used up may send this batch all the same.
     ghost lets_through: { Self → ℕ → InHand → Type 0 };
 
-    /// Tells that the proxy stands with a batch in hand, since its share is used up. Returns
+    /// Reports that the proxy stands with a batch ready, since its share is used up. Returns
     /// whether the batch may be sent all the same. It is asked before each try.
     fn stands(&self, proxy: usize, stand: Stand) -> bool
         ensures through { IsTrue result → lets_through self.now proxy stand };

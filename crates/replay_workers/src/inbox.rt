@@ -23,7 +23,7 @@ pub struct Inbox {
     /// The line of an answer could not be kept. Later answers are dropped too.
     pub lost: bool,
     pub proxy: usize,
-    /// How answers are told.
+    /// The form of printed answers.
     pub form: Form,
     alloc: Global,
     // The place of the next answer. It stops at `u64::MAX`, which no lane comes to.

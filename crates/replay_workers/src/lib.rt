@@ -1,11 +1,13 @@
 //! Runs one worker per file, each in its own thread, and turns the resolver between them.
 //!
-//! [`run`] does so over any readers, and returns an [`Outcome`]: what the workers returned. [`work`] is what one worker does: it
-//! reads the batches of its file, sends them and takes the answers. A [`Gatekeeper`] says when workers may send, and a
-//! [`ShareKeeper`] whose batch goes first where all have used up their share.
+//! [`run`] does so over any readers, and returns an [`Outcome`]: what the workers returned.
+//! [`work`] is what one worker does: it reads the batches of its file, sends them and takes the
+//! answers. A [`Gatekeeper`] says when workers may send, and a [`ShareKeeper`] whose batch goes
+//! first where all have used up their share.
 //!
-//! In reading order: `running`, `threads`, `worker`, `inbox`, `gatekeeper`, `watch`, `outcome`, `pause`. What became of the files is
-//! `IsRun`, in `specs/Run.antt`. What one worker has done is `HasWorked`, in `specs/Worker.antt`.
+//! In reading order: `running`, `threads`, `worker`, `inbox`, `gatekeeper`, `watch`, `outcome`,
+//! `pause`. What became of the files is `IsRun`, in `specs/Run.antt`. What one worker has done is
+//! `HasWorked`, in `specs/Worker.antt`.
 #![tactic(auto)]
 
 mod gatekeeper;

@@ -1,6 +1,7 @@
-//! What the workers hand back.
+//! What the workers return.
 
-ghost use Rattle.std.specs.Prelude.{◌≡◌, ◌≤◌, ◌<◌, [], ◌∷◌, ◌++◌, true, vec_len, vec_capacity, IfOk};
+ghost use Rattle.std.specs.Prelude.{◌≡◌, ◌≤◌, ◌<◌, [], ◌∷◌, ◌++◌, true, vec_len, vec_capacity};
+ghost use Rattle.std.specs.Prelude.{IfOk};
 
 use crate::worker::Finished;
 use replay_output::{Line, ProxyFailure};
@@ -23,7 +24,7 @@ pub struct Outcome {
 }
 
 impl Outcome {
-    /// Creates an outcome to which nothing was handed back, with room for so many workers.
+    /// Creates an empty outcome with room for the results of n workers.
     pub fn with_room(alloc: Global, workers: usize) -> Result<Self, AllocError>
         ensures room { IfOk result (λ outcome. workers ≤ vec_capacity outcome.clients) }
         ensures clients { IfOk result (λ outcome. outcome.clients.items ≡ []) }
@@ -39,15 +40,17 @@ impl Outcome {
         })
     }
 
-    /// Puts what a worker hands back after the others. Takes no memory.
+    /// Appends the result of a worker. Takes no memory.
     pub fn push(&mut self, finished: Finished)
         requires room { vec_len self.old.clients < vec_capacity self.old.clients }
         ensures clients { self.new.clients.items ≡ self.old.clients.items ++ finished.client ∷ [] }
         ensures lines { self.new.lines.items ≡ self.old.lines.items ++ finished.lines ∷ [] }
         ensures failures { self.new.failures.items ≡ self.old.failures.items
             ++ record { fault = finished.fault; lost = finished.lost } ∷ [] }
-        ensures all_sent { self.new.all_sent ≡ true → (self.old.all_sent ≡ true) × (finished.unsent ≡ None) }
-        ensures sends_all { self.old.all_sent ≡ true → finished.unsent ≡ None → self.new.all_sent ≡ true }
+        ensures all_sent { self.new.all_sent ≡ true → (self.old.all_sent ≡ true)
+            × (finished.unsent ≡ None) }
+        ensures sends_all { self.old.all_sent ≡ true → finished.unsent ≡ None
+            → self.new.all_sent ≡ true }
         ensures capacity { vec_capacity self.new.clients ≡ vec_capacity self.old.clients }
     {
         let Finished {

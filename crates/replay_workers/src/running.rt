@@ -1,6 +1,7 @@
 //! A run: the workers read, send and take, while this thread turns the resolver.
 
-ghost use Rattle.std.specs.Prelude.{◌≡◌, ℕ, ◌≤◌, true, length, map, vec_items, vec_len, Some, slice_get, IfOk};
+ghost use Rattle.std.specs.Prelude.{◌≡◌, ℕ, ◌≤◌, true, length, map, vec_items, vec_len, Some};
+ghost use Rattle.std.specs.Prelude.{slice_get, IfOk};
 ghost use Rattle.std.specs.List.{All};
 ghost use Rattle.flow.specs.Next.{AllWait, IsNext};
 ghost use Rattle.resolver.specs.declared.resolver_core.TheConstants.{MAX_PROXIES};
@@ -22,10 +23,11 @@ use std::thread;
 use std::thread::Threads;
 use wire::Source;
 
-/// Runs a worker for each reader, in a thread of its own, and turns the resolver until it is done or has stopped. Returns what
-/// the workers hand back, and the account of the resolver.
+/// Runs a worker for each reader, each in its own thread, and turns the resolver until it is done
+/// or has stopped. Returns what the workers return, and the account of the resolver.
 ///
-/// Once a thread was started, this one takes no memory but in turns and in starting threads. After an error no thread is joined.
+/// Once a thread was started, this one takes no memory but in turns and in starting threads. After
+/// an error no thread is joined.
 pub fn run<
     S: Source + Send + Drop + 'static,
     G: Gatekeeper + ShareKeeper + Send + Sync + Drop + 'static,
@@ -39,9 +41,11 @@ pub fn run<
 ) -> Result<(Outcome, Account), StartError>
     requires least_readers { 1 ≤ vec_len readers }
     requires most_readers { vec_len readers ≤ MAX_PROXIES }
-    ensures run { IfOk result (λ ended. IsRun options (map S.remaining readers.items) (map vec_items ended.0.lines.items)
+    ensures run { IfOk result (λ ended. IsRun options (map S.remaining readers.items)
+        (map vec_items ended.0.lines.items)
         ended.0.failures.items (is_complete ended.0 ended.1) ended.1.stop) }
-    ensures capacity { IfOk result (λ ended. All (HasCapacity options.capacity) ended.0.clients.items) }
+    ensures capacity { IfOk result
+        (λ ended. All (HasCapacity options.capacity) ended.0.clients.items) }
 {
     let proxies = readers.len();
     let Options {
@@ -60,8 +64,8 @@ pub fn run<
     Ok((outcome, account))
 }
 
-// Turns the resolver until it is done; after a stop, until a turn leaves nothing owed. Where all proxies wait for each other a
-// batch is let through.
+// Turns the resolver until it is done; after a stop, until a turn leaves nothing owed. If all
+// proxies wait for each other, a batch is admitted.
 fn turn_to_end<G: ShareKeeper, R: Wait>(
     rt: &R,
     resolver: &mut Resolver,
@@ -69,7 +73,8 @@ fn turn_to_end<G: ShareKeeper, R: Wait>(
     watch: &mut Watch,
 )
     ensures through { IsThrough resolver.new }
-    ensures closed { (proxy : ℕ) (l : Lanes) → slice_get resolver.new.lanes proxy ≡ Some l → l.replies.closed ≡ true }
+    ensures closed { (proxy : ℕ) (l : Lanes) → slice_get resolver.new.lanes proxy ≡ Some l
+        → l.replies.closed ≡ true }
     ensures accounted { IsAccountedFor resolver.old → IsAccountedFor resolver.new }
     ensures resolving { IsResolving resolver.old → IsResolving resolver.new }
     ensures goes_on { GoesOn resolver.old.core resolver.new.core }
@@ -90,8 +95,9 @@ fn turn_to_end<G: ShareKeeper, R: Wait>(
     unreachable!()
 }
 
-// Lets the batch of the proxy through that is next, after a turn that took nothing. What all proxies have told twice, with such
-// a turn between, is so at once: none of them has gone on meanwhile, and all that they have sent was taken.
+// Lets the batch of the proxy through that is next, after a turn that took nothing. What all
+// proxies have told twice, with such a turn between, is so at once: none of them has gone on
+// meanwhile, and all that they have sent was taken.
 fn let_through<G: ShareKeeper>(resolver: &Resolver, gatekeeper: &G, watch: &mut Watch)
     ensures proxies { length watch.new.told ≡ length watch.old.told }
 {

@@ -5,7 +5,8 @@ ghost use Rattle.std.specs.List.{AllZip};
 ghost use Rattle.resolver.specs.Share.{share_of};
 ghost use Rattle.replay_workers.specs.declared.worker.Finished.{Finished as HandedBack};
 ghost use Rattle.replay_workers.specs.Worker.{HasWorked};
-ghost use Rattle.replay_workers.specs.Threads.{given_each, given_by, given_to, HasWorkedOn, IsOutcomeOf};
+ghost use Rattle.replay_workers.specs.Threads.{given_each, given_by, given_to, HasWorkedOn};
+ghost use Rattle.replay_workers.specs.Threads.{IsOutcomeOf};
 
 use crate::gatekeeper::{Gatekeeper, ShareKeeper};
 use crate::outcome::Outcome;
@@ -19,7 +20,7 @@ use std::thread;
 use std::thread::{Promise, PromisedHandle, Threads};
 use wire::Source;
 
-// Promises what a worker does with what it is given.
+// Promises what a worker does with its task.
 #[derive(Drop)]
 struct Work<S> {
     assignment: Assignment,
@@ -61,8 +62,8 @@ impl<S: Source + Drop, G: Gatekeeper + ShareKeeper + Drop> Task<S, G> {
     }
 }
 
-/// Starts a worker for each reader, with the client at the same place, whose number is its proxy's. They
-/// make lines of this form.
+/// Starts a worker for each reader, with the client at the same place, whose number is its proxy's.
+/// They make lines of this form.
 ///
 /// After an error the workers that were started are not joined.
 pub fn start_workers<
@@ -80,7 +81,8 @@ pub fn start_workers<
     requires some { 1 ≤ vec_len readers }
     requires each { vec_len readers ≡ vec_len clients }
     ensures given { IfOk result (λ workers.
-        map given_to workers.items ≡ given_each form (share_of (vec_len readers)) 0 clients.items readers.items) }
+        map given_to workers.items ≡ given_each form (share_of (vec_len readers)) 0 clients.items
+        readers.items) }
 {
     let share = share(readers.len());
     let tasks = make_tasks(alloc, form, share, readers, clients, gatekeeper)?;
@@ -101,7 +103,8 @@ fn make_tasks<S: Drop, G: Drop>(
     gatekeeper: &Arc<G, Global>,
 ) -> Result<Vec<Task<S, G>>, AllocError>
     requires each { vec_len readers ≡ vec_len clients }
-    ensures given { IfOk result (λ tasks. map given_by tasks.items ≡ given_each form share 0 clients.items readers.items) }
+    ensures given { IfOk result (λ tasks. map given_by tasks.items
+        ≡ given_each form share 0 clients.items readers.items) }
 {
     let mut tasks = Vec::with_capacity(alloc, clients.len())?;
     let mut readers = readers.into_iter();
@@ -147,7 +150,7 @@ fn start<
     }
 }
 
-/// Joins all workers, and puts what they hand back into the outcome, in order. Takes no memory.
+/// Joins all workers, and puts their results into the outcome, in order. Takes no memory.
 pub fn join_all<S: Source, R: Threads>(
     rt: &R,
     workers: Vec<Started<S>>,

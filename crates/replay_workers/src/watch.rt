@@ -1,6 +1,7 @@
 //! The watch over proxies that may all wait for each other.
 
-ghost use Rattle.std.specs.Prelude.{◌≡◌, ◌<◌, ◌↔◌, All, length, slice_get, slice_set, IfOk, IfSome, IsTrue, None, Some};
+ghost use Rattle.std.specs.Prelude.{◌≡◌, ◌<◌, ◌↔◌, All, length, slice_get, slice_set, IfOk, IfSome};
+ghost use Rattle.std.specs.Prelude.{IsTrue, None, Some};
 ghost use Rattle.flow.specs.Next.{AllWait, IsNext, NoneStands};
 ghost use Rattle.replay_workers.specs.Watch.{SeesSent};
 
@@ -10,7 +11,8 @@ use resolver::Resolver;
 use std::alloc::{AllocError, Global};
 use std::marker::Model;
 
-/// Keeps what the last look found, of each proxy at its number: what it has told, and how many answers were sent to it.
+/// Keeps what the last look found, of each proxy at its number: what it has told, and how many
+/// answers were sent to it.
 #[derive(Drop)]
 pub struct Watch {
     told: Vec<Told>,
@@ -29,8 +31,8 @@ impl Model for Watch {
 }
 
 impl Watch {
-    /// Creates a watch over so many proxies, of which it knows nothing yet, as after [`forget`](Watch::forget). It takes no memory
-    /// afterwards.
+    /// Creates a watch over n proxies, of which it knows nothing yet, as after
+    /// [`forget`](Watch::forget). It takes no memory afterwards.
     pub fn new(alloc: Global, proxies: usize) -> Result<Self, AllocError>
         ensures proxies { IfOk result (λ watch. length watch.told ≡ proxies) }
         ensures forgotten { IfOk result (λ watch. All (λ told. told ≡ Told.Goes) watch.told) }
@@ -41,7 +43,8 @@ impl Watch {
         })
     }
 
-    /// Forgets what the last look found: the next one finds something else, or no proxy that stands.
+    /// Forgets what the last look found: the next one finds something else, or no proxy that
+    /// stands.
     pub fn forget(&mut self)
         ensures forgotten { All (λ told. told ≡ Told.Goes) self.new.told }
         ensures proxies { length self.new.told ≡ length self.old.told }
@@ -49,11 +52,13 @@ impl Watch {
         self.told.fill(Told::Goes);
     }
 
-    /// Looks at all proxies. Returns the one whose batch is to be let through, if the last look has found the same.
+    /// Looks at all proxies. Returns the one whose batch is to be admitted, if the last look has
+    /// found the same.
     pub fn look<G: ShareKeeper>(&mut self, resolver: &Resolver, gatekeeper: &G) -> Option<usize>
         ensures same { IfSome result (λ _. self.new ≡ self.old) }
         ensures sent { SeesSent resolver.now.lanes self.new }
-        ensures next { IfSome result (λ proxy. AllWait self.new.told self.new.sent × IsNext self.new.told proxy) }
+        ensures next { IfSome result (λ proxy. AllWait self.new.told self.new.sent
+            × IsNext self.new.told proxy) }
         ensures none { result ≡ None → self.new ≡ self.old → AllWait self.new.told self.new.sent
             → NoneStands self.new.told }
         ensures proxies { length self.new.told ≡ length self.old.told }

@@ -1,12 +1,15 @@
-//! A worker reads the file of one proxy, sends its batches and takes its answers, in a thread of its own.
+//! A worker reads the file of one proxy, sends its batches and takes its answers, in its own
+//! thread.
 
-ghost use Rattle.std.specs.Prelude.{◌≡◌, ◌<◌, ◌≤◌, ◌↔◌, ◌⊎◌, [], ◌∷◌, ◌++◌, true, length, None, Some, IsSome, IsTrue, Err, OnOk, OnErr, IfErr};
+ghost use Rattle.std.specs.Prelude.{◌≡◌, ◌<◌, ◌≤◌, ◌↔◌, ◌⊎◌, [], ◌∷◌, ◌++◌, true, length, None};
+ghost use Rattle.std.specs.Prelude.{Some, IsSome, IsTrue, Err, OnOk, OnErr, IfErr};
 ghost use Rattle.lane.specs.declared.port.TheConstants.{MAX_SENT};
 ghost use Rattle.lane.specs.Lane.{PortGoesOn};
 ghost use Rattle.lane.specs.Refused.{item_of};
 ghost use Rattle.wire.specs.Frames.{frames_reader, refusal_of};
 ghost use Rattle.replay_workers.specs.Inbox.{Keeps, InboxGoesOn};
-ghost use Rattle.replay_workers.specs.Worker.{HasWorked, SendsFrames, CannotSend, IsBelowShare, fault_of, stand_with, unsent_of};
+ghost use Rattle.replay_workers.specs.Worker.{HasWorked, SendsFrames, CannotSend, IsBelowShare};
+ghost use Rattle.replay_workers.specs.Worker.{fault_of, stand_with, unsent_of};
 
 use crate::gatekeeper::{Gatekeeper, ShareKeeper};
 use crate::inbox::Inbox;
@@ -27,11 +30,11 @@ pub struct Assignment {
     pub proxy: usize,
     /// So many of its batches may be unanswered as long as it sends freely.
     pub share: u64,
-    /// How answers are told.
+    /// The form of printed answers.
     pub form: Form,
 }
 
-/// What a worker hands back.
+/// What a worker returns.
 #[derive(Drop)]
 pub struct Finished {
     /// The client that the worker was given.
@@ -68,11 +71,11 @@ struct Worker {
     ghost counted: { place ≤ length requests.sent },
 }
 
-/// Sends the batches of the frames of a file, in order, up to the file's end or its fault, closes the lane and takes answers
-/// to their end. Where the answers end earlier, it stops sending.
+/// Sends the batches of the frames of a file, in order, up to the file's end or its fault, closes
+/// the lane and takes answers to their end. If the answers end earlier, it stops sending.
 ///
-/// Where as many of its batches are unanswered as is its share, it stands: it sends the next one only where the gatekeeper
-/// lets it through, or once it has taken an answer.
+/// If as many of its batches are unanswered as its share, it stands: it sends the next one only if
+/// the gatekeeper lets it through, or once it has taken an answer.
 pub fn work<S: Source + Drop, G: Gatekeeper + ShareKeeper, R: Wait>(
     rt: &R,
     alloc: Global,
@@ -125,7 +128,8 @@ impl Worker {
             self.new.requests.sent (fault_of result) (unsent_of result) }
         ensures read { fault_of result ≡ Some WireError.Read
             ↔ (S.failures (frames_reader frames.old) < S.failures (frames_reader frames.new)) }
-        ensures unsent { IsSome (unsent_of result) → CannotSend self.new.requests self.new.inbox.replies }
+        ensures unsent { IsSome (unsent_of result)
+            → CannotSend self.new.requests self.new.inbox.replies }
     {
         for _ in rt.forever() {
             match frames.next() {
@@ -141,8 +145,8 @@ impl Worker {
         unreachable!()
     }
 
-    // Sends a batch as soon as the gatekeeper and the lane let it, and takes answers before each try. Hands the batch back
-    // where the answers have ended, or where the lane takes no more.
+    // Sends a batch as soon as the gatekeeper and the lane let it, and takes answers before each
+    // try. Hands the batch back where the answers have ended, or where the lane takes no more.
     fn send<G: Gatekeeper + ShareKeeper, R: Wait>(
         &mut self,
         rt: &R,
@@ -183,9 +187,12 @@ impl Worker {
         ensures unchanged { OnErr result (self.new.requests.sent ≡ self.old.requests.sent) }
         ensures handed_back { IfErr result (λ refused. item_of refused ≡ batch) }
         ensures closed { result ≡ Err (Refused.Closed batch) → self.new.requests.closed ≡ true }
-        ensures worn { result ≡ Err (Refused.Worn batch) → MAX_SENT ≤ length self.new.requests.sent }
-        ensures share { OnOk result (IsBelowShare self.old.share self.old.requests self.old.inbox.replies
-            ⊎ G.lets_through gatekeeper.now self.old.proxy (stand_with batch self.old.inbox.replies)) }
+        ensures worn { result ≡ Err (Refused.Worn batch)
+            → MAX_SENT ≤ length self.new.requests.sent }
+        ensures share { OnOk result (IsBelowShare self.old.share self.old.requests
+            self.old.inbox.replies
+            ⊎ G.lets_through gatekeeper.now self.old.proxy
+            (stand_with batch self.old.inbox.replies)) }
     {
         if !self.may_send(gatekeeper, &batch) {
             return Err(Refused::Full(batch));
@@ -195,11 +202,13 @@ impl Worker {
         Ok(())
     }
 
-    // Returns whether the batch may be sent now: it may where the share isn't used up, and else where the gatekeeper lets it
-    // through.
+    // Returns whether the batch may be sent now: it may where the share isn't used up, and else
+    // where the gatekeeper lets it through.
     fn may_send<G: Gatekeeper + ShareKeeper>(&self, gatekeeper: &G, batch: &Batch) -> bool
-        ensures share { IsTrue result → IsBelowShare self.now.share self.now.requests self.now.inbox.replies
-            ⊎ G.lets_through gatekeeper.now self.now.proxy (stand_with batch.now self.now.inbox.replies) }
+        ensures share { IsTrue result → IsBelowShare self.now.share self.now.requests
+            self.now.inbox.replies
+            ⊎ G.lets_through gatekeeper.now self.now.proxy
+            (stand_with batch.now self.now.inbox.replies) }
     {
         gatekeeper.may_send(self.proxy, self.place)
             && (self.is_below_share() || gatekeeper.stands(self.proxy, self.stand(batch)))
@@ -207,12 +216,13 @@ impl Worker {
 
     // Returns whether the share isn't used up.
     fn is_below_share(&self) -> bool
-        ensures below { IsTrue result ↔ IsBelowShare self.now.share self.now.requests self.now.inbox.replies }
+        ensures below { IsTrue result ↔ IsBelowShare self.now.share self.now.requests
+            self.now.inbox.replies }
     {
         is_below_share(self.requests.sent(), self.inbox.replies.taken(), self.share)
     }
 
-    // Returns what is told where this batch is in hand.
+    // Returns the report that this batch is ready.
     fn stand(&self, batch: &Batch) -> Stand
         ensures stand { result ≡ stand_with batch.now self.now.inbox.replies }
     {
@@ -224,7 +234,8 @@ impl Worker {
 
     fn finish(self, end: FileEnd) -> Finished
         ensures requests { result.client.requests ≡ self.requests }
-        ensures inbox { (result.client.replies ≡ self.inbox.replies) × (result.lines ≡ self.inbox.lines)
+        ensures inbox { (result.client.replies ≡ self.inbox.replies)
+            × (result.lines ≡ self.inbox.lines)
             × (result.lost ≡ self.inbox.lost) }
         ensures fault { result.fault ≡ fault_of end }
         ensures unsent { result.unsent ≡ unsent_of end }

@@ -1,5 +1,6 @@
-//! Batches like those before, resolved by a conflict set. They take memory for their replies alone: the script compares how many
-//! allocations the two tests take, of which one resolves twenty batches more.
+//! Batches like those before, resolved by a conflict set. They take memory for their replies alone:
+//! the script compares how many allocations the two tests take, of which one resolves twenty
+//! batches more.
 
 use crate::chained::Chained;
 use keyspace::{Batch, WINDOW};
@@ -7,8 +8,8 @@ use std::alloc::{AllocError, Global};
 use std::test::Fail;
 use test_values::{Unmade, batch};
 
-// Makes forty batches of one chain, all alike: the first transaction commits a range that the second reads, and the third asks for
-// its report.
+// Makes forty batches of one chain, all of one form: the first transaction commits a range that the
+// second reads, and the third asks for its report.
 fn forty(alloc: Global) -> Result<Vec<Batch>, Unmade> {
     let mut batches = Vec::new(alloc);
     for version in 0..40_i64 {
@@ -31,7 +32,7 @@ fn count_resolved(set: &mut Chained, batch: &Batch) -> Result<usize, Unmade> {
     }
 }
 
-// Resolves the first of forty batches, so many, and returns how many transactions they have.
+// Resolves the first n of forty batches, and returns how many transactions they have.
 fn resolve(alloc: Global, count: usize) -> Result<usize, Unmade> {
     let batches = forty(alloc)?;
     let mut set = Chained::new(alloc, WINDOW, 1_000)?;

@@ -1,4 +1,5 @@
-//! No call over lanes waits for another thread: functions that are given nothing to wait with make each of them.
+//! No call over lanes waits for another thread: functions that are given nothing to wait with make
+//! each of them.
 
 use crate::service::Service;
 use lane::{Taken, agree, lane};

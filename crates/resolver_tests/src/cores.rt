@@ -38,8 +38,8 @@ impl Run {
         Ok(self.core.admit(proxy, batch))
     }
 
-    // Returns whether a call that makes so many answers may return this. Once a stop was met it is the same, and no answer is
-    // made.
+    // Returns whether a call that makes n answers may return this. Once a stop was met it is the
+    // same, and no answer is made.
     fn looks_right(&mut self, returned: Result<(), Stop>, answers: usize) -> bool {
         let before = self.made;
         let most = before.saturating_add(answers);
@@ -58,8 +58,8 @@ impl Run {
         }
     }
 
-    // Takes an answer, and returns whether it is this one. It may be missing where its step is the one that met the stop, or a
-    // later one.
+    // Takes an answer, and returns whether it is this one. It may be missing where its step is the
+    // one that met the stop, or a later one.
     fn gives(&mut self, step: usize, told: &str) -> Result<bool, Unmade> {
         let (proxy, expected) = numbered(told.trim_start())?;
         match give(&mut self.core, proxy)? {
@@ -95,7 +95,8 @@ impl Run {
         Ok(None)
     }
 
-    // Takes the answers of the row, and returns the first step whose answers aren't those that are given.
+    // Takes the answers of the row, and returns the first step whose answers aren't those that are
+    // given.
     fn takes_all<'a>(&mut self, row: &[&'a str]) -> Result<Option<&'a str>, Unmade> {
         for (place, step) in row.iter().enumerate() {
             if !self.gives_all(place, parts(step).1)? {
@@ -119,10 +120,10 @@ impl Run {
     }
 }
 
-// Runs a row over a core of so many proxies.
+// Runs a row over a core of n proxies.
 //
-// The answers given are those of the row up to the stop: all of the steps before it, a beginning of those of the step that met
-// it, and no other.
+// The answers given are those of the row up to the stop: all of the steps before it, a prefix of
+// those of the step that met it, and no other.
 fn outcome<'a>(alloc: Global, proxies: usize, row: &[&'a str]) -> Result<Outcome<'a>, Unmade> {
     match open(alloc, proxies)? {
         Ok(core) => {

@@ -66,7 +66,8 @@ fn push_given(alloc: Global, core: &mut Core, text: &mut String) -> Result<(), U
     Ok(())
 }
 
-// Admits a further batch, and finishes if it is refused. Returns whether each call answered this and the core says so.
+// Admits a further batch, and finishes if it is refused. Returns whether each call answered this
+// and the core says so.
 fn answers(
     core: &mut Core,
     alloc: Global,
@@ -82,7 +83,8 @@ fn answers(
     Ok(core.stop() == wanted.err())
 }
 
-// Fills a core, admits the further batch, and writes what is owed, or that a call answered otherwise.
+// Fills a core, admits the further batch, and writes what is owed, or that a call answered
+// otherwise.
 fn play(
     core: &mut Core,
     alloc: Global,

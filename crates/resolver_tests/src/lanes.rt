@@ -1,7 +1,7 @@
 //! The worked rows over lanes, whatever memory is refused.
 //!
-//! A step of a row is a call, and behind `=` what it answers: `send 0 0>100`, `close 0`, `turn = took 0`, `owed = 1`,
-//! `take 0 = 100 empty`, `take 0 = end`, `settle = complete`.
+//! A step of a row is a call, and after `=` its answer: `send 0 0>100`, `close 0`, `turn = took 0`,
+//! `owed = 1`, `take 0 = 100 empty`, `take 0 = end`, `settle = complete`.
 
 use crate::made::{batch_at_last, text_at_last};
 use crate::service::Service;
@@ -60,7 +60,8 @@ impl Run {
         }
     }
 
-    // Takes what is next on the reply lane of the proxy. Only after a stop may it be missing, and then nothing more comes.
+    // Takes what is next on the reply lane of the proxy. Only after a stop may it be missing, and
+    // then nothing more comes.
     fn take(&mut self, proxy: usize, expected: &str) -> Result<bool, Unmade> {
         let taken = self.service.take(proxy)?;
         let Some(missed) = self.missed.get_mut(proxy) else {
@@ -220,7 +221,8 @@ fn held_at_close(rt: HostRuntime) -> Result<(), Fail> {
     goes_through(&rt, rt.alloc(), (1, 1), &row)
 }
 
-// A log whose second batch waits for the third, and the answer to it for room; its last is held to the end.
+// A log whose second batch waits for the third, and the answer to it for room; its last is held to
+// the end.
 const TWO_LANES_OF_ONE: &[&str] = &[
     "send 0 -1>0",
     "turn = took 0",

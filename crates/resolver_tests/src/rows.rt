@@ -1,7 +1,7 @@
 //! The worked rows that are played over a core and over lanes.
 //!
-//! A step of a row is a proxy and its batch, or `finish`, and behind an arrow the answers that the step makes, each with the
-//! proxy that is given it: `0 0>100 -> 0 100 empty; 1 55 never`.
+//! A step of a row is a proxy and its batch, or `finish`, and after an arrow the answers that the
+//! step makes, each with the proxy that is given it: `0 0>100 -> 0 100 empty; 1 55 never`.
 
 use test_values::Unmade;
 
@@ -54,7 +54,8 @@ pub const REPORT_HISTORY_HITS: Row<'static> = &[
     "finish",
 ];
 
-/// Over a lane of one its last answers are owed by the core: one lies in the lane, and one waits before it.
+/// Over a lane of one its last answers are owed by the core: one lies in the lane, and one waits
+/// before it.
 pub const CHAIN_OF_FIVE: Row<'static> = &[
     "0 -1>0 -> 0 0 empty",
     "0 0>100 -> 0 100 empty",

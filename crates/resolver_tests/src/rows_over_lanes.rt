@@ -24,7 +24,8 @@ struct Run {
 }
 
 impl Run {
-    // Turns once, and returns whether it may answer so: one of these, or a stop, and then always that one.
+    // Turns once, and returns whether it may answer so: one of these, or a stop, and then always
+    // that one.
     fn turn(&mut self, expected: &[Turn]) -> bool {
         match (self.stop, self.service.turn()) {
             (None, Ok(turn)) => expected.contains(&turn),
@@ -65,8 +66,9 @@ impl Run {
         Ok(is_right)
     }
 
-    // Takes an answer of the step at this place, and turns once more, since a lane has room for one. Returns whether it is this
-    // answer. It may be missing where its step is the one that met the stop, or a later one, and then none comes any more.
+    // Takes an answer of the step at this place, and turns once more, since a lane has room for
+    // one. Returns whether it is this answer. It may be missing where its step is the one that met
+    // the stop, or a later one, and then none comes any more.
     fn take(&mut self, place: usize, told: &str) -> Result<bool, Unmade> {
         let (proxy, expected) = numbered(told.trim_start())?;
         match self.service.take(proxy)? {
@@ -92,7 +94,8 @@ impl Run {
         Ok(is_right)
     }
 
-    // Returns whether both reply lanes have ended, and whether all is settled, unless a stop was met.
+    // Returns whether both reply lanes have ended, and whether all is settled, unless a stop was
+    // met.
     fn has_ended(&mut self) -> Result<bool, Unmade> {
         for proxy in 0..2 {
             if !matches!(self.service.take(proxy)?, Taken::End) {
@@ -106,7 +109,8 @@ impl Run {
         Ok(self.service.settle() == account)
     }
 
-    // Makes the calls of the row and then takes the answers. Returns the first step that answered otherwise.
+    // Makes the calls of the row and then takes the answers. Returns the first step that answered
+    // otherwise.
     fn play<'a>(&mut self, row: &[&'a str]) -> Result<Option<&'a str>, Unmade> {
         for step in row {
             if !self.call(parts(step).0)? {
@@ -126,10 +130,11 @@ impl Run {
     }
 }
 
-// Makes the steps of a row over new lanes. Returns the stop that was met, if any, or the step that answered otherwise.
+// Makes the steps of a row over new lanes. Returns the stop that was met, if any, or the step that
+// answered otherwise.
 //
-// The answers taken are those of the row up to the stop: all of the steps before it, a beginning of those of the step that met
-// it, and no other.
+// The answers taken are those of the row up to the stop: all of the steps before it, a prefix of
+// those of the step that met it, and no other.
 fn outcome<'a>(alloc: Global, row: &[&'a str]) -> Result<Result<Option<Stop>, &'a str>, Unmade> {
     let Ok(service) = Service::open(alloc, 2, 1)? else {
         return Ok(Ok(Some(Stop::Memory)));

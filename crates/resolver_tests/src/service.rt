@@ -1,4 +1,4 @@
-//! A resolver over lanes and its clients in one hand.
+//! A resolver over lanes together with its clients.
 ghost use Rattle.std.specs.Prelude.{◌≤◌};
 ghost use Rattle.resolver.specs.Resolver.{AreClients};
 
@@ -40,7 +40,8 @@ impl Service {
         Ok(Service { resolver, clients })
     }
 
-    /// Sends a batch on the request lane of the proxy, and returns whether the lane has accepted it.
+    /// Sends a batch on the request lane of the proxy, and returns whether the lane has accepted
+    /// it.
     pub fn send(&mut self, proxy: usize, batch: Batch) -> Result<bool, Unmade> {
         if proxy >= self.clients.len() {
             return Err(Unmade::Beyond("proxy"));

@@ -60,7 +60,8 @@ fn own_and_later_writes_do_not_count(rt: HostRuntime) -> Result<(), Fail> {
     resolves(&rt, rt.alloc(), (WINDOW, LIMIT), &batches, lines)
 }
 
-// At 105 the batch writes what those read that the history refuses, too. At 106 the history alone refuses them.
+// At 105 the batch writes what those read that the history refuses, too. At 106 the history alone
+// refuses them.
 #[test]
 fn refused_by_the_history_writes_nothing(rt: HostRuntime) -> Result<(), Fail> {
     let batches = [
@@ -151,7 +152,8 @@ fn seventy_single_keys(rt: HostRuntime) -> Result<(), Fail> {
 // The bytes of the longest key.
 const ONES: [u8; 39] = [1; 39];
 
-// Writes one key of so many bytes, 39 at most, at that version. The set doesn't look at the version before.
+// Writes one key of n bytes, 39 at most, at that version. The set doesn't look at the version
+// before.
 fn write_key(alloc: Global, set: &mut Chained, version: i64, length: usize) -> Result<(), Unmade> {
     let mut writes = Vec::new(alloc);
     writes
@@ -166,7 +168,8 @@ fn write_key(alloc: Global, set: &mut Chained, version: i64, length: usize) -> R
     }
 }
 
-// Writes keys further apart than the window, and returns the first after which there are more boundaries than its own.
+// Writes keys further apart than the window, and returns the first after which there are more
+// boundaries than its own.
 fn first_of_too_many(alloc: Global, set: &mut Chained) -> Result<Option<u32>, Unmade> {
     for number in 0..10_000_u32 {
         let length = number as usize % 40;

@@ -45,7 +45,8 @@ fn set_at_last(alloc: Global) -> Result<Chained, Unmade> {
     }
 }
 
-// Resolves the batches, and returns whether each is replied to so until one is refused memory, and then none.
+// Resolves the batches, and returns whether each is replied to so until one is refused memory, and
+// then none.
 fn stops_for_good(alloc: Global, set: &mut Chained, replied: Replied) -> Result<bool, Unmade> {
     let mut is_stopped = false;
     for (text, line) in replied {

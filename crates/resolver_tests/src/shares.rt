@@ -7,7 +7,8 @@ use std::process::Abort;
 use std::test::Fail;
 use test_values::{Unmade, batch_of};
 
-// Sends so many batches of the proxy that have to be held, with a turn after each. Returns the stop that came, if any.
+// Sends `count` batches of the proxy that have to be held, with a turn after each. Returns the stop
+// that came, if any.
 fn send_held(
     service: &mut Service,
     alloc: Global,
@@ -25,7 +26,7 @@ fn send_held(
     Ok(None)
 }
 
-// Sends so many batches of each of two proxies. Returns the stop that came, if any.
+// Sends `count` batches of each of two proxies. Returns the stop that came, if any.
 fn stop_of_two(alloc: Global, first: u32, second: u32) -> Result<Option<Stop>, Unmade> {
     let Ok(mut service) = Service::open(alloc, 2, 1)? else {
         return Err(Unmade::Memory);

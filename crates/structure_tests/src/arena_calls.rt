@@ -5,7 +5,7 @@ use std::alloc::{AllocError, Allocator, Global};
 use std::test::Fail;
 use test_values::prints;
 
-/// Makes a key of so many bytes, which tells it from others of its length.
+/// Makes a key of `length` bytes that differs from the others of its length.
 pub fn bytes_of(alloc: Global, number: u32, length: usize) -> Result<Vec<u8>, AllocError> {
     let mut bytes = Vec::with_capacity(alloc, length)?;
     let mut state = number.wrapping_mul(2_654_435_761);

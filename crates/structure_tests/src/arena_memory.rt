@@ -56,7 +56,7 @@ fn refuses_growth<A: Allocator + Copy>(arena: &mut Arena<u32, A>) -> bool {
         && arena.place(1, b"no slot is left").err() == Some(ArenaError::Memory)
 }
 
-// Returns whether the keys of one byte are there, but for the slot that was given again.
+// Returns whether the keys of one byte are there, except the slot that was given again.
 fn shows_chunk<A: Allocator + Copy>(arena: &Arena<u32, A>, slots: &[Slot], again: Slot) -> bool {
     let mut all_show = shows(arena, again, 1000, b"twenty bytes of text");
     for (number, slot) in (0..512_u32).zip(slots) {
@@ -100,7 +100,8 @@ fn arena_reserves_slots(rt: HostRuntime) -> Result<(), Fail> {
 // The lengths of the keys that are placed in little memory.
 const LENGTHS: [usize; 12] = [5, 40, 300, 20, 1000, 100, 16_384, 64, 8_000, 0, 3_000, 500];
 
-// Places a key of each length, and returns how many calls were refused. All that weren't are there then.
+// Places a key of each length, and returns how many calls were refused. All that weren't are there
+// then.
 fn place_each<A: Allocator + Copy>(
     rt: &impl Abort,
     arena: &mut Arena<u32, A>,
@@ -131,8 +132,8 @@ fn refused_within(rt: &impl Abort, alloc: Global, memory: usize) -> Result<usize
     Ok(refused)
 }
 
-// However little memory there is, a refused call leaves the records as they were, and the next call after one that
-// succeeds.
+// However little memory there is, a refused call leaves the records as they were, and the next call
+// after one that succeeds.
 #[test]
 fn refused_growth_changes_nothing(rt: HostRuntime) -> Result<(), Fail> {
     let mut refused = 0_usize;
@@ -192,7 +193,8 @@ fn room_at_last(alloc: Global, count: usize) -> Result<Vec<Slot>, AllocError> {
     }
 }
 
-// The calls of `arena_chunk_and_refusal`: no key of a reserved length is refused, and the slot that was released is given again.
+// The calls of `arena_chunk_and_refusal`: no key of a reserved length is refused, and the slot that
+// was released is given again.
 #[test]
 fn chunk_with_one_growth_refused(rt: HostRuntime) -> Result<(), Fail> {
     let room = room_at_last(rt.alloc(), 512)?;

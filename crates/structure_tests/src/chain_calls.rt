@@ -13,7 +13,8 @@ fn left(leaving: Option<(usize, Batch)>) -> (usize, i64) {
     leaving.map_or((0, -1), |held| (held.0, held.1.version))
 }
 
-// Tells the proxy and the version of what leaves at each of these versions, `2:200 none`, or of the earliest arrivals.
+// Tells the proxy and the version of what leaves at each of these versions, `2:200 none`, or of the
+// earliest arrivals.
 fn leaving(alloc: Global, gate: &mut Gate, at: &[Option<i64>]) -> Result<String, Unmade> {
     let mut told = String::new(alloc);
     for version in at {

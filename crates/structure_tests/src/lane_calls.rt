@@ -24,7 +24,7 @@ impl Ends {
         Ok(Ends { port, intake })
     }
 
-    // Makes the call and tells its answer.
+    // Makes the call and returns its answer.
     fn call(&mut self, alloc: Global, call: &str) -> Result<String, Fail> {
         match call {
             "take" => taken(alloc, self.intake.take()),
@@ -56,8 +56,8 @@ fn sent(alloc: Global, sent: Result<(), Refused<u32>>) -> Result<String, Fail> {
     }
 }
 
-// Makes these calls of a lane of this capacity, each a word: a number is sent, and `beside` takes beside the port. Tells the
-// answers.
+// Makes these calls of a lane of this capacity, each a word: a number is sent, and `beside` takes
+// beside the port. Tells the answers.
 fn answers(alloc: Global, capacity: usize, calls: &str) -> Result<String, Fail>
     requires some { 0 < capacity }
     requires limit { capacity ≤ MAX_CAPACITY }

@@ -22,7 +22,8 @@ fn send_at_last<R: Wait>(rt: &R, port: &mut Port<u32>, item: u32)
 
 /// The next item, or `None` at the end of the lane.
 fn next<R: Wait>(rt: &R, intake: &mut Intake<u32>) -> Option<u32>
-    ensures same_lane { (intake.new.lane ≡ intake.old.lane) × (intake.new.capacity ≡ intake.old.capacity) }
+    ensures same_lane { (intake.new.lane ≡ intake.old.lane)
+        × (intake.new.capacity ≡ intake.old.capacity) }
 {
     for _ in rt.forever() {
         match intake.take() {
@@ -57,8 +58,8 @@ fn take_all<R: Wait>(rt: &R, mut intake: Intake<u32>) -> (Intake<u32>, bool)
     (intake, in_order && ended)
 }
 
-/// Whether the numbers go in order through a lane of this capacity, from one thread to another, and the ends
-/// agree then.
+/// Whether the numbers go in order through a lane of this capacity, from one thread to another, and
+/// the ends agree then.
 fn carries<R: Threads + Wait + Sync>(
     rt: &R,
     alloc: Global,
@@ -74,7 +75,8 @@ fn carries<R: Threads + Wait + Sync>(
             ensures same_lane { (result.lane ≡ port.lane) × (result.capacity ≡ port.capacity) }
         { send_all(rt, port) },
         move || -> (Intake<u32>, bool)
-            ensures same_lane { (result.0.lane ≡ intake.lane) × (result.0.capacity ≡ intake.capacity) }
+            ensures same_lane { (result.0.lane ≡ intake.lane)
+                × (result.0.capacity ≡ intake.capacity) }
         { take_all(rt, intake) },
     );
     Ok(in_order && agree(&mut port, &mut intake))

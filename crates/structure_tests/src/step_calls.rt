@@ -32,7 +32,7 @@ fn two_writes(rt: &impl Abort, alloc: Global) -> Result<Written, StepError> {
     Ok(written)
 }
 
-// Returns whether there are so many boundaries, and these versions at keys.
+// Returns whether there are this many boundaries, and these versions at keys.
 fn has(map: &StepMap, boundaries: usize, rows: &str) -> bool {
     map.boundaries() == boundaries && shows(map, rows)
 }
@@ -107,8 +107,8 @@ fn refusals_print_their_numbers(rt: HostRuntime) -> Result<(), Fail> {
     Ok(())
 }
 
-// Its outcome is the same whichever one growth is refused: `new` and the ranges are made at the next try, and `put` looks at
-// the map after a refused `prepare`.
+// Its outcome is the same whichever one growth is refused: `new` and the ranges are made at the
+// next try, and `put` looks at the map after a refused `prepare`.
 #[test]
 fn one_growth_refused(rt: HostRuntime) -> Result<(), Fail> {
     let written = match two_writes(&rt, rt.alloc()) {

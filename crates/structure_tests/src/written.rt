@@ -47,7 +47,8 @@ impl Written {
         self.map.prepare(&[KeyLengths::of(range.as_ref())])
     }
 
-    // Prepares for the range. Where memory is refused, the map is as before, and the next try succeeds.
+    // Prepares for the range. If memory is refused, the map is as before, and the next try
+    // succeeds.
     fn prepare_at_last(
         &mut self,
         rt: &impl Abort,
@@ -89,13 +90,14 @@ impl Written {
         self.edge = edge;
     }
 
-    /// Sweeps so many boundaries.
+    /// Sweeps `count` boundaries.
     pub fn sweep(&mut self, count: usize) -> SweepEnd {
         self.map.sweep(count)
     }
 }
 
-/// Returns whether the versions at keys are these, in text: `=-1 a=100` for the empty key and another. It takes no memory.
+/// Returns whether the versions at keys are these, in text: `=-1 a=100` for the empty key and
+/// another. It takes no memory.
 pub fn shows(map: &StepMap, rows: &str) -> bool {
     let mut all_show = true;
     for row in rows.split_whitespace() {

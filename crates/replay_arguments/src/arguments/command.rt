@@ -2,7 +2,9 @@
 
 ghost use Rattle.std.specs.Prelude.{◌≡◌, IfOk, false};
 ghost use Rattle.clap.specs.Words.{app_of, rule_of};
-ghost use Rattle.replay_arguments.specs.Words.{capacity_rule, check_rule, file_rule, frames_rule, json_rule, limit_rule, number_rule, replay_app, window_rule};
+ghost use Rattle.replay_arguments.specs.Words.{capacity_rule, check_rule, file_rule, frames_rule};
+ghost use Rattle.replay_arguments.specs.Words.{json_rule, limit_rule, number_rule, replay_app};
+ghost use Rattle.replay_arguments.specs.Words.{window_rule};
 
 use clap::builder::ValueParser;
 use clap::{Arg, ArgAction, Command};

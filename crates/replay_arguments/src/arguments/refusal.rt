@@ -34,10 +34,12 @@ impl From<AllocError> for Refusal {
 }
 
 impl Refusal {
-    /// Returns what the program makes of an error of `clap`. An error is that memory was refused for its text.
+    /// Returns what the program makes of an error of `clap`. An error is that memory was refused
+    /// for its text.
     pub fn of_clap(alloc: Global, error: &clap::Error) -> Result<Self, AllocError>
         ensures kind { IfOk result (IsRefusalOf (kind_of error.now)) }
-        ensures memory { IfOk result (λ refusal. refusal ≡ Refusal.Memory ↔ kind_of error.now ≡ ErrorKind.OutOfMemory) }
+        ensures memory { IfOk result (λ refusal. refusal ≡ Refusal.Memory
+            ↔ kind_of error.now ≡ ErrorKind.OutOfMemory) }
     {
         if error.kind() == ErrorKind::OutOfMemory {
             return Ok(Refusal::Memory);
@@ -50,20 +52,24 @@ impl Refusal {
         }
     }
 
-    /// Prints the text, and returns how the program ends. A failed write to `error` changes nothing.
+    /// Prints the text, and returns how the program ends. A failed write to `error` changes
+    /// nothing.
     pub fn end<O: Sink, E: Sink>(&self, out: &mut O, error: &mut E) -> Status
         ensures shown { (text : _) → self.now ≡ Refusal.Shown text → result ≡ Status.Done
             → Appends (O.given out.old) (O.given out.new) (string_bytes text) }
         ensures not_shown { (text : _) → self.now ≡ Refusal.Shown text → result ≢ Status.Done
             → (result ≡ Status.Failed) × (O.failures out.old < O.failures out.new) }
-        ensures quiet { (text : _) → self.now ≡ Refusal.Shown text → E.given error.new ≡ E.given error.old }
+        ensures quiet { (text : _) → self.now ≡ Refusal.Shown text
+            → E.given error.new ≡ E.given error.old }
         ensures refused { (text : _) → self.now ≡ Refusal.Refused text
             → (result ≡ Status.Usage) × (O.given out.new ≡ O.given out.old) }
-        ensures told { (text : _) → self.now ≡ Refusal.Refused text → (E.failures error.old < E.failures error.new)
+        ensures told { (text : _) → self.now ≡ Refusal.Refused text
+            → (E.failures error.old < E.failures error.new)
             ⊎ Appends (E.given error.old) (E.given error.new) (string_bytes text) }
         ensures memory { self.now ≡ Refusal.Memory
             → (result ≡ Status.Failed) × (O.given out.new ≡ O.given out.old) }
-        ensures memory_told { self.now ≡ Refusal.Memory → (E.failures error.old < E.failures error.new)
+        ensures memory_told { self.now ≡ Refusal.Memory
+            → (E.failures error.old < E.failures error.new)
             ⊎ Appends (E.given error.old) (E.given error.new) (start_line start.Memory) }
     {
         match self {

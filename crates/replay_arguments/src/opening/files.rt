@@ -1,4 +1,4 @@
-//! Where the program's files are opened.
+//! The opening of the program's files.
 
 ghost use Rattle.std.specs.Prelude.{◌≡◌, ℕ, List, Option, IfOk, OnOk};
 
@@ -20,7 +20,7 @@ pub enum FileError {
 pub trait Files {
     type Reader: Source + Send + Drop + 'static;
 
-    // The bytes of the file of this name, where they are told.
+    // The bytes of the file of this name, if they are reported.
     ghost contents: { Self → List ℕ → Option (List ℕ) };
 
     // The file of this name was opened.
@@ -31,7 +31,8 @@ pub trait Files {
 
     /// Opens the file of this name, to be read from its beginning.
     fn open(&self, name: &str) -> Result<Self::Reader, FileError>
-        ensures contents { IfOk result (λ reader. Self.Reader.remaining reader ≡ contents self.now name.now) }
+        ensures contents { IfOk result (λ reader. Self.Reader.remaining reader
+            ≡ contents self.now name.now) }
         ensures opened { OnOk result (has_opened self.now name.now) }
         ensures refused { result ≡ Err FileError.CannotOpen → cannot_open self.now name.now };
 }

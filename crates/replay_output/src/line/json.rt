@@ -4,14 +4,15 @@ ghost use Rattle.std.specs.Prelude.{◌≡◌, ◌∷◌, ◌++◌, OnOk, codes}
 ghost use Rattle.std.specs.Fmt.{decimal};
 ghost use Rattle.std.specs.List.{join_by};
 ghost use Rattle.keyspace.specs.Answer.{version_of_answer};
-ghost use Rattle.replay_output.specs.Lines.{conflict_json, entries_json, entry_json, json_line, outcome_json};
+ghost use Rattle.replay_output.specs.Lines.{conflict_json, entries_json, entry_json, json_line};
+ghost use Rattle.replay_output.specs.Lines.{outcome_json};
 
 use super::packed::{PackedText, Word};
 use keyspace::{Answer, Entry, Verdict};
 use std::io;
 use std::io::Write;
 
-/// Puts the line of an answer to this proxy behind the text: an object, its newline included.
+/// Appends the line of an answer to this proxy: an object, its newline included.
 pub fn print_json(
     text: &mut PackedText,
     proxy: usize,
@@ -40,7 +41,7 @@ fn print_outcome(text: &mut PackedText, answer: &Answer) -> io::Result<()>
     }
 }
 
-// Puts the verdicts behind the text.
+// Appends the verdicts.
 fn print_entries(text: &mut PackedText, entries: &[Entry]) -> io::Result<()>
     ensures text { OnOk result (text.new ≡ text.old ++ entries_json entries.now) }
 {
@@ -54,7 +55,7 @@ fn print_entries(text: &mut PackedText, entries: &[Entry]) -> io::Result<()>
     Ok(())
 }
 
-// Puts a comma and an entry behind the text.
+// Appends a comma and an entry.
 fn print_next(text: &mut PackedText, entry: &Entry) -> io::Result<()>
     ensures text { OnOk result (text.new ≡ text.old ++ codes "," ++ entry_json entry.now) }
 {
@@ -76,7 +77,7 @@ fn print_next_conflict(text: &mut PackedText, places: &[u16]) -> io::Result<()>
     text.write_all(b"]}")
 }
 
-// Puts the first entry behind the text, letter by letter.
+// Appends the first entry, letter by letter.
 fn print_entry(text: &mut PackedText, entry: &Entry) -> io::Result<()>
     ensures text { OnOk result (text.new ≡ text.old ++ entry_json entry.now) }
 {
@@ -98,9 +99,10 @@ fn print_conflict(text: &mut PackedText, places: &[u16]) -> io::Result<()>
     text.write_all(b"]}")
 }
 
-// Puts these places behind the text, of which the first comes apart, with a comma between.
+// Appends these places, of which the first comes separately, with a comma between.
 fn print_places(text: &mut PackedText, first: u16, rest: &[u16]) -> io::Result<()>
-    ensures text { OnOk result (text.new ≡ text.old ++ join_by decimal (codes ",") (first ∷ rest.now)) }
+    ensures text { OnOk result (text.new
+        ≡ text.old ++ join_by decimal (codes ",") (first ∷ rest.now)) }
 {
     write!(text, "{first}")?;
     for place in rest {

@@ -17,10 +17,11 @@ mod word;
 
 pub use word::Word;
 
-/// ASCII text in which a word that recurs takes one byte, and so does a run of one word. Contracts see the text.
+/// ASCII text in which a word that recurs takes one byte, and so does a run of one word. Contracts
+/// see the text.
 #[derive(Drop)]
 pub struct PackedText {
-    // Each is a letter of the text, or stands for a word so many times in a row.
+    // Each is a letter of the text, or represents a word n times in a row.
     units: Vec<u8>,
 }
 
@@ -46,14 +47,14 @@ impl PackedText {
         }
     }
 
-    /// Makes room for so many letters more, and for no others.
+    /// Makes room for n letters more, and for no others.
     pub fn reserve(&mut self, additional: usize) -> Result<(), AllocError>
         ensures same { self.new ≡ self.old }
     {
         self.units.reserve_exact(additional)
     }
 
-    /// Puts the word behind the text.
+    /// Appends the word.
     pub fn push_word(&mut self, word: Word) -> io::Result<()>
         ensures text { OnOk result (self.new ≡ self.old ++ word_text word) }
         ensures same { OnErr result (self.new ≡ self.old) }
@@ -68,7 +69,7 @@ impl PackedText {
         Ok(self.units.push(word.unit())?)
     }
 
-    /// Prints the text. After a failure a beginning of it is printed. Takes no memory.
+    /// Prints the text. After a failure a prefix of it is printed. Takes no memory.
     pub fn print<W: Sink>(&self, out: &mut W) -> Result<(), Failed>
         ensures whole { OnOk result (Appends (W.given out.old) (W.given out.new) self.now) }
         ensures beginning { OnErr result (IfSome (W.given out.new) (λ _.
@@ -80,7 +81,7 @@ impl PackedText {
     }
 }
 
-/// Puts bytes behind the text. They have to be ASCII.
+/// Appends bytes, which have to be ASCII.
 impl Write for PackedText {
     ghost contents = { λ text. Some text };
 

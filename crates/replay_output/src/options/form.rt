@@ -1,8 +1,8 @@
-//! How answers are told.
+//! The form of printed answers.
 
 ghost use Rattle.std.specs.Prelude.{◌≡◌, ◌↔◌, IsTrue};
 
-/// How the answers of a run are told.
+/// The form of the printed answers of a run.
 #[derive(Clone, Copy, Debug, PartialEq, Eq)]
 pub enum Form {
     /// By lines of words.

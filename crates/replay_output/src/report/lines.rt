@@ -1,8 +1,10 @@
-//! The printed text: one line an answer, in order.
+//! The printed text: one line per answer, in order.
 
-ghost use Rattle.std.specs.Prelude.{◌≡◌, ◌<◌, ◌≤◌, ◌↔◌, ℕ, map, take, length, vec_items, OnOk, OnErr, IfErr, IfSome};
+ghost use Rattle.std.specs.Prelude.{◌≡◌, ◌<◌, ◌≤◌, ◌↔◌, ℕ, map, take, length, vec_items, OnOk};
+ghost use Rattle.std.specs.Prelude.{OnErr, IfErr, IfSome};
 ghost use Rattle.std.specs.Io.KnownBytes.{Appends};
-ghost use Rattle.replay_output.specs.Line.{AreLines, TakesToSort, answers_of, text_of, texts, version_of_line};
+ghost use Rattle.replay_output.specs.Line.{AreLines, TakesToSort, answers_of, text_of, texts};
+ghost use Rattle.replay_output.specs.Line.{version_of_line};
 ghost use Rattle.replay_output.specs.Lines.{lines};
 ghost use Rattle.checking.specs.InOrder.{in_order_by};
 ghost use Rattle.replay_output.specs.declared.options.form.Form.{Form};
@@ -21,23 +23,30 @@ pub enum PrintError {
     Write,
 }
 
-/// Prints the lines of all answers, by proxy, then version, then the order received. `received` holds the lines of each proxy
-/// at its number, in the order in which the answers were received; they are sorted in place.
+/// Prints the lines of all answers, by proxy, then version, then the order received. `received`
+/// holds the lines of each proxy at its number, in the order in which the answers were received;
+/// they are sorted in place.
 ///
-/// After `Memory` nothing is printed. After `Write` a beginning of the text is.
+/// After `Memory` nothing is printed. After `Write` a prefix of the text is.
 pub fn print_answers<W: Sink>(
     alloc: Global,
     out: &mut W,
     received: &mut [Vec<Line>],
 ) -> Result<(), PrintError>
     ensures lines { (form : Form) → AreLines form (map vec_items received.old)
-        → OnOk result (Appends (W.given out.old) (W.given out.new) (lines form (map answers_of (map vec_items received.old)))) }
-    ensures memory { (proxy : ℕ) → result ≡ Err (PrintError.Memory proxy) → proxy < length received.old }
-    ensures takes { (proxy : ℕ) → result ≡ Err (PrintError.Memory proxy) → TakesToSort (map vec_items received.old) proxy }
-    ensures nothing { (proxy : ℕ) → result ≡ Err (PrintError.Memory proxy) → W.given out.new ≡ W.given out.old }
-    ensures beginning { (form : Form) → AreLines form (map vec_items received.old) → result ≡ Err PrintError.Write
+        → OnOk result (Appends (W.given out.old) (W.given out.new)
+        (lines form (map answers_of (map vec_items received.old)))) }
+    ensures memory { (proxy : ℕ) → result ≡ Err (PrintError.Memory proxy)
+        → proxy < length received.old }
+    ensures takes { (proxy : ℕ) → result ≡ Err (PrintError.Memory proxy)
+        → TakesToSort (map vec_items received.old) proxy }
+    ensures nothing { (proxy : ℕ) → result ≡ Err (PrintError.Memory proxy)
+        → W.given out.new ≡ W.given out.old }
+    ensures beginning { (form : Form) → AreLines form (map vec_items received.old)
+        → result ≡ Err PrintError.Write
         → IfSome (W.given out.new) (λ _. (n : ℕ)
-        × Appends (W.given out.old) (W.given out.new) (take n (lines form (map answers_of (map vec_items received.old))))) }
+        × Appends (W.given out.old) (W.given out.new)
+        (take n (lines form (map answers_of (map vec_items received.old))))) }
     ensures write { (result ≡ Err PrintError.Write) ↔ (W.failures out.old < W.failures out.new) }
     ensures least_failures { W.failures out.old ≤ W.failures out.new }
 {
@@ -47,9 +56,10 @@ pub fn print_answers<W: Sink>(
     print_sorted(out, received).map_err(|_| PrintError::Write)
 }
 
-// Sorts the lines of each proxy. An error tells the proxy whose lines could not be sorted.
+// Sorts the lines of each proxy. An error names the proxy whose lines could not be sorted.
 fn sort_lines(alloc: Global, received: &mut [Vec<Line>]) -> Result<(), usize>
-    ensures ok { OnOk result (map vec_items received.new ≡ map (in_order_by version_of_line) (map vec_items received.old)) }
+    ensures ok { OnOk result (map vec_items received.new
+        ≡ map (in_order_by version_of_line) (map vec_items received.old)) }
     ensures inside { IfErr result (λ proxy. proxy < length received.old) }
     ensures takes { IfErr result (TakesToSort (map vec_items received.old)) }
 {
@@ -62,9 +72,11 @@ fn sort_lines(alloc: Global, received: &mut [Vec<Line>]) -> Result<(), usize>
 }
 
 fn print_sorted<W: Sink>(out: &mut W, sorted: &[Vec<Line>]) -> Result<(), Failed>
-    ensures whole { OnOk result (Appends (W.given out.old) (W.given out.new) (texts (map vec_items sorted.now))) }
+    ensures whole { OnOk result (Appends (W.given out.old) (W.given out.new)
+        (texts (map vec_items sorted.now))) }
     ensures beginning { OnErr result (IfSome (W.given out.new) (λ _.
-        (n : ℕ) × Appends (W.given out.old) (W.given out.new) (take n (texts (map vec_items sorted.now))))) }
+        (n : ℕ) × Appends (W.given out.old) (W.given out.new)
+        (take n (texts (map vec_items sorted.now))))) }
     ensures ok { OnOk result (W.failures out.new ≡ W.failures out.old) }
     ensures failed { OnErr result (W.failures out.old < W.failures out.new) }
 {

@@ -1,10 +1,12 @@
 //! The replies that another resolver gave, read from their files.
 
-ghost use Rattle.std.specs.Prelude.{◌≡◌, ◌↔◌, ◌<◌, ◌≤◌, ◌⊎◌, IfErr, IfOk, IsErr, OnErr, OnOk, length, map, vec_items, vec_len};
+ghost use Rattle.std.specs.Prelude.{◌≡◌, ◌↔◌, ◌<◌, ◌≤◌, ◌⊎◌, IfErr, IfOk, IsErr, OnErr, OnOk};
+ghost use Rattle.std.specs.Prelude.{length, map, vec_items, vec_len};
 ghost use Rattle.std.specs.Io.KnownBytes.{Appends};
 ghost use Rattle.std.specs.List.{AllZip};
 ghost use Rattle.replay_arguments.specs.Opening.{contents_each};
-ghost use Rattle.replay_program.specs.Replies.{HasReplyFault, IsCauseOf, IsFaultIn, IsReplyFile, replies_line, replies_of};
+ghost use Rattle.replay_program.specs.Replies.{HasReplyFault, IsCauseOf, IsFaultIn, IsReplyFile};
+ghost use Rattle.replay_program.specs.Replies.{replies_line, replies_of};
 
 use itoa::Buffer;
 use keyspace::Reply;
@@ -24,16 +26,19 @@ pub enum RepliesError {
     Memory,
 }
 
-/// Reads the files of these names, of which each has the replies to the proxy at its place. All are opened first.
+/// Reads the files of these names, of which each has the replies to the proxy at its place. All are
+/// opened first.
 pub fn read_replies<F: Files>(
     alloc: Global,
     files: &F,
     names: &[&str],
 ) -> Result<Vec<Vec<Reply>>, RepliesError>
     ensures read { IfOk result (λ recorded. AllZip IsReplyFile
-        (contents_each (F.contents files.now) (map (λ name. name.now) names.now)) (map vec_items recorded.items)) }
+        (contents_each (F.contents files.now) (map (λ name. name.now) names.now))
+        (map vec_items recorded.items)) }
     ensures count { IfOk result (λ recorded. vec_len recorded ≡ length names.now) }
-    ensures refused { IfErr result (IsCauseOf (F.has_opened files.now) (F.cannot_open files.now) (F.contents files.now)
+    ensures refused { IfErr result
+        (IsCauseOf (F.has_opened files.now) (F.cannot_open files.now) (F.contents files.now)
         (map (λ name. name.now) names.now)) }
 {
     match open_files(alloc, files, names) {
@@ -48,7 +53,8 @@ fn read_all<S: Source + Drop>(
     alloc: Global,
     readers: Vec<S>,
 ) -> Result<Vec<Vec<Reply>>, RepliesError>
-    ensures read { IfOk result (λ recorded. AllZip IsReplyFile (map S.remaining readers.items) (map vec_items recorded.items)) }
+    ensures read { IfOk result (λ recorded. AllZip IsReplyFile (map S.remaining readers.items)
+        (map vec_items recorded.items)) }
     ensures count { IfOk result (λ recorded. vec_len recorded ≡ vec_len readers) }
     ensures fault { IfErr result (IsFaultIn (map S.remaining readers.items)) }
 {
@@ -80,7 +86,8 @@ fn read_file<S: Source + Drop>(alloc: Global, reader: S) -> Result<Vec<Reply>, W
     Err(WireError::Memory)
 }
 
-/// Prints the line of the cause, and returns how the program ends. A failed write changes nothing. Takes no memory.
+/// Prints the line of the cause, and returns how the program ends. A failed write changes nothing.
+/// Takes no memory.
 pub fn fail_to_read_replies<W: Sink>(error: &mut W, cause: RepliesError) -> Status
     ensures status { result ≡ Status.Failed }
     ensures line { (W.failures error.old < W.failures error.new)
@@ -91,7 +98,8 @@ pub fn fail_to_read_replies<W: Sink>(error: &mut W, cause: RepliesError) -> Stat
 }
 
 fn print_replies_error<W: Sink>(error: &mut W, cause: RepliesError) -> Result<(), Failed>
-    ensures text { OnOk result (Appends (W.given error.old) (W.given error.new) (replies_line cause)) }
+    ensures text { OnOk result (Appends (W.given error.old) (W.given error.new)
+        (replies_line cause)) }
     ensures failed { IsErr result ↔ (W.failures error.old < W.failures error.new) }
     ensures least_failures { W.failures error.old ≤ W.failures error.new }
 {
@@ -126,7 +134,8 @@ fn print_fault<W: Sink>(error: &mut W, proxy: usize, fault: WireError) -> Result
 
 // Writes `replay: replies ` and the number of the proxy.
 fn begin_replies<W: Sink>(error: &mut W, proxy: usize) -> Result<(), Failed>
-    ensures text { OnOk result (Appends (W.given error.old) (W.given error.new) (replies_of proxy)) }
+    ensures text { OnOk result (Appends (W.given error.old) (W.given error.new)
+        (replies_of proxy)) }
     ensures ok { OnOk result (W.failures error.new ≡ W.failures error.old) }
     ensures failed { OnErr result (W.failures error.old < W.failures error.new) }
 {

@@ -1,9 +1,13 @@
-//! All that is printed once every file was replayed to be checked: the differences, and what failed.
+//! All that is printed once every file was replayed to be checked: the differences, and what
+//! failed.
 
-ghost use Rattle.std.specs.Prelude.{◌≡◌, ◌≢◌, ◌↔◌, ◌<◌, ◌≤◌, ◌+◌, ◌⊎◌, ℕ, map, take, length, vec_items, vec_len, IfErr, IfOk, IfSome, IsErr, IsOk, IsOkAnd, IsTrue, OnErr, OnOk};
+ghost use Rattle.std.specs.Prelude.{◌≡◌, ◌≢◌, ◌↔◌, ◌<◌, ◌≤◌, ◌+◌, ◌⊎◌, ℕ, map, take, length};
+ghost use Rattle.std.specs.Prelude.{vec_items, vec_len, IfErr, IfOk, IfSome, IsErr, IsOk, IsOkAnd};
+ghost use Rattle.std.specs.Prelude.{IsTrue, OnErr, OnOk};
 ghost use Rattle.std.specs.Io.KnownBytes.{Appends, Keeps};
 ghost use Rattle.checking.specs.Check.{count_at};
-ghost use Rattle.replay_program.specs.Checked.{TakesToCompare, check_lines, count_lines, differences_of, replies_kept};
+ghost use Rattle.replay_program.specs.Checked.{TakesToCompare, check_lines, count_lines};
+ghost use Rattle.replay_program.specs.Checked.{differences_of, replies_kept};
 ghost use Rattle.replay_output.specs.Failures.{failure_lines, with_loss, NothingFailed};
 ghost use Rattle.replay_output.specs.Line.{AreLines, answers_of};
 ghost use Rattle.replay_output.specs.declared.options.form.Form.{Form};
@@ -26,12 +30,14 @@ pub struct CheckReport {
     pub status: Status,
 }
 
-/// Prints a line for each difference between the replies that the kept answers expect and those that were recorded, and a last
-/// line that counts them, to `out`, and flushes it. Then prints what failed to `error`, as [`print_failures`] does. All four hold
-/// what is of each proxy at its number.
+/// Prints a line for each difference between the replies that the kept answers expect and those
+/// that were recorded, and a last line that counts them, to `out`, and flushes it. Then prints what
+/// failed to `error`, as [`print_failures`] does. All four hold what is of each proxy at its
+/// number.
 ///
-/// Where memory is refused while the replies of a proxy are compared, nothing is printed to `out`, and that proxy has a loss from
-/// then on. The last proxy has it where memory is refused for all of them, or for the last line.
+/// If memory is refused while the replies of a proxy are compared, nothing is printed to `out`, and
+/// that proxy has a loss from then on. The last proxy has it where memory is refused for all of
+/// them, or for the last line.
 pub fn print_check<O: Sink, E: Sink>(
     alloc: Global,
     out: &mut O,
@@ -44,11 +50,16 @@ pub fn print_check<O: Sink, E: Sink>(
     requires some { 1 ≤ vec_len received }
     requires as_many { vec_len received ≡ vec_len recorded }
     requires proxies { length failures.old ≡ vec_len received }
-    ensures lines { AreLines Form.Kept (map vec_items received.items) → OnOk result.printed (Appends (O.given out.old) (O.given out.new)
-        (check_lines (map vec_items recorded.items) (map answers_of (map vec_items received.items)))) }
-    ensures count { AreLines Form.Kept (map vec_items received.items) → IfOk result.printed (λ count.
-        count ≡ differences_of (map vec_items recorded.items) (map answers_of (map vec_items received.items))) }
-    ensures memory { (proxy : ℕ) → result.printed ≡ Err (PrintError.Memory proxy) → proxy < vec_len received }
+    ensures lines { AreLines Form.Kept (map vec_items received.items)
+        → OnOk result.printed (Appends (O.given out.old) (O.given out.new)
+        (check_lines (map vec_items recorded.items)
+        (map answers_of (map vec_items received.items)))) }
+    ensures count { AreLines Form.Kept (map vec_items received.items)
+        → IfOk result.printed (λ count.
+        count ≡ differences_of (map vec_items recorded.items)
+        (map answers_of (map vec_items received.items))) }
+    ensures memory { (proxy : ℕ) → result.printed ≡ Err (PrintError.Memory proxy)
+        → proxy < vec_len received }
     ensures takes { (proxy : ℕ) → result.printed ≡ Err (PrintError.Memory proxy)
         → TakesToCompare (map vec_items recorded.items) (map vec_items received.items) proxy }
     ensures nothing { (proxy : ℕ) → result.printed ≡ Err (PrintError.Memory proxy)
@@ -56,8 +67,10 @@ pub fn print_check<O: Sink, E: Sink>(
     ensures beginning { AreLines Form.Kept (map vec_items received.items)
         → result.printed ≡ Err PrintError.Write → IfSome (O.given out.new) (λ _. (n : ℕ)
         × Appends (O.given out.old) (O.given out.new)
-        (take n (check_lines (map vec_items recorded.items) (map answers_of (map vec_items received.items))))) }
-    ensures write { (result.printed ≡ Err PrintError.Write) ↔ (O.failures out.old < O.failures out.new) }
+        (take n (check_lines (map vec_items recorded.items)
+        (map answers_of (map vec_items received.items))))) }
+    ensures write { (result.printed ≡ Err PrintError.Write)
+        ↔ (O.failures out.old < O.failures out.new) }
     ensures failure_lines { OnOk result.told (Appends (E.given error.old) (E.given error.new)
         (failure_lines failures.new ending)) }
     ensures told { IsErr result.told ↔ (E.failures error.old < E.failures error.new) }
@@ -68,8 +81,10 @@ pub fn print_check<O: Sink, E: Sink>(
     ensures done { result.status ≡ Status.Done
         → ((result.printed ≡ Ok 0) × IsOk result.told × NothingFailed failures.old ending) }
     ensures differs { result.status ≡ Status.Differs
-        → (IsOkAnd result.printed (λ count. count ≢ 0) × IsOk result.told × NothingFailed failures.old ending) }
-    ensures failed { result.status ≡ Status.Failed → ¬ (IsOk result.printed × IsOk result.told × NothingFailed failures.old ending) }
+        → (IsOkAnd result.printed (λ count. count ≢ 0) × IsOk result.told
+        × NothingFailed failures.old ending) }
+    ensures failed { result.status ≡ Status.Failed
+        → ¬ (IsOk result.printed × IsOk result.told × NothingFailed failures.old ending) }
     ensures quiet { result.status ≢ Status.Failed → Keeps (E.given error.old) (E.given error.new) }
     ensures ends { result.status ≢ Status.Usage }
 {
@@ -89,7 +104,8 @@ pub fn print_check<O: Sink, E: Sink>(
 // Returns how the program ends where nothing else failed, or something did.
 fn status_of(clean: bool, printed: &Result<usize, PrintError>) -> Status
     ensures done { result ≡ Status.Done ↔ (IsTrue clean × (printed.now ≡ Ok 0)) }
-    ensures differs { result ≡ Status.Differs ↔ (IsTrue clean × IsOkAnd printed.now (λ count. count ≢ 0)) }
+    ensures differs { result ≡ Status.Differs
+        ↔ (IsTrue clean × IsOkAnd printed.now (λ count. count ≢ 0)) }
     ensures ends { result ≢ Status.Usage }
 {
     match printed {
@@ -108,17 +124,24 @@ fn print_differences<W: Sink>(
 ) -> Result<usize, PrintError>
     requires some { 1 ≤ vec_len received }
     requires as_many { vec_len received ≡ vec_len recorded }
-    ensures lines { AreLines Form.Kept (map vec_items received.items) → OnOk result (Appends (W.given out.old) (W.given out.new)
-        (check_lines (map vec_items recorded.items) (map answers_of (map vec_items received.items)))) }
+    ensures lines { AreLines Form.Kept (map vec_items received.items)
+        → OnOk result (Appends (W.given out.old) (W.given out.new)
+        (check_lines (map vec_items recorded.items)
+        (map answers_of (map vec_items received.items)))) }
     ensures count { AreLines Form.Kept (map vec_items received.items) → IfOk result (λ count.
-        count ≡ differences_of (map vec_items recorded.items) (map answers_of (map vec_items received.items))) }
-    ensures memory { (proxy : ℕ) → result ≡ Err (PrintError.Memory proxy) → proxy < vec_len received }
+        count ≡ differences_of (map vec_items recorded.items)
+        (map answers_of (map vec_items received.items))) }
+    ensures memory { (proxy : ℕ) → result ≡ Err (PrintError.Memory proxy)
+        → proxy < vec_len received }
     ensures takes { (proxy : ℕ) → result ≡ Err (PrintError.Memory proxy)
         → TakesToCompare (map vec_items recorded.items) (map vec_items received.items) proxy }
-    ensures nothing { (proxy : ℕ) → result ≡ Err (PrintError.Memory proxy) → W.given out.new ≡ W.given out.old }
-    ensures beginning { AreLines Form.Kept (map vec_items received.items) → result ≡ Err PrintError.Write
+    ensures nothing { (proxy : ℕ) → result ≡ Err (PrintError.Memory proxy)
+        → W.given out.new ≡ W.given out.old }
+    ensures beginning { AreLines Form.Kept (map vec_items received.items)
+        → result ≡ Err PrintError.Write
         → IfSome (W.given out.new) (λ _. (n : ℕ) × Appends (W.given out.old) (W.given out.new)
-        (take n (check_lines (map vec_items recorded.items) (map answers_of (map vec_items received.items))))) }
+        (take n (check_lines (map vec_items recorded.items)
+        (map answers_of (map vec_items received.items))))) }
     ensures write { (result ≡ Err PrintError.Write) ↔ (W.failures out.old < W.failures out.new) }
     ensures least_failures { W.failures out.old ≤ W.failures out.new }
 {
@@ -143,7 +166,8 @@ fn write_and_flush<W: Sink>(out: &mut W, text: &[u8]) -> Result<(), Failed>
     out.flush()
 }
 
-// Compares the replies that were kept with those that were recorded. An error is the proxy for which memory was refused.
+// Compares the replies that were kept with those that were recorded. An error is the proxy for
+// which memory was refused.
 fn check_received(
     alloc: Global,
     received: Vec<Vec<Line>>,
@@ -152,11 +176,15 @@ fn check_received(
     requires some { 1 ≤ vec_len received }
     requires as_many { vec_len received ≡ vec_len recorded }
     ensures text { AreLines Form.Kept (map vec_items received.items) → IfOk result (λ checked.
-        checked.text.items ≡ check_lines (map vec_items recorded.items) (map answers_of (map vec_items received.items))) }
-    ensures differences { AreLines Form.Kept (map vec_items received.items) → IfOk result (λ checked.
-        checked.differences ≡ differences_of (map vec_items recorded.items) (map answers_of (map vec_items received.items))) }
+        checked.text.items ≡ check_lines (map vec_items recorded.items)
+        (map answers_of (map vec_items received.items))) }
+    ensures differences { AreLines Form.Kept (map vec_items received.items)
+        → IfOk result (λ checked.
+        checked.differences ≡ differences_of (map vec_items recorded.items)
+        (map answers_of (map vec_items received.items))) }
     ensures proxy { IfErr result (λ proxy. proxy < vec_len received) }
-    ensures takes { IfErr result (TakesToCompare (map vec_items recorded.items) (map vec_items received.items)) }
+    ensures takes { IfErr result (TakesToCompare (map vec_items recorded.items)
+        (map vec_items received.items)) }
 {
     let Some(batches) = count_lines(&received) else {
         return Err(received.len() - 1);
@@ -176,10 +204,12 @@ fn count_lines(received: &[Vec<Line>]) -> Option<usize>
     Some(count)
 }
 
-// Returns the kept replies of each proxy. An error is the proxy for which memory was refused, or the last one where it was for all.
+// Returns the kept replies of each proxy. An error is the proxy for which memory was refused, or
+// the last one where it was for all.
 fn kept_each(alloc: Global, received: Vec<Vec<Line>>) -> Result<Vec<Vec<Reply>>, usize>
     requires some { 1 ≤ vec_len received }
-    ensures kept { IfOk result (λ kept. map vec_items kept.items ≡ map replies_kept (map vec_items received.items)) }
+    ensures kept { IfOk result (λ kept. map vec_items kept.items
+        ≡ map replies_kept (map vec_items received.items)) }
     ensures count { IfOk result (λ kept. vec_len kept ≡ vec_len received) }
     ensures proxy { IfErr result (λ proxy. proxy < vec_len received) }
     ensures takes { IfErr result (λ proxy. (1 ≤ count_at (map vec_items received.items) proxy)

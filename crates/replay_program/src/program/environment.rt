@@ -2,7 +2,8 @@
 
 ghost use Rattle.std.specs.Prelude.{◌≡◌, ◌<◌, ◌⊎◌, ℕ, List};
 ghost use Rattle.std.specs.Io.KnownBytes.{Appends, Keeps};
-ghost use Rattle.replay_program.specs.Program.{HasDifferences, HasNoMemory, HasReadNoText, IsDone, IsFailed, Told, not_text};
+ghost use Rattle.replay_program.specs.Program.{HasDifferences, HasNoMemory, HasReadNoText, IsDone};
+ghost use Rattle.replay_program.specs.Program.{IsFailed, Told, not_text};
 ghost use Rattle.replay_program.specs.Replayed.{written};
 ghost use Rattle.replay_output.specs.Start.{start_line};
 ghost use Rattle.replay_arguments.specs.Words.{IsMistaken};
@@ -26,8 +27,8 @@ enum WordsError {
     Memory,
 }
 
-/// Runs the program on the words of its environment, as [`run`] does. Words that can't be read as text are refused, as mistaken
-/// ones are.
+/// Runs the program on the words of its environment, as [`run`] does. Words that can't be read as
+/// text are refused, as mistaken ones are.
 pub fn run_in<R: Threads + Wait + Copy + Send + 'static, V: Env, F: Files, O: Sink, E: Sink>(
     rt: &R,
     alloc: Global,
@@ -36,25 +37,30 @@ pub fn run_in<R: Threads + Wait + Copy + Send + 'static, V: Env, F: Files, O: Si
     out: &mut O,
     error: &mut E,
 ) -> Status
-    ensures done { result ≡ Status.Done → (words : List (List ℕ)) × IsDone (F.contents files.now) words
+    ensures done { result ≡ Status.Done → (words : List (List ℕ))
+        × IsDone (F.contents files.now) words
         (written (O.given out.old) (O.given out.new) (O.failures out.old) (O.failures out.new)) }
     ensures quiet { result ≡ Status.Done → Keeps (E.given error.old) (E.given error.new) }
-    ensures differs { result ≡ Status.Differs → (words : List (List ℕ)) × HasDifferences (F.contents files.now) words
+    ensures differs { result ≡ Status.Differs → (words : List (List ℕ))
+        × HasDifferences (F.contents files.now) words
         (written (O.given out.old) (O.given out.new) (O.failures out.old) (O.failures out.new)) }
     ensures quiet_too { result ≡ Status.Differs → Keeps (E.given error.old) (E.given error.new) }
     ensures failed { result ≡ Status.Failed → HasNoMemory
         (written (O.given out.old) (O.given out.new) (O.failures out.old) (O.failures out.new))
         (written (E.given error.old) (E.given error.new) (E.failures error.old) (E.failures error.new))
-        ⊎ ((words : List (List ℕ)) × IsFailed (F.has_opened files.now) (F.cannot_open files.now) (F.contents files.now) words
+        ⊎ ((words : List (List ℕ)) × IsFailed (F.has_opened files.now) (F.cannot_open files.now)
+        (F.contents files.now) words
         (written (O.given out.old) (O.given out.new) (O.failures out.old) (O.failures out.new))
-        (written (E.given error.old) (E.given error.new) (E.failures error.old) (E.failures error.new))) }
+        (written (E.given error.old) (E.given error.new) (E.failures error.old)
+        (E.failures error.new))) }
     ensures mistaken { result ≡ Status.Usage → HasReadNoText
         (written (O.given out.old) (O.given out.new) (O.failures out.old) (O.failures out.new))
         (written (E.given error.old) (E.given error.new) (E.failures error.old) (E.failures error.new))
         ⊎ ((words : List (List ℕ)) × IsMistaken words) }
     ensures nothing { result ≡ Status.Usage → O.given out.new ≡ O.given out.old }
     ensures usage { result ≡ Status.Usage → (text : List ℕ)
-        × Told (written (E.given error.old) (E.given error.new) (E.failures error.old) (E.failures error.new)) text }
+        × Told (written (E.given error.old) (E.given error.new) (E.failures error.old)
+        (E.failures error.new)) text }
 {
     match command_line(alloc, environment) {
         Ok(words) => run(rt, alloc, files, &words, out, error),
@@ -71,11 +77,12 @@ fn command_line(alloc: Global, environment: &impl Env) -> Result<Vec<String>, Wo
     })
 }
 
-// What is told of words that aren't text, in the form of `clap`'s refusals.
+// The message about arguments that aren't text, in the form of `clap`'s refusals.
 const NOT_TEXT: &[u8] = b"error: invalid UTF-8 was detected in one or more arguments\n\n\
     Usage: replay [OPTIONS] <FILE>...\n\nFor more information, try '--help'.\n";
 
-// Prints why the words can't be read, and returns how the program ends. A failed write changes nothing. Takes no memory.
+// Prints why the words can't be read, and returns how the program ends. A failed write changes
+// nothing. Takes no memory.
 fn fail_to_read<W: Sink>(error: &mut W, cause: WordsError) -> Status
     ensures not_text { cause ≡ WordsError.NotText → (result ≡ Status.Usage)
         × ((W.failures error.old < W.failures error.new)

@@ -1,15 +1,16 @@
-//! The words that recur in lines, and the units that stand for them.
+//! The words that recur in lines, and the units that represent them.
 
 ghost use Rattle.std.specs.Prelude.{◌≡◌, ◌<◌, ◌≤◌, ◌++◌, length, IfSome, IsSome};
-ghost use Rattle.replay_output.specs.Packed.{IsUnit, numbered, spelled, times_of, word_of, word_text};
+ghost use Rattle.replay_output.specs.Packed.{IsUnit, numbered, spelled, times_of, word_of};
+ghost use Rattle.replay_output.specs.Packed.{word_text};
 
-/// The first unit that stands for a word. Those below it are letters.
+/// The first unit that represents a word. Those below it are letters.
 pub const FIRST_WORD: u8 = 128;
 
 /// How many words there are.
 const WORDS: u8 = 7;
 
-/// How many times in a row a unit stands for its word at most.
+/// The most times in a row that a unit repeats its word.
 pub const MOST_IN_A_ROW: u8 = 18;
 
 /// The length of the longest word.
@@ -35,7 +36,7 @@ pub enum Word {
 }
 
 impl Word {
-    /// Returns the word that a unit stands for.
+    /// Returns the word that a unit represents.
     pub fn of_unit(unit: u8) -> Self
         requires word { FIRST_WORD ≤ unit }
         ensures word { result ≡ word_of unit }
@@ -66,7 +67,7 @@ impl Word {
         }
     }
 
-    /// Returns the unit that stands for the word once.
+    /// Returns the unit that represents the word once.
     pub fn unit(self) -> u8
         ensures unit { IsUnit result }
         ensures spelled { spelled result ≡ word_text self }
@@ -74,12 +75,14 @@ impl Word {
         FIRST_WORD + self.number()
     }
 
-    /// Returns the unit that stands for what this one does, and then for the word. Returns none if this one stands for a letter
-    /// or another word, or for the word as many times in a row as a unit can.
+    /// Returns the unit that represents the text of this one, and then the word. Returns none if
+    /// this one represents a letter or another word, or for the word as many times in a row as a
+    /// unit can.
     pub fn behind(self, unit: u8) -> Option<u8>
         ensures unit { IfSome result IsUnit }
         ensures spelled { IfSome result (λ more. spelled more ≡ spelled unit ++ word_text self) }
-        ensures some { FIRST_WORD ≤ unit → word_of unit ≡ self → times_of unit < MOST_IN_A_ROW → IsSome result }
+        ensures some { FIRST_WORD ≤ unit → word_of unit ≡ self → times_of unit < MOST_IN_A_ROW
+            → IsSome result }
     {
         if unit < FIRST_WORD || Word::of_unit(unit) != self || times(unit) >= MOST_IN_A_ROW {
             return None;
@@ -104,7 +107,7 @@ impl Word {
     }
 }
 
-/// Returns how many times in a row a unit stands for its word.
+/// Returns how many times in a row a unit repeats its word.
 pub fn times(unit: u8) -> u8
     requires word { FIRST_WORD ≤ unit }
     ensures times { result ≡ times_of unit }
