@@ -1,6 +1,7 @@
 //! Text whose growth may be refused.
 
 use crate::alloc::{AllocError, Global};
+use crate::vec::Vec;
 use std::marker::PhantomData;
 use std::{fmt, string};
 
@@ -29,6 +30,10 @@ impl<A> String<A> {
         self.0.try_reserve(more.len())?;
         self.0.push_str(more);
         Ok(())
+    }
+
+    pub fn into_bytes(self) -> Vec<u8, A> {
+        self.0.into_bytes().into()
     }
 
     /// Appends a format, as `write!` asks. After an error some of it may be appended.

@@ -1,5 +1,5 @@
 -- The failure of a line or a frame is that of the bytes left.
-use Rattle.std.proofs.Common.{◌≡◌, ◌≢◌, ℕ, ◌<◌, List, [], length, Option, Some, None, sym, subst}
+use Rattle.std.proofs.Common.{◌≡◌, ◌≢◌, ◌⊎◌, inl, inr, ℕ, ◌<◌, List, [], length, Option, Some, None, sym, subst, ◌∙◌}
 use Rattle.std.specs.Prelude.{IfSome, IsTrue, not}
 use Rattle.std.specs.Io.BufRead.{take_through}
 use Rattle.std.specs.Io.KnownBytes.{Consumes, IsAtEnd}
@@ -51,3 +51,18 @@ line_fails kind number left line failure.NotText read some fails = absurd fails
 line_fails kind number left line failure.Memory read some fails = tt
 line_fails kind number left line failure.Read read some fails = absurd fails
 line_fails kind number left line failure.Write read some fails = absurd fails
+
+-- nothing is said of the line or the frame
+pub line_unread : (kind : Kind) (number : ℕ) (left : Option (List ℕ)) (e : Failure) → (e ≡ failure.Memory) ⊎ (e ≡ failure.Read)
+    → FailsLine kind number left e
+line_unread kind number left e (inl is) = subst (FailsLine kind number left) (sym is) tt
+line_unread kind number left e (inr is) = subst (FailsLine kind number left) (sym is) tt
+
+pub frame_unread : (kind : Kind) (number : ℕ) (left : Option (List ℕ)) (e : Failure) → (e ≡ failure.Memory) ⊎ (e ≡ failure.Read)
+    → FailsFrame kind number left e
+frame_unread kind number left e (inl is) = subst (FailsFrame kind number left) (sym is) tt
+frame_unread kind number left e (inr is) = subst (FailsFrame kind number left) (sym is) tt
+
+pub not_write : (e : Failure) → (e ≡ failure.Memory) ⊎ (e ≡ failure.Read) → e ≢ failure.Write
+not_write e (inl is) write = let bad : failure.Memory ≡ failure.Write = sym is ∙ write in cc
+not_write e (inr is) write = let bad : failure.Read ≡ failure.Write = sym is ∙ write in cc

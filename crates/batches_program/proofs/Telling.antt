@@ -19,8 +19,11 @@ line_after a b c f g h (inr p) (inl more) = inl (omega (arith, p.0))
 line_after a b c f g h (inr p) (inr q) =
     let line = q.1.0 in
     let is_line = q.1.1 in
-    inr (q.0 ∙ p.0, (
-      p.1.0 ++ line,
-      (p.1.0 ++ is_line.0, ap (λ (t : List ℕ). p.1.0 ++ t) is_line.1 ∙ sym (append_assoc p.1.0 is_line.0 (10 ∷ []))),
-      appends_then a b c p.1.0 line p.1.1 q.1.2,
-    ))
+    inr (
+      q.0 ∙ p.0,
+      (
+        p.1.0 ++ line,
+        (p.1.0 ++ is_line.0, ap (λ (t : List ℕ). p.1.0 ++ t) is_line.1 ∙ sym (append_assoc p.1.0 is_line.0 (10 ∷ []))),
+        appends_then a b c p.1.0 line p.1.1 q.1.2,
+      ),
+    )

@@ -1,7 +1,7 @@
 -- Part after part.
 use Rattle.std.proofs.Common.{◌≡◌, ℕ, ◌+◌, List, [], ◌∷◌, ◌++◌, length, Option, Some, None, refl, sym, ap, IfSome, subst, ◌∙◌, append_assoc, arith}
 use Rattle.std.proofs.lemmas.List.{append-nil, length-append}
-use Rattle.std.specs.Io.KnownBytes.{Consumes, Appends, IsAtEnd}
+use Rattle.std.specs.Io.KnownBytes.{Consumes, Appends, Keeps, IsAtEnd}
 use Rattle.wire.proofs.callers.Given.{appends_none, appends_then}
 use Rattle.wire.proofs.callers.Known.{consumes_none, consumes_then}
 use Rattle.batches_program.specs.declared.failure.Failure.{Failure}
@@ -91,3 +91,20 @@ stops Becomes Fails left now before after later number e so_far same fails =
       };
       fails = subst (λ (n : ℕ). Fails n now e) so_far.counted fails;
     }
+
+appends_keeps : (a b c : Option (List ℕ)) (xs : List ℕ) → Appends a b xs → Keeps b c → Appends a c xs
+appends_keeps None b c xs h k = tt
+appends_keeps (Some us) None c xs h k = absurd h
+appends_keeps (Some us) (Some vs) None xs h k = absurd k
+appends_keeps (Some us) (Some vs) (Some ws) xs h k = k ∙ h
+
+-- the output is flushed
+pub flushed : (Becomes : List ℕ → List ℕ → Type 0) (left before after later : Option (List ℕ))
+    → TurnsAll Becomes left before after → Keeps after later → TurnsAll Becomes left before later
+flushed Becomes left before after later all kept = record {
+  parts = all.parts;
+  text = all.text;
+  read = all.read;
+  each = all.each;
+  written = appends_keeps before after later all.text all.written kept;
+}

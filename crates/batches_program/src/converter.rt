@@ -9,8 +9,8 @@ use crate::encoder::encode;
 use crate::failure::Failure;
 use crate::kind::Kind;
 use crate::progress::Progress;
-use crate::viewer::show;
 use crate::task::Task;
+use crate::viewer::show;
 use std::alloc::Global;
 use std::io::BufRead;
 use wire::{Sink, StdSource};
@@ -56,7 +56,22 @@ fn do_task<R: BufRead, O: Sink, E: Sink>(
 {
     match task {
         Task::Encode => encode(alloc, kind, reader, out, error, progress),
-        Task::Decode => decode(alloc, kind, &mut StdSource::new(reader), out, error, progress),
-        Task::Show { full } => show(alloc, kind, full, &mut StdSource::new(reader), out, error, progress),
+        Task::Decode => decode(
+            alloc,
+            kind,
+            &mut StdSource::new(reader),
+            out,
+            error,
+            progress,
+        ),
+        Task::Show { full } => show(
+            alloc,
+            kind,
+            full,
+            &mut StdSource::new(reader),
+            out,
+            error,
+            progress,
+        ),
     }
 }

@@ -1,8 +1,8 @@
 //! What goes wrong, and how it is told.
 
-ghost use Rattle.std.specs.Prelude.{◌≡◌, ◌≢◌, IfOk, string_bytes};
+ghost use Rattle.std.specs.Prelude.{◌≡◌, ◌≢◌, ◌⊎◌, IfOk, string_bytes};
 ghost use Rattle.batches_program.specs.Told.{IsLine, TellsLine};
-ghost use Rattle.batches_program.specs.declared.failure.Failure.TheVariants.{Memory, Write};
+ghost use Rattle.batches_program.specs.declared.failure.Failure.TheVariants.{Memory, Read, Write};
 
 use crate::status::Status;
 use json_lines::{Cause, Refusal};
@@ -40,8 +40,8 @@ pub enum Failure {
 impl Failure {
     /// Creates the failure of a refused line.
     pub fn of_line(number: u64, refusal: Refusal) -> Self
-        ensures memory { refusal.cause ≡ Cause.Memory → result ≡ Failure.Memory }
-        ensures line { refusal.cause ≢ Cause.Memory → result ≡ Failure.Line number refusal }
+        ensures which { ((refusal.cause ≡ Cause.Memory) × (result ≡ Failure.Memory))
+            ⊎ ((refusal.cause ≢ Cause.Memory) × (result ≡ Failure.Line number refusal)) }
     {
         match refusal.cause {
             Cause::Memory => Failure::Memory,
@@ -51,8 +51,8 @@ impl Failure {
 
     /// Creates the failure of a refused frame.
     pub fn of_frame(number: u64, refusal: WireError) -> Self
-        ensures memory { refusal ≡ WireError.Memory → result ≡ Failure.Memory }
-        ensures frame { refusal ≢ WireError.Memory → result ≡ Failure.Frame number refusal }
+        ensures which { ((refusal ≡ WireError.Memory) × (result ≡ Failure.Memory))
+            ⊎ ((refusal ≢ WireError.Memory) × (result ≡ Failure.Frame number refusal)) }
     {
         match refusal {
             WireError::Memory => Failure::Memory,
@@ -62,8 +62,8 @@ impl Failure {
 
     /// Creates the failure of what a line says, where it has no frame.
     pub fn of_long(number: u64, refusal: WireError) -> Self
-        ensures long { refusal ≡ WireError.Long → result ≡ Failure.Long number }
-        ensures memory { refusal ≢ WireError.Long → result ≡ Failure.Memory }
+        ensures which { ((refusal ≡ WireError.Long) × (result ≡ Failure.Long number))
+            ⊎ ((refusal ≢ WireError.Long) × (result ≡ Failure.Memory)) }
     {
         match refusal {
             WireError::Long => Failure::Long(number),
@@ -97,7 +97,7 @@ impl From<Failed> for Failure {
 }
 
 impl From<io::Error> for Failure {
-    ghost from_gives = { λ _ failure. failure ≢ Write };
+    ghost from_gives = { λ _ failure. (failure ≡ Memory) ⊎ (failure ≡ Read) };
 
     fn from(error: io::Error) -> Failure {
         match error.kind() {
@@ -112,10 +112,18 @@ pub fn fail<E: Sink>(error: &mut E, alloc: Global, failure: &Failure) -> Status
     ensures failed { result ≡ Status.Failed }
     ensures told { TellsLine (E.given error.old) (E.given error.new) (E.failures error.old) (E.failures error.new) }
 {
-    let _ = match line_of(alloc, failure) {
-        Ok(line) => write_all(error, line.as_bytes()),
-        Err(_) => write_all(error, b"memory was refused\n"),
-    };
+    match line_of(alloc, failure) {
+        Ok(line) => tell(error, line.as_bytes()),
+        Err(_) => tell(error, b"memory was refused\n"),
+    }
+}
+
+fn tell<E: Sink>(error: &mut E, line: &[u8]) -> Status
+    requires line { IsLine line.now }
+    ensures failed { result ≡ Status.Failed }
+    ensures told { TellsLine (E.given error.old) (E.given error.new) (E.failures error.old) (E.failures error.new) }
+{
+    let _ = write_all(error, line);
     Status::Failed
 }
 

@@ -76,10 +76,11 @@ fn print_next<R: Source, W: Sink>(
     ensures ok { OnOk result (W.failures writer.new ≡ W.failures writer.old) }
 {
     next_frame(reader, frame)?;
-    if !frame.is_empty() {
-        let text = text_of(alloc, kind, form, number, frame)?;
-        write_all(writer, &text)?;
+    if frame.is_empty() {
+        return Ok(0);
     }
+    let text = text_of(alloc, kind, form, number, frame)?;
+    write_all(writer, &text)?;
     Ok(frame.len())
 }
 

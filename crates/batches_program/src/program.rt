@@ -90,7 +90,15 @@ fn do_line<R: Files<File = File> + Input + AllocGlobal, O: Sink, E: Sink>(
     let Some(name) = line.file else {
         let mut reader = rt.reader();
         let mut progress = Progress::new(alloc, None);
-        return convert(alloc, line.task, line.kind, &mut reader, out, error, &mut progress);
+        return convert(
+            alloc,
+            line.task,
+            line.kind,
+            &mut reader,
+            out,
+            error,
+            &mut progress,
+        );
     };
     let Ok(file) = File::open(rt, name) else {
         return Err(Failure::Open);
@@ -98,7 +106,15 @@ fn do_line<R: Files<File = File> + Input + AllocGlobal, O: Sink, E: Sink>(
     let length = if watched { length_of(&file) } else { None };
     let mut reader = BufReader::new(alloc, file)?;
     let mut progress = Progress::new(alloc, length);
-    let done = convert(alloc, line.task, line.kind, &mut reader, out, error, &mut progress);
+    let done = convert(
+        alloc,
+        line.task,
+        line.kind,
+        &mut reader,
+        out,
+        error,
+        &mut progress,
+    );
     progress.finish(error);
     done
 }

@@ -7,6 +7,7 @@ ghost use Rattle.batches_program.specs.Lines.{IsShown};
 ghost use Rattle.batches_program.specs.Told.{Tells, length_told};
 ghost use Rattle.batches_program.specs.Turned.{Stops, TurnsAll};
 ghost use Rattle.batches_program.specs.declared.failure.Failure.TheVariants.{Read, Write};
+ghost use Rattle.batches_program.specs.declared.kind.Kind.TheVariants.{Batches, Replies};
 
 use crate::failure::Failure;
 use crate::form::Form;
@@ -40,7 +41,15 @@ pub fn show<R: Source, W: Sink, E: Sink>(
     ensures told { Tells (E.given error.old) (E.given error.new) (E.failures error.old) (E.failures error.new) }
     ensures quiet { length_told progress.old ≡ None → error.new ≡ error.old }
 {
-    print_frames(alloc, kind, Form::Table { full }, reader, writer, error, progress)
+    print_frames(
+        alloc,
+        kind,
+        Form::Table { full },
+        reader,
+        writer,
+        error,
+        progress,
+    )
 }
 
 /// Returns the table of what a frame says.
@@ -55,9 +64,28 @@ pub fn table_of(
     ensures shown { IfOk result (λ table. IsShown kind frame.now table.items) }
     ensures fails { IfErr result (IsFailureOfFrame kind number frame.now) }
 {
-    let table = match kind {
-        Kind::Batches => batch_table(alloc, &batch_in(alloc, number, frame)?, full)?,
-        Kind::Replies => reply_table(alloc, &reply_in(alloc, number, frame)?)?,
-    };
+    match kind {
+        Kind::Batches => batch_text(alloc, full, number, frame),
+        Kind::Replies => reply_text(alloc, number, frame),
+    }
+}
+
+fn batch_text(alloc: Global, full: bool, number: u64, frame: &[u8]) -> Result<Vec<u8>, Failure>
+    requires settled { length frame.now ≤ frame_length frame.now }
+    ensures shown { IfOk result (λ table. IsShown Batches frame.now table.items) }
+    ensures fails { IfErr result (IsFailureOfFrame Batches number frame.now) }
+{
+    let batch = batch_in(alloc, number, frame)?;
+    let table = batch_table(alloc, &batch, full)?;
+    Ok(table.into_bytes())
+}
+
+fn reply_text(alloc: Global, number: u64, frame: &[u8]) -> Result<Vec<u8>, Failure>
+    requires settled { length frame.now ≤ frame_length frame.now }
+    ensures shown { IfOk result (λ table. IsShown Replies frame.now table.items) }
+    ensures fails { IfErr result (IsFailureOfFrame Replies number frame.now) }
+{
+    let reply = reply_in(alloc, number, frame)?;
+    let table = reply_table(alloc, &reply)?;
     Ok(table.into_bytes())
 }

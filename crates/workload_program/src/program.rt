@@ -12,7 +12,17 @@ use crate::fault::{Fault, fail};
 use crate::generate::write_batches;
 use crate::words::{USAGE, asked_text, read_words, refuse};
 use std::alloc::Global;
-use wire::{Sink, write_and_flush};
+use wire::{Failed, Sink, write_all};
+
+// Prints the text.
+fn show<W: Sink>(out: &mut W, text: &str) -> Result<(), Failed>
+    ensures text { OnOk result (Appends (W.given out.old) (W.given out.new) text.now) }
+    ensures ok { OnOk result (W.failures out.new ≡ W.failures out.old) }
+    ensures failed { OnErr result (W.failures out.old < W.failures out.new) }
+{
+    write_all(out, text.as_bytes())?;
+    out.flush()
+}
 
 // Writes what the words ask for, or how the program is used where there are none but its name. Returns `false`, and writes
 // nothing, where the words aren't as expected.
@@ -33,7 +43,7 @@ fn write_asked<W: Sink>(alloc: Global, words: &[String], out: &mut W) -> Result<
     ensures never_limit { IfErr result (λ fault. fault ≢ Fault.Limit) }
 {
     if words.len() < 2 {
-        write_and_flush(out, USAGE.as_bytes())?;
+        show(out, USAGE)?;
         return Ok(true);
     }
     let Some(plan) = read_words(words) else {
@@ -61,7 +71,7 @@ fn answer<O: Sink, E: Sink>(alloc: Global, words: &[String], out: &mut O, error:
         ⊎ IsTold (line_of Fault.Memory) (E.given error.old) (E.given error.new) (E.failures error.old) (E.failures error.new) }
 {
     match asked_text(alloc, words) {
-        Ok(Some(text)) => match write_and_flush(out, text.as_bytes()) {
+        Ok(Some(text)) => match show(out, &text) {
             Ok(()) => 0,
             Err(_) => fail(error, Fault::Write),
         },

@@ -8,9 +8,13 @@ use Rattle.batches_program.proofs.Turning.{nothing_yet, one_more, at_the_end, st
 use Rattle.batches_program.proofs.encoder.encode.Goals as goal
 
 pub loop-number-init : goal.loop-number-init
-loop-number-init g c =
-    (nothing_yet (BecomesFrame c.args.kind) (g.R.Read.remaining c.args.reader.now) (g.W.Sink.given c.args.writer.now), refl, refl,
-    tells_none (g.E.Sink.given c.args.error.now) (g.E.Sink.failures c.args.error.now), λ none. refl)
+loop-number-init g c = (
+  nothing_yet (BecomesFrame c.args.kind) (g.R.Read.remaining c.args.reader.now) (g.W.Sink.given c.args.writer.now),
+  refl,
+  refl,
+  tells_none (g.E.Sink.given c.args.error.now) (g.E.Sink.failures c.args.error.now),
+  λ none. refl,
+)
 
 pub returns-in_err-length-clause-refused : goal.returns-in_err-length-clause-refused
 returns-in_err-length-clause-refused g c =
