@@ -1,6 +1,8 @@
-//! The program `batches` turns lines of JSON into frames of batches or replies and back, and shows frames as a table.
+//! The program `batches` turns lines of JSON into frames of batches or replies and back, and shows
+//! frames as a table.
 //!
-//! The library `batches_program` does all of it. Here it is given the words, the files and the streams of the process.
+//! The library `batches_program` does all of it. Here it is given the words, the files and the
+//! streams of the process.
 #![tactic(auto)]
 
 use batches_program::{Failure, Status, fail, run};

@@ -3,13 +3,13 @@ use Rattle.std.specs.Prelude.{◌≡◌, ℕ, ◌+◌, List, [], ◌∷◌, ◌+
 use Rattle.std.specs.Io.KnownBytes.{Consumes, Appends}
 use Rattle.batches_program.specs.declared.failure.Failure.{Failure}
 
--- the bytes are what these parts become, one after the other
+-- the bytes are the results of these parts, in sequence
 abbrev pub BecomeEach : (List ℕ → List ℕ → Type 0) → List (List ℕ) → List ℕ → Type 0
 BecomeEach Becomes [] text = text ≡ []
 BecomeEach Becomes (part ∷ parts) text =
     (first others : List ℕ) × (text ≡ first ++ others) × Becomes part first × BecomeEach Becomes parts others
 
--- these parts, one after the other
+-- these parts, in sequence
 abbrev pub joined : List (List ℕ) → List ℕ
 joined [] = []
 joined (part ∷ parts) = part ++ joined parts

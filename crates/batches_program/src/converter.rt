@@ -29,7 +29,8 @@ pub fn convert<R: BufRead, O: Sink, E: Sink>(
         (IsDone task kind (R.remaining reader.old) (O.given out.old) (O.given out.new)) }
     ensures ok { OnOk result (O.failures out.new ≡ O.failures out.old) }
     ensures length { length_told progress.new ≡ length_told progress.old }
-    ensures told { Tells (E.given error.old) (E.given error.new) (E.failures error.old) (E.failures error.new) }
+    ensures told { Tells (E.given error.old) (E.given error.new) (E.failures error.old)
+        (E.failures error.new) }
     ensures quiet { length_told progress.old ≡ None → error.new ≡ error.old }
 {
     let done = do_task(alloc, task, kind, reader, out, error, progress);
@@ -51,7 +52,8 @@ fn do_task<R: BufRead, O: Sink, E: Sink>(
         (IsDone task kind (R.remaining reader.old) (O.given out.old) (O.given out.new)) }
     ensures ok { OnOk result (O.failures out.new ≡ O.failures out.old) }
     ensures length { length_told progress.new ≡ length_told progress.old }
-    ensures told { Tells (E.given error.old) (E.given error.new) (E.failures error.old) (E.failures error.new) }
+    ensures told { Tells (E.given error.old) (E.given error.new) (E.failures error.old)
+        (E.failures error.new) }
     ensures quiet { length_told progress.old ≡ None → error.new ≡ error.old }
 {
     match task {

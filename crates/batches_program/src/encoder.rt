@@ -4,7 +4,8 @@ ghost use Rattle.std.specs.Prelude.{◌≡◌, ◌≢◌, ◌<◌, ℕ, List, If
 ghost use Rattle.std.specs.List.{list_all};
 ghost use Rattle.std.specs.Io.KnownBytes.{Appends, Consumes, IsAtEnd};
 ghost use Rattle.json.specs.Word.{is_space};
-ghost use Rattle.batches_program.specs.Lines.{IsBatchFrame, IsReplyFrame, IsFrame, BecomesFrame, is_blank};
+ghost use Rattle.batches_program.specs.Lines.{IsBatchFrame, IsReplyFrame, IsFrame, BecomesFrame};
+ghost use Rattle.batches_program.specs.Lines.{is_blank};
 ghost use Rattle.batches_program.specs.Failing.{FailsLine, IsFailureOfLine};
 ghost use Rattle.batches_program.specs.Told.{Tells, length_told};
 ghost use Rattle.batches_program.specs.Turned.{Stops, TurnsAll};
@@ -19,8 +20,9 @@ use std::alloc::Global;
 use std::io::BufRead;
 use wire::{Sink, encode_batch, encode_reply, write_all};
 
-/// Reads lines to the end of the input and writes the frame of each. Blank lines are passed over, and counted. After a
-/// failure, other than of the writer, the frames of the lines before it are written completely.
+/// Reads lines to the end of the input and writes the frame of each. Blank lines are passed over,
+/// and counted. After a failure, other than of the writer, the frames of the lines before it are
+/// written completely.
 pub fn encode<R: BufRead, W: Sink, E: Sink>(
     alloc: Global,
     kind: Kind,
@@ -36,7 +38,8 @@ pub fn encode<R: BufRead, W: Sink, E: Sink>(
     ensures write { IfErr result (λ e. e ≡ Write → W.failures writer.old < W.failures writer.new) }
     ensures ok { OnOk result (W.failures writer.new ≡ W.failures writer.old) }
     ensures length { length_told progress.new ≡ length_told progress.old }
-    ensures told { Tells (E.given error.old) (E.given error.new) (E.failures error.old) (E.failures error.new) }
+    ensures told { Tells (E.given error.old) (E.given error.new) (E.failures error.old)
+        (E.failures error.new) }
     ensures quiet { length_told progress.old ≡ None → error.new ≡ error.old }
 {
     let mut scratch = Scratch::new(alloc);
@@ -63,7 +66,8 @@ fn encode_next<R: BufRead, W: Sink>(
     scratch: &mut Scratch,
 ) -> Result<usize, Failure>
     ensures line { IfOk result (λ length. 0 < length → (line text : List ℕ)
-        × Consumes (R.remaining reader.old) (R.remaining reader.new) line × BecomesFrame kind line text
+        × Consumes (R.remaining reader.old) (R.remaining reader.new) line
+        × BecomesFrame kind line text
         × Appends (W.given writer.old) (W.given writer.new) text) }
     ensures end { IfOk result (λ length. length ≡ 0
         → IsAtEnd (R.remaining reader.old) × (W.given writer.new ≡ W.given writer.old)) }

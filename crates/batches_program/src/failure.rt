@@ -1,4 +1,4 @@
-//! What goes wrong, and how it is told.
+//! Failures, and the text that reports them.
 
 ghost use Rattle.std.specs.Prelude.{◌≡◌, ◌≢◌, ◌⊎◌, IfOk, string_bytes};
 ghost use Rattle.batches_program.specs.Told.{IsLine, TellsLine};
@@ -60,7 +60,7 @@ impl Failure {
         }
     }
 
-    /// Creates the failure of what a line says, where it has no frame.
+    /// Creates the failure of a line's value, if it has no frame.
     pub fn of_long(number: u64, refusal: WireError) -> Self
         ensures which { ((refusal ≡ WireError.Long) × (result ≡ Failure.Long number))
             ⊎ ((refusal ≢ WireError.Long) × (result ≡ Failure.Memory)) }
@@ -110,7 +110,8 @@ impl From<io::Error> for Failure {
 /// Tells the failure in a line, and returns how the program ends. A failed write changes nothing.
 pub fn fail<E: Sink>(error: &mut E, alloc: Global, failure: &Failure) -> Status
     ensures failed { result ≡ Status.Failed }
-    ensures told { TellsLine (E.given error.old) (E.given error.new) (E.failures error.old) (E.failures error.new) }
+    ensures told { TellsLine (E.given error.old) (E.given error.new) (E.failures error.old)
+        (E.failures error.new) }
 {
     match line_of(alloc, failure) {
         Ok(line) => tell(error, line.as_bytes()),
@@ -121,7 +122,8 @@ pub fn fail<E: Sink>(error: &mut E, alloc: Global, failure: &Failure) -> Status
 fn tell<E: Sink>(error: &mut E, line: &[u8]) -> Status
     requires line { IsLine line.now }
     ensures failed { result ≡ Status.Failed }
-    ensures told { TellsLine (E.given error.old) (E.given error.new) (E.failures error.old) (E.failures error.new) }
+    ensures told { TellsLine (E.given error.old) (E.given error.new) (E.failures error.old)
+        (E.failures error.new) }
 {
     let _ = write_all(error, line);
     Status::Failed

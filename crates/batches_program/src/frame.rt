@@ -16,7 +16,8 @@ use wire::{Source, WireError, decode_batch, decode_reply, fill_frame};
 
 /// Reads the bytes of the next frame into the buffer, as [`fill_frame`] does.
 pub fn next_frame<R: Source>(reader: &mut R, frame: &mut Vec<u8>) -> Result<(), Failure>
-    ensures taken { OnOk result (Consumes (R.remaining reader.old) (R.remaining reader.new) frame.new.items) }
+    ensures taken { OnOk result (Consumes (R.remaining reader.old) (R.remaining reader.new)
+        frame.new.items) }
     ensures within { OnOk result (vec_len frame.new ≤ frame_length frame.new.items) }
     ensures end { OnOk result
         (vec_len frame.new < frame_length frame.new.items → IsAtEnd (R.remaining reader.new)) }

@@ -1,4 +1,4 @@
-//! What frames and lines tell of.
+//! The kinds of values that frames and lines have.
 
 /// What frames and lines are of.
 #[derive(Clone, Copy, Debug, PartialEq, Eq)]

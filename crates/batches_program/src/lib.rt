@@ -1,7 +1,8 @@
 //! Turns lines of JSON into frames of batches or replies and back, and shows frames as a table.
 //!
-//! [`run`] is the program `batches` over the words and the files of its environment, and any sinks. `words` reads the command line, and
-//! `failure` tells what went wrong. [`encode`], [`decode`] and [`show`] work over any streams.
+//! [`run`] is the program `batches` over the words and the files of its environment, and any sinks.
+//! `words` reads the command line, and `failure` tells what went wrong. [`encode`], [`decode`] and
+//! [`show`] work over any streams.
 #![tactic(auto)]
 
 mod command;

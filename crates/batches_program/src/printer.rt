@@ -19,8 +19,8 @@ use crate::viewer::table_of;
 use std::alloc::Global;
 use wire::{Sink, Source, write_all};
 
-/// Reads frames to the end of the input and prints each in this form. After a failure, other than of the writer, the frames
-/// before it are printed completely.
+/// Reads frames to the end of the input and prints each in this form. After a failure, other than
+/// of the writer, the frames before it are printed completely.
 pub fn print_frames<R: Source, W: Sink, E: Sink>(
     alloc: Global,
     kind: Kind,
@@ -38,7 +38,8 @@ pub fn print_frames<R: Source, W: Sink, E: Sink>(
     ensures write { IfErr result (λ e. e ≡ Write → W.failures writer.old < W.failures writer.new) }
     ensures ok { OnOk result (W.failures writer.new ≡ W.failures writer.old) }
     ensures length { length_told progress.new ≡ length_told progress.old }
-    ensures told { Tells (E.given error.old) (E.given error.new) (E.failures error.old) (E.failures error.new) }
+    ensures told { Tells (E.given error.old) (E.given error.new) (E.failures error.old)
+        (E.failures error.new) }
     ensures quiet { length_told progress.old ≡ None → error.new ≡ error.old }
 {
     let mut frame = Vec::new(alloc);
@@ -64,7 +65,8 @@ fn print_next<R: Source, W: Sink>(
     frame: &mut Vec<u8>,
 ) -> Result<usize, Failure>
     ensures printed { IfOk result (λ length. 0 < length → (frame text : List ℕ)
-        × Consumes (R.remaining reader.old) (R.remaining reader.new) frame × IsPrinted kind form frame text
+        × Consumes (R.remaining reader.old) (R.remaining reader.new) frame
+        × IsPrinted kind form frame text
         × Appends (W.given writer.old) (W.given writer.new) text) }
     ensures end { IfOk result (λ length. length ≡ 0
         → IsAtEnd (R.remaining reader.old) × (W.given writer.new ≡ W.given writer.old)) }

@@ -15,8 +15,8 @@ use std::rt::Env;
 use std::{env, io};
 use wire::{Failed, Sink, write_all, write_and_flush};
 
-/// Runs the program on the words and the streams of the process. The progress through a long file is told where `watched`
-/// says that people read standard error.
+/// Runs the program on the words and the streams of the process. The progress through a long file
+/// is reported if `watched` says that people read standard error.
 pub fn run<R: Files<File = File> + Env + Input + AllocGlobal, O: Sink, E: Sink>(
     rt: &R,
     watched: bool,
@@ -26,7 +26,8 @@ pub fn run<R: Files<File = File> + Env + Input + AllocGlobal, O: Sink, E: Sink>(
     ensures ok { result ≡ Status.Done → O.failures out.new ≡ O.failures out.old }
     ensures quiet { result ≡ Status.Done → IsTrue (not watched) → error.new ≡ error.old }
     ensures told { result ≡ Status.Failed
-        → TellsLine (E.given error.old) (E.given error.new) (E.failures error.old) (E.failures error.new) }
+        → TellsLine (E.given error.old) (E.given error.new) (E.failures error.old)
+        (E.failures error.new) }
 {
     let alloc = rt.alloc();
     let words = match command_line(rt) {
@@ -54,12 +55,13 @@ fn command_line<R: Env + AllocGlobal>(rt: &R) -> Result<Vec<String>, Failure> {
     }
 }
 
-// Prints the text in place of doing anything, and returns how the program ends.
+// Prints the text instead of doing anything, and returns how the program ends.
 fn end<O: Sink, E: Sink>(stop: &Stop, alloc: Global, out: &mut O, error: &mut E) -> Status
     ensures ok { result ≡ Status.Done → O.failures out.new ≡ O.failures out.old }
     ensures quiet { result ≡ Status.Done → error.new ≡ error.old }
     ensures told { result ≡ Status.Failed
-        → TellsLine (E.given error.old) (E.given error.new) (E.failures error.old) (E.failures error.new) }
+        → TellsLine (E.given error.old) (E.given error.new) (E.failures error.old)
+        (E.failures error.new) }
 {
     match stop {
         Stop::Shown(text) => match write_and_flush(out, text.as_bytes()) {
@@ -83,7 +85,8 @@ fn do_line<R: Files<File = File> + Input + AllocGlobal, O: Sink, E: Sink>(
     error: &mut E,
 ) -> Result<(), Failure>
     ensures ok { OnOk result (O.failures out.new ≡ O.failures out.old) }
-    ensures told { Tells (E.given error.old) (E.given error.new) (E.failures error.old) (E.failures error.new) }
+    ensures told { Tells (E.given error.old) (E.given error.new) (E.failures error.old)
+        (E.failures error.new) }
     ensures quiet { IsTrue (not watched) → error.new ≡ error.old }
 {
     let alloc = rt.alloc();
@@ -119,7 +122,7 @@ fn do_line<R: Files<File = File> + Input + AllocGlobal, O: Sink, E: Sink>(
     done
 }
 
-// Returns the length of a file whose progress is told.
+// Returns the length of a file whose progress is reported.
 fn length_of(file: &File) -> Option<u64> {
     let length = file.metadata().ok()?.len();
     if length > LONG_FILE {

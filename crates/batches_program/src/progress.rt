@@ -6,11 +6,11 @@ ghost use Rattle.batches_program.specs.Told.{Tells, length_told};
 use std::alloc::Global;
 use wire::{Sink, write_all};
 
-/// Files above this many bytes are long enough for their progress to be told.
+/// Files above this many bytes are long enough for their progress to be reported.
 pub const LONG_FILE: u64 = 64 << 20;
 
-/// Tells the progress through a file in hundredths, on a line that is written over. Tells nothing if the length isn't known,
-/// or nobody watches.
+/// Tells the progress through a file in hundredths, on a line that is written over. Tells nothing
+/// if the length isn't known, or nobody watches.
 #[derive(Debug, Drop)]
 pub struct Progress {
     alloc: Global,
@@ -20,7 +20,7 @@ pub struct Progress {
 }
 
 impl Progress {
-    /// Creates the progress through a file of this length, if it is to be told.
+    /// Creates the progress through a file of this length, if it must be reported.
     pub fn new(alloc: Global, length: Option<u64>) -> Self
         ensures length { length_told result ≡ length }
     {
@@ -35,7 +35,8 @@ impl Progress {
     /// Counts so many bytes more. A failed write changes nothing.
     pub fn advance<E: Sink>(&mut self, error: &mut E, bytes: usize)
         ensures length { length_told self.new ≡ length_told self.old }
-        ensures told { Tells (E.given error.old) (E.given error.new) (E.failures error.old) (E.failures error.new) }
+        ensures told { Tells (E.given error.old) (E.given error.new) (E.failures error.old)
+            (E.failures error.new) }
         ensures quiet { length_told self.old ≡ None → error.new ≡ error.old }
     {
         self.done = self.done.saturating_add(bytes as u64);
@@ -53,9 +54,10 @@ impl Progress {
         }
     }
 
-    /// Ends the line of the progress, if anything was told.
+    /// Ends the line of the progress, if anything was printed.
     pub fn finish<E: Sink>(&self, error: &mut E)
-        ensures told { Tells (E.given error.old) (E.given error.new) (E.failures error.old) (E.failures error.new) }
+        ensures told { Tells (E.given error.old) (E.given error.new) (E.failures error.old)
+            (E.failures error.new) }
         ensures quiet { length_told self.now ≡ None → error.new ≡ error.old }
     {
         if self.length.is_some() && self.told > 0 {

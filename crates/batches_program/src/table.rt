@@ -9,7 +9,8 @@ use wire::is_single_key;
 // The most characters of a key that are shown where keys are cut.
 const MAX_WIDTH: usize = 32;
 
-/// Returns the table of a batch: a line of its versions, and a line for each range, behind that of its transaction.
+/// Returns the table of a batch: a line of its versions, and a line for each range, after that of
+/// its transaction.
 pub fn batch_table(alloc: Global, batch: &Batch, full: bool) -> Result<String, AllocError> {
     let mut table = String::new(alloc);
     let (previous, version, received) = (batch.previous, batch.version, batch.received);

@@ -19,8 +19,9 @@ use crate::table::{batch_table, reply_table};
 use std::alloc::Global;
 use wire::{Sink, Source};
 
-/// Reads frames to the end of the input and prints a table of each. Wide keys are cut, unless they are wanted in full. After
-/// a failure, other than of the writer, the tables of the frames before it are written completely.
+/// Reads frames to the end of the input and prints a table of each. Wide keys are cut, unless they
+/// are wanted in full. After a failure, other than of the writer, the tables of the frames before
+/// it are written completely.
 pub fn show<R: Source, W: Sink, E: Sink>(
     alloc: Global,
     kind: Kind,
@@ -38,7 +39,8 @@ pub fn show<R: Source, W: Sink, E: Sink>(
     ensures write { IfErr result (λ e. e ≡ Write → W.failures writer.old < W.failures writer.new) }
     ensures ok { OnOk result (W.failures writer.new ≡ W.failures writer.old) }
     ensures length { length_told progress.new ≡ length_told progress.old }
-    ensures told { Tells (E.given error.old) (E.given error.new) (E.failures error.old) (E.failures error.new) }
+    ensures told { Tells (E.given error.old) (E.given error.new) (E.failures error.old)
+        (E.failures error.new) }
     ensures quiet { length_told progress.old ≡ None → error.new ≡ error.old }
 {
     print_frames(

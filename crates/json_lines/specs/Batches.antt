@@ -28,7 +28,7 @@ txn_members j = do
   ok ← if_so (int_le (pos 0) snapshot)
   Some (record { snapshot = snapshot; marked = report; reads = reads; writes = writes })
 
--- an object of these members, of which the report alone may be left out: then none is asked for
+-- an object of these members, of which only the report may be omitted: then none is requested
 unfoldable pub txn_in : Json → Option TxnFields
 txn_in j = if_so (has_only txn_names j) >>= λ _. txn_members j
 
@@ -53,7 +53,7 @@ batch_members j = do
   ok ← if_so (are_versions previous version received)
   Some (record { previous = previous; version = version; received = received; txns = txns })
 
--- an object of these members, of which the last received version alone may be left out: then it is -1
+-- an object of these members, of which only the last received version may be omitted: then it is -1
 unfoldable pub batch_in : Json → Option BatchFields
 batch_in j = if_so (has_only batch_names j) >>= λ _. batch_members j
 

@@ -1,4 +1,4 @@
--- Keys as text, in the manner of FoundationDB's `printable`: printable ASCII stands for itself, `\\` for the backslash, and
+-- Keys as text, in the manner of FoundationDB's `printable`: printable ASCII is written as itself, `\\` for the backslash, and
 -- `\xNN` for any byte, by two hexadecimal digits.
 use Rattle.std.specs.Prelude.{ℕ, ◌+◌, ◌*◌, ◌/◌, ◌%◌, List, [], ◌∷◌, Bool, ◌&&◌, ◌==◌, nat_lt, nat_le, flat_map, Option, Some, None, option_map, if◌then◌else◌}
 use Rattle.std.specs.Char.{digit_char, digit_value, is_digit}
@@ -13,7 +13,7 @@ letter_x = 120
 abbrev pub is_printable : ℕ → Bool
 is_printable byte = nat_le 32 byte && nat_lt byte 127
 
--- what is written for a byte: only what has to be is written by its number
+-- the text of a byte: its number only if it must be
 unfoldable pub byte_form : ℕ → List ℕ
 byte_form byte =
     if byte == backslash then backslash ∷ backslash ∷ []
@@ -65,7 +65,7 @@ number_at (a ∷ []) = None
 number_at (a ∷ b ∷ cs) =
     if is_digit a 16 && is_digit b 16 then Some (digit_value a * 16 + digit_value b, cs) else None
 
--- the same behind a backslash
+-- the same after a backslash
 abbrev pub escaped_at : List ℕ → Option (ℕ × List ℕ)
 escaped_at [] = None
 escaped_at (c ∷ cs) = if c == backslash then Some (backslash, cs) else if c == letter_x then number_at cs else None

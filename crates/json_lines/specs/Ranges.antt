@@ -11,7 +11,7 @@ use Rattle.wire.specs.declared.single.TheConstants.{MAX_SINGLE_KEY_LENGTH}
 use Rattle.json_lines.specs.KeyForm.{spelled}
 use Rattle.json_lines.specs.Values.{◌>>=◌, list_in}
 
--- a key of at most so many bytes
+-- a key of at most n bytes
 unfoldable pub key_within : ℕ → List ℕ → Option (List ℕ)
 key_within limit text = do
   key ← spelled text

@@ -1,4 +1,4 @@
--- What JSON values say: whole numbers, truth values, lists, and the members of an object.
+-- What JSON values say: integers, truth values, lists, and the members of an object.
 use Rattle.std.specs.Prelude.{◌≡◌, ◌≢◌, Result, Ok, Err, ℕ, suc, ℤ, ◌^◌, List, [], ◌∷◌, length, Bool, true, false, ◌&&◌, ◌||◌, not, nat_lt, nat_le, Option, Some, None, option_and_then, if◌then◌else◌}
 use Rattle.std.specs.List.{list_any, list_all}
 use Rattle.std.specs.Str.{bytes_eq}
@@ -27,7 +27,7 @@ is_whole text = nat_lt 0 (length (without_leading_sign text)) && list_all (λ c.
 abbrev pub fits : ℤ → Bool
 fits n = nat_lt (mag n) (2 ^ 63)
 
--- the whole number that a text spells
+-- the integer that a text spells
 unfoldable pub whole : List ℕ → Option ℤ
 whole text = if is_whole text && fits (signed_digits_value 10 text) then Some (signed_digits_value 10 text) else None
 
@@ -46,11 +46,11 @@ abbrev pub count : Items → ℕ
 count no_items = 0
 count (item j js) = suc (count js)
 
--- the items of an array of at most so many
+-- the items of an array of at most n of them
 abbrev pub limited : ℕ → Json → Option Items
 limited limit j = as_array j >>= λ js. if nat_le (count js) limit then Some js else None
 
--- an array of at most so many items, each read
+-- an array of at most n items, each read
 unfoldable pub list_in : {A : Type 0} → (Json → Option A) → ℕ → Json → Option (List A)
 list_in one limit j = limited limit j >>= each one
 
@@ -78,7 +78,7 @@ has_only names (object ms) = are_among names ms
 abbrev pub required : {A : Type 0} → (Json → Option A) → List ℕ → Json → Option A
 required one name j = get name j >>= one
 
--- a member that stands for a default where it isn't there
+-- a member with a default if it is missing
 abbrev pub optional_or : {A : Type 0} → (Json → Option A) → A → Option Json → Option A
 optional_or one default None = Some default
 optional_or one default (Some j) = one j

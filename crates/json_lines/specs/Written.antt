@@ -27,7 +27,7 @@ key_json key = string (key_form key)
 abbrev pub list_json : {A : Type 0} → (A → Json) → List A → Json
 list_json one xs = array (items_of (map one xs))
 
--- the tokens of values, one after the other
+-- the tokens of values, in sequence
 abbrev pub all_tokens : {A : Type 0} → (A → Json) → List A → List Token
 all_tokens one xs = flat_map (λ x. json_tokens (one x)) xs
 
@@ -78,7 +78,7 @@ reply_json reply =
     object (member (name_of Version) (number_json reply.version)
     (member (name_of Verdicts) (list_json entry_json reply.entries) no_members))
 
--- a member that is a whole number
+-- a member that is an integer
 abbrev pub number_tokens : Member → ℤ → List Token
 number_tokens name n = token.key (name_of name) ∷ json_tokens (number_json n)
 

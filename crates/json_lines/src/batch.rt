@@ -6,7 +6,8 @@ ghost use Rattle.json.specs.Json.{document};
 ghost use Rattle.json.specs.Scratch.{room};
 ghost use Rattle.json.specs.Value.{value_view};
 ghost use Rattle.wire.specs.Fields.{batch_fields};
-ghost use Rattle.json_lines.specs.Batches.{batch_in, batch_members, batch_of, received_in, are_versions};
+ghost use Rattle.json_lines.specs.Batches.{batch_in, batch_members, batch_of, received_in};
+ghost use Rattle.json_lines.specs.Batches.{are_versions};
 ghost use Rattle.json_lines.specs.Memory.{TakesMemory};
 ghost use Rattle.json_lines.specs.Values.{Reads, if_so};
 ghost use Rattle.json_lines.specs.declared.cause.Cause.TheVariants as cause;
@@ -30,7 +31,8 @@ const MEMBERS: [Member; 4] = [
     Member::Transactions,
 ];
 
-/// Reads the batch of a line, which is one JSON object. The scratch is kept from line to line, so that its memory is taken once.
+/// Reads the batch of a line, which is one JSON object. The scratch is kept from line to line, so
+/// that its memory is taken once.
 pub fn read_batch(alloc: Global, line: &[u8], scratch: &mut Scratch) -> Result<Batch, Refusal>
     ensures batch { IfOk result (λ batch. batch_of line.now ≡ Some (batch_fields batch)) }
     ensures text { OnOk result (IsUtf8 line.now) }
@@ -38,7 +40,8 @@ pub fn read_batch(alloc: Global, line: &[u8], scratch: &mut Scratch) -> Result<B
         → batch_of line.now ≡ None) }
 
     // A line that isn't JSON, and takes no memory, isn't reported as a failed allocation.
-    ensures memory { IfErr result (λ refusal. refusal.cause ≡ cause.Memory → document line.now ≡ None
+    ensures memory { IfErr result (λ refusal. refusal.cause ≡ cause.Memory
+        → document line.now ≡ None
         → TakesMemory line.now (room scratch.old)) }
 {
     let value = value_of(alloc, line, scratch)?;

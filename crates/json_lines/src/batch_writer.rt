@@ -9,7 +9,8 @@ ghost use Rattle.keyspace.specs.Fields.{txn_fields};
 ghost use Rattle.wire.specs.Fields.{batch_fields};
 ghost use Rattle.wire.specs.Spelling.{BatchHolds};
 ghost use Rattle.json_lines.specs.Batches.{batch_of};
-ghost use Rattle.json_lines.specs.Written.{all_tokens, number_tokens, txn_json, batch_json, batch_line, list_json};
+ghost use Rattle.json_lines.specs.Written.{all_tokens, number_tokens, txn_json, batch_json};
+ghost use Rattle.json_lines.specs.Written.{batch_line, list_json};
 
 use crate::member::Member;
 use crate::range_writer::put_ranges;
@@ -29,7 +30,8 @@ pub fn write_batch(alloc: Global, batch: &Batch) -> Result<Vec<u8>, AllocError>
 
 #[tactic(auto, unfolding(crate::specs::Written::batch_json))]
 fn put_batch(alloc: Global, writer: &mut Writer, batch: &Batch) -> Result<(), AllocError>
-    ensures tokens { OnOk result (writer.new.tokens ≡ writer.old.tokens ++ (json_tokens (batch_json (batch_fields batch.now)))) }
+    ensures tokens { OnOk result (writer.new.tokens
+        ≡ writer.old.tokens ++ (json_tokens (batch_json (batch_fields batch.now)))) }
     ensures before { writer.new.before ≡ writer.old.before }
     ensures holds { OnOk result (BatchHolds (batch_fields batch.now)) }
 {
@@ -43,9 +45,10 @@ fn put_batch(alloc: Global, writer: &mut Writer, batch: &Batch) -> Result<(), Al
     Ok(())
 }
 
-/// Writes a member that is a whole number.
+/// Writes a member that is an integer.
 pub fn put_number(writer: &mut Writer, member: Member, number: i64) -> Result<(), AllocError>
-    ensures tokens { OnOk result (writer.new.tokens ≡ writer.old.tokens ++ (number_tokens member number)) }
+    ensures tokens { OnOk result (writer.new.tokens
+        ≡ writer.old.tokens ++ (number_tokens member number)) }
     ensures before { writer.new.before ≡ writer.old.before }
     ensures fits { OnOk result (FitsSigned w64 number) }
 {
@@ -55,7 +58,8 @@ pub fn put_number(writer: &mut Writer, member: Member, number: i64) -> Result<()
 
 // Writes the transactions of a batch.
 fn put_txns(alloc: Global, writer: &mut Writer, txns: &Txns) -> Result<(), AllocError>
-    ensures tokens { OnOk result (writer.new.tokens ≡ writer.old.tokens ++ (json_tokens (list_json txn_json (map txn_fields txns.now)))) }
+    ensures tokens { OnOk result (writer.new.tokens
+        ≡ writer.old.tokens ++ (json_tokens (list_json txn_json (map txn_fields txns.now)))) }
     ensures before { writer.new.before ≡ writer.old.before }
     ensures fit { OnOk result (All (λ txn. FitsSigned w64 txn.snapshot) txns.now) }
 {
@@ -66,7 +70,8 @@ fn put_txns(alloc: Global, writer: &mut Writer, txns: &Txns) -> Result<(), Alloc
 }
 
 fn each_txn(alloc: Global, writer: &mut Writer, txns: &Txns) -> Result<(), AllocError>
-    ensures tokens { OnOk result (writer.new.tokens ≡ writer.old.tokens ++ (all_tokens txn_json (map txn_fields txns.now))) }
+    ensures tokens { OnOk result (writer.new.tokens
+        ≡ writer.old.tokens ++ (all_tokens txn_json (map txn_fields txns.now))) }
     ensures before { writer.new.before ≡ writer.old.before }
     ensures fit { OnOk result (All (λ txn. FitsSigned w64 txn.snapshot) txns.now) }
 {
@@ -79,7 +84,8 @@ fn each_txn(alloc: Global, writer: &mut Writer, txns: &Txns) -> Result<(), Alloc
 
 #[tactic(auto, unfolding(crate::specs::Written::txn_json))]
 fn put_txn(writer: &mut Writer, form: &mut Vec<u8>, txn: &TxnRef<'_>) -> Result<(), AllocError>
-    ensures tokens { OnOk result (writer.new.tokens ≡ writer.old.tokens ++ (json_tokens (txn_json (txn_fields txn.now)))) }
+    ensures tokens { OnOk result (writer.new.tokens
+        ≡ writer.old.tokens ++ (json_tokens (txn_json (txn_fields txn.now)))) }
     ensures before { writer.new.before ≡ writer.old.before }
     ensures fits { OnOk result (FitsSigned w64 txn.now.snapshot) }
 {

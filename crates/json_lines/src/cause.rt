@@ -28,7 +28,8 @@ pub enum Cause {
     NotString,
     #[error("not \"committed\", \"conflict\", \"tooold\" or an object")]
     NotVerdict,
-    /// A character that a key doesn't show as it is, such as a control character or one beyond ASCII.
+    /// A character that a key doesn't show as it is, such as a control character or one beyond
+    /// ASCII.
     #[error("character that isn't printable ASCII: write its bytes as \\\\xNN")]
     NotPrintable,
     /// A backslash in a key that begins neither `\\` nor `\xNN`.

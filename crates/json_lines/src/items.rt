@@ -12,7 +12,8 @@ use json::Value;
 
 /// Returns the items of an array.
 pub fn items_of<'v, 'a>(value: &'v Value<'a>, place: Place) -> Result<&'v Vec<Value<'a>>, Refusal>
-    ensures reads { Reads (λ items. items_view items.now.items) result (as_array (value_view value.now)) }
+    ensures reads { Reads (λ items. items_view items.now.items) result
+        (as_array (value_view value.now)) }
 {
     match value {
         Value::Array(items) => Ok(items),
@@ -20,14 +21,15 @@ pub fn items_of<'v, 'a>(value: &'v Value<'a>, place: Place) -> Result<&'v Vec<Va
     }
 }
 
-/// Returns the items of an array that has at most so many, and else the cause as why not.
+/// Returns the items of an array that has at most n of them, or the cause of the refusal.
 pub fn few_items_of<'v, 'a>(
     value: &'v Value<'a>,
     limit: usize,
     many: Cause,
     place: Place,
 ) -> Result<&'v Vec<Value<'a>>, Refusal>
-    ensures reads { Reads (λ items. items_view items.now.items) result (limited limit (value_view value.now)) }
+    ensures reads { Reads (λ items. items_view items.now.items) result
+        (limited limit (value_view value.now)) }
     ensures few { IfOk result (λ items. vec_len items.now ≤ limit) }
 {
     let items = items_of(value, place)?;

@@ -1,8 +1,10 @@
 //! Keys as text.
 
-ghost use Rattle.std.specs.Prelude.{◌≡◌, ◌<◌, ◌++◌, ◌∷◌, [], ◌≤◌, IfOk, IfSome, OnOk, length, vec_len, option_map};
+ghost use Rattle.std.specs.Prelude.{◌≡◌, ◌<◌, ◌++◌, ◌∷◌, [], ◌≤◌, IfOk, IfSome, OnOk, length};
+ghost use Rattle.std.specs.Prelude.{vec_len, option_map};
 ghost use Rattle.std.specs.Char.{digit_char};
-ghost use Rattle.json_lines.specs.KeyForm.{is_printable, byte_form, key_form, hex_value, number_at, escaped_at, byte_at, spelled};
+ghost use Rattle.json_lines.specs.KeyForm.{is_printable, byte_form, key_form, hex_value, number_at};
+ghost use Rattle.json_lines.specs.KeyForm.{escaped_at, byte_at, spelled};
 ghost use Rattle.json_lines.specs.Ranges.{key_within};
 ghost use Rattle.json_lines.specs.Values.{Reads};
 
@@ -77,7 +79,7 @@ fn number_at(text: &[u8]) -> Option<(u8, &[u8])>
     Some((high * 16 + low, rest))
 }
 
-// Does the same behind a backslash, where one backslash more may stand.
+// Does the same after a backslash, where a second backslash may follow.
 fn escaped_at(text: &[u8]) -> Option<(u8, &[u8])>
     ensures exact { option_map (λ x. (x.0, x.1.now)) result ≡ escaped_at text.now }
     ensures shorter { IfSome result (λ x. length x.1.now < length text.now) }
@@ -115,7 +117,7 @@ fn fault_of(text: &[u8]) -> Cause {
     }
 }
 
-/// Reads a key of at most so many bytes from its text.
+/// Reads a key of at most n bytes from its text.
 #[tactic(auto, unfolding(crate::specs::Ranges::key_within))]
 pub fn key_of(alloc: Global, text: &str, limit: usize, place: Place) -> Result<Vec<u8>, Refusal>
     ensures reads { Reads (λ key. key.items) result (key_within limit text.now) }

@@ -1,10 +1,12 @@
 //! Batches and replies as lines of JSON, and back.
 //!
-//! `specs/` holds what has to be believed, to be read in this order: `KeyForm` (keys as text), `Values`, `Names`, `Ranges`,
-//! `Batches` and `Replies` (what a JSON value says, if it says a batch or a reply), and `Written` (which line is written).
+//! `specs/` holds what has to be believed, to be read in this order: `KeyForm` (keys as text),
+//! `Values`, `Names`, `Ranges`, `Batches` and `Replies` (what a JSON value says, if it says a batch
+//! or a reply), and `Written` (which line is written).
 //!
-//! The layers above use [`read_batch`] and [`read_reply`], which read a line or say which member is wrong and why
-//! ([`Refusal`]); and [`write_batch`] and [`write_reply`], whose lines read back as what was written ([`laws`]).
+//! The layers above use [`read_batch`] and [`read_reply`], which read a line or say which member is
+//! wrong and why ([`Refusal`]); and [`write_batch`] and [`write_reply`], whose lines read back as
+//! what was written ([`laws`]).
 #![tactic(auto)]
 
 mod batch;

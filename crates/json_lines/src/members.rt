@@ -19,7 +19,8 @@ use std::alloc::{AllocError, Global};
 // The most bytes of a name that a refusal shows.
 const MAX_SHOWN: usize = 64;
 
-/// Looks that the value is an object, that each member has one of the names, and that no two have the same.
+/// Looks that the value is an object, that each member has one of the names, and that no two have
+/// the same.
 #[tactic(auto, using(crate::proofs::Objects::view_object))]
 pub fn check_members(
     alloc: Global,
@@ -27,7 +28,8 @@ pub fn check_members(
     names: &[Member],
     place: Place,
 ) -> Result<(), Refusal>
-    ensures reads { Reads (λ done. done) result (if_so (has_only (map name_of names.now) (value_view value.now))) }
+    ensures reads { Reads (λ done. done) result
+        (if_so (has_only (map name_of names.now) (value_view value.now))) }
 {
     match value {
         Value::Object(members) => check_names(alloc, members, names, place),
@@ -80,7 +82,7 @@ fn stands_in(name: &str, members: &[(&str, Value<'_>)]) -> bool
     false
 }
 
-// Returns a name as keys are printed, cut after so many bytes.
+// Returns a name as keys are printed, cut after n bytes.
 fn shown(alloc: Global, name: &str) -> Result<String, AllocError> {
     let bytes = name.as_bytes();
     let front = &bytes[..bytes.len().min(MAX_SHOWN)];
@@ -99,7 +101,8 @@ pub fn required<'v, 'a>(
     member: Member,
     place: Place,
 ) -> Result<&'v Value<'a>, Refusal>
-    ensures reads { Reads (λ found. value_view found.now) result (get (name_of member) (value_view value.now)) }
+    ensures reads { Reads (λ found. value_view found.now) result
+        (get (name_of member) (value_view value.now)) }
 {
     match value.get(member.name()) {
         Some(found) => Ok(found),

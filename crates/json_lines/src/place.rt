@@ -1,9 +1,10 @@
-//! Where in a line something stands.
+//! The place of a value in a line.
 
 use crate::member::Member;
 use std::fmt;
 
-/// Where in a line something stands, as a path from its object: `transactions[0].reads[1]`. Indices begin at 0.
+/// The place of a value in a line, as a path from its object: `transactions[0].reads[1]`. Indices
+/// begin at 0.
 #[derive(Clone, Copy, Debug, PartialEq, Eq)]
 pub enum Place {
     /// The line itself, whose path is empty.
@@ -21,7 +22,8 @@ pub enum Place {
 }
 
 impl Place {
-    /// Returns the place of a member of the object that stands here. Objects stand at the line and in its lists.
+    /// Returns the place of a member of the object at this place. Objects are the line itself and
+    /// items of its lists.
     pub fn member(self, member: Member) -> Self {
         match self {
             Place::Item(list, index) => Place::ItemMember(list, index, member),

@@ -22,7 +22,8 @@ use wire::MAX_SINGLE_KEY_LENGTH;
 /// Reads the ranges of a list.
 #[tactic(auto, unfolding(crate::specs::Values::list_in))]
 pub fn ranges_of(alloc: Global, value: &Value<'_>, place: Place) -> Result<Vec<Range>, Refusal>
-    ensures reads { Reads (λ ranges. map range_fields ranges.items) result (ranges_in (value_view value.now)) }
+    ensures reads { Reads (λ ranges. map range_fields ranges.items) result
+        (ranges_in (value_view value.now)) }
     ensures few { IfOk result (λ ranges. length ranges.items ≤ MAX_RANGES) }
 {
     let items = few_items_of(value, MAX_RANGES, Cause::ManyRanges, place)?;
@@ -30,7 +31,8 @@ pub fn ranges_of(alloc: Global, value: &Value<'_>, place: Place) -> Result<Vec<R
 }
 
 fn each_range(alloc: Global, items: &[Value<'_>], place: Place) -> Result<Vec<Range>, Refusal>
-    ensures reads { Reads (λ ranges. map range_fields ranges.items) result (each range_in (items_view items.now)) }
+    ensures reads { Reads (λ ranges. map range_fields ranges.items) result
+        (each range_in (items_view items.now)) }
     ensures count { IfOk result (λ ranges. length ranges.items ≡ length items.now) }
 {
     let mut ranges = Vec::with_capacity(alloc, items.len())?;

@@ -18,7 +18,8 @@ pub fn put_ranges(
     form: &mut Vec<u8>,
     ranges: &RangesRef<'_>,
 ) -> Result<(), AllocError>
-    ensures tokens { OnOk result (writer.new.tokens ≡ writer.old.tokens ++ (json_tokens (list_json range_json (map range_fields ranges.now)))) }
+    ensures tokens { OnOk result (writer.new.tokens
+        ≡ writer.old.tokens ++ (json_tokens (list_json range_json (map range_fields ranges.now)))) }
     ensures before { writer.new.before ≡ writer.old.before }
 {
     writer.begin_array()?;
@@ -32,7 +33,8 @@ fn each_range(
     form: &mut Vec<u8>,
     ranges: &RangesRef<'_>,
 ) -> Result<(), AllocError>
-    ensures tokens { OnOk result (writer.new.tokens ≡ writer.old.tokens ++ (all_tokens range_json (map range_fields ranges.now))) }
+    ensures tokens { OnOk result (writer.new.tokens
+        ≡ writer.old.tokens ++ (all_tokens range_json (map range_fields ranges.now))) }
     ensures before { writer.new.before ≡ writer.old.before }
 {
     for index in 0..ranges.len() {
@@ -48,7 +50,8 @@ fn put_range(
     form: &mut Vec<u8>,
     range: &RangeRef<'_>,
 ) -> Result<(), AllocError>
-    ensures tokens { OnOk result (writer.new.tokens ≡ writer.old.tokens ++ (json_tokens (range_json (range_fields range.now)))) }
+    ensures tokens { OnOk result (writer.new.tokens
+        ≡ writer.old.tokens ++ (json_tokens (range_json (range_fields range.now)))) }
     ensures before { writer.new.before ≡ writer.old.before }
 {
     if is_single_key(range.begin(), range.end()) {
@@ -64,7 +67,8 @@ fn put_pair(
     begin: &[u8],
     end: &[u8],
 ) -> Result<(), AllocError>
-    ensures tokens { OnOk result (writer.new.tokens ≡ writer.old.tokens ++ (json_tokens (pair_json begin.now end.now))) }
+    ensures tokens { OnOk result (writer.new.tokens
+        ≡ writer.old.tokens ++ (json_tokens (pair_json begin.now end.now))) }
     ensures before { writer.new.before ≡ writer.old.before }
 {
     writer.begin_array()?;
@@ -76,7 +80,8 @@ fn put_pair(
 
 // Writes a key. Its printed form is put together in `form`, whose memory is used again.
 fn put_key(writer: &mut Writer, form: &mut Vec<u8>, key: &[u8]) -> Result<(), AllocError>
-    ensures tokens { OnOk result (writer.new.tokens ≡ writer.old.tokens ++ (json_tokens (key_json key.now))) }
+    ensures tokens { OnOk result (writer.new.tokens
+        ≡ writer.old.tokens ++ (json_tokens (key_json key.now))) }
     ensures before { writer.new.before ≡ writer.old.before }
 {
     form.clear();

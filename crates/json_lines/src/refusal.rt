@@ -8,8 +8,8 @@ use crate::place::Place;
 use std::alloc::{AllocError, AllocFailed};
 use std::fmt;
 
-/// Why a line is refused: which of its values is wrong, and what of it. As text the two stand behind one another, as
-/// `transactions[0].reads[1]: begin is above end`.
+/// Why a line is refused: which of its values is wrong, and how. As text the two follow each other,
+/// as `transactions[0].reads[1]: begin is above end`.
 #[derive(Debug, Drop, PartialEq, Eq)]
 pub struct Refusal {
     pub place: Place,
@@ -17,7 +17,7 @@ pub struct Refusal {
 }
 
 impl Refusal {
-    /// Creates a refusal of what stands at the place.
+    /// Creates a refusal of the value at the place.
     pub fn new(place: Place, cause: Cause) -> Self
         ensures place { result.place ≡ place }
         ensures cause { result.cause ≡ cause }

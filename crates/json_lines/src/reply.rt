@@ -1,6 +1,7 @@
 //! Replies.
 
-ghost use Rattle.std.specs.Prelude.{◌≡◌, ◌≢◌, ◌≤◌, ◌<◌, map, length, IfOk, IfErr, IfSome, OnOk, Some, None};
+ghost use Rattle.std.specs.Prelude.{◌≡◌, ◌≢◌, ◌≤◌, ◌<◌, map, length, IfOk, IfErr, IfSome, OnOk};
+ghost use Rattle.std.specs.Prelude.{Some, None};
 ghost use Rattle.std.specs.Str.{IsUtf8};
 ghost use Rattle.json.specs.Json.{document};
 ghost use Rattle.json.specs.Scratch.{room};
@@ -8,7 +9,9 @@ ghost use Rattle.json.specs.Value.{value_view, items_view};
 ghost use Rattle.keyspace.specs.Places.{ArePlaces};
 ghost use Rattle.keyspace.specs.declared.batch.TheConstants.{MAX_TXNS};
 ghost use Rattle.wire.specs.Fields.{entry_fields, reply_fields};
-ghost use Rattle.json_lines.specs.Replies.{verdict_names, place_from, rising, places_in, report_in, entry_in, entries_in, reply_members, reply_in, reply_of, place_in, plain_in};
+ghost use Rattle.json_lines.specs.Replies.{verdict_names, place_from, rising, places_in, report_in};
+ghost use Rattle.json_lines.specs.Replies.{entry_in, entries_in, reply_members, reply_in, reply_of};
+ghost use Rattle.json_lines.specs.Replies.{place_in, plain_in};
 ghost use Rattle.json_lines.specs.Memory.{TakesMemory};
 ghost use Rattle.json_lines.specs.Values.{Reads, each};
 ghost use Rattle.json_lines.specs.declared.cause.Cause.TheVariants as cause;
@@ -30,7 +33,8 @@ const MEMBERS: [Member; 2] = [Member::Version, Member::Verdicts];
 
 const REPORT_MEMBERS: [Member; 1] = [Member::Conflict];
 
-/// Reads the reply of a line, which is one JSON object. The scratch is kept from line to line, so that its memory is taken once.
+/// Reads the reply of a line, which is one JSON object. The scratch is kept from line to line, so
+/// that its memory is taken once.
 pub fn read_reply(alloc: Global, line: &[u8], scratch: &mut Scratch) -> Result<Reply, Refusal>
     ensures reply { IfOk result (λ reply. reply_of line.now ≡ Some (reply_fields reply)) }
     ensures text { OnOk result (IsUtf8 line.now) }
@@ -38,7 +42,8 @@ pub fn read_reply(alloc: Global, line: &[u8], scratch: &mut Scratch) -> Result<R
         → reply_of line.now ≡ None) }
 
     // A line that isn't JSON, and takes no memory, isn't reported as a failed allocation.
-    ensures memory { IfErr result (λ refusal. refusal.cause ≡ cause.Memory → document line.now ≡ None
+    ensures memory { IfErr result (λ refusal. refusal.cause ≡ cause.Memory
+        → document line.now ≡ None
         → TakesMemory line.now (room scratch.old)) }
 {
     let value = value_of(alloc, line, scratch)?;
@@ -69,7 +74,8 @@ fn members_of(alloc: Global, value: &Value<'_>) -> Result<Reply, Refusal>
 
 #[tactic(auto, unfolding(crate::specs::Values::list_in))]
 fn entries_of(alloc: Global, value: &Value<'_>, place: Place) -> Result<Vec<Entry>, Refusal>
-    ensures reads { Reads (λ entries. map entry_fields entries.items) result (entries_in (value_view value.now)) }
+    ensures reads { Reads (λ entries. map entry_fields entries.items) result
+        (entries_in (value_view value.now)) }
     ensures few { IfOk result (λ entries. length entries.items ≤ MAX_TXNS) }
 {
     let items = few_items_of(value, MAX_TXNS, Cause::ManyTxns, place)?;

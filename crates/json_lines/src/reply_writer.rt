@@ -7,7 +7,9 @@ ghost use Rattle.keyspace.specs.Places.{ArePlaces};
 ghost use Rattle.wire.specs.Fields.{entry_fields, reply_fields};
 ghost use Rattle.wire.specs.Spelling.{ReplyHolds};
 ghost use Rattle.json_lines.specs.Replies.{reply_of};
-ghost use Rattle.json_lines.specs.Written.{all_tokens, number_tokens, word_of, place_json, report_json, entry_json, reply_json, reply_line, list_json};
+ghost use Rattle.json_lines.specs.Written.{all_tokens, number_tokens, word_of, place_json};
+ghost use Rattle.json_lines.specs.Written.{report_json, entry_json, reply_json, reply_line};
+ghost use Rattle.json_lines.specs.Written.{list_json};
 
 use crate::batch_writer::put_number;
 use crate::member::Member;
@@ -27,7 +29,8 @@ pub fn write_reply(alloc: Global, reply: &Reply) -> Result<Vec<u8>, AllocError>
 
 #[tactic(auto, unfolding(crate::specs::Written::reply_json))]
 fn put_reply(writer: &mut Writer, reply: &Reply) -> Result<(), AllocError>
-    ensures tokens { OnOk result (writer.new.tokens ≡ writer.old.tokens ++ (json_tokens (reply_json (reply_fields reply.now)))) }
+    ensures tokens { OnOk result (writer.new.tokens
+        ≡ writer.old.tokens ++ (json_tokens (reply_json (reply_fields reply.now)))) }
     ensures before { writer.new.before ≡ writer.old.before }
     ensures holds { OnOk result (ReplyHolds (reply_fields reply.now)) }
 {
@@ -41,7 +44,9 @@ fn put_reply(writer: &mut Writer, reply: &Reply) -> Result<(), AllocError>
 
 // Writes the entries of a reply.
 fn put_entries(writer: &mut Writer, entries: &[Entry]) -> Result<(), AllocError>
-    ensures tokens { OnOk result (writer.new.tokens ≡ writer.old.tokens ++ (json_tokens (list_json entry_json (map entry_fields entries.now)))) }
+    ensures tokens { OnOk result (writer.new.tokens
+        ≡ writer.old.tokens ++ (json_tokens
+        (list_json entry_json (map entry_fields entries.now)))) }
     ensures before { writer.new.before ≡ writer.old.before }
     ensures places { OnOk result (All (λ entry. ArePlaces entry.places) entries.now) }
 {
@@ -52,7 +57,8 @@ fn put_entries(writer: &mut Writer, entries: &[Entry]) -> Result<(), AllocError>
 }
 
 fn each_entry(writer: &mut Writer, entries: &[Entry]) -> Result<(), AllocError>
-    ensures tokens { OnOk result (writer.new.tokens ≡ writer.old.tokens ++ (all_tokens entry_json (map entry_fields entries.now))) }
+    ensures tokens { OnOk result (writer.new.tokens
+        ≡ writer.old.tokens ++ (all_tokens entry_json (map entry_fields entries.now))) }
     ensures before { writer.new.before ≡ writer.old.before }
     ensures places { OnOk result (All (λ entry. ArePlaces entry.places) entries.now) }
 {
@@ -65,7 +71,8 @@ fn each_entry(writer: &mut Writer, entries: &[Entry]) -> Result<(), AllocError>
 // Writes a verdict as a word, and a conflict with a report by its places.
 #[tactic(auto, unfolding(crate::specs::Written::entry_json))]
 fn put_entry(writer: &mut Writer, entry: &Entry) -> Result<(), AllocError>
-    ensures tokens { OnOk result (writer.new.tokens ≡ writer.old.tokens ++ (json_tokens (entry_json (entry_fields entry.now)))) }
+    ensures tokens { OnOk result (writer.new.tokens
+        ≡ writer.old.tokens ++ (json_tokens (entry_json (entry_fields entry.now)))) }
     ensures before { writer.new.before ≡ writer.old.before }
     ensures places { OnOk result (ArePlaces entry.now.places) }
 {
@@ -89,7 +96,8 @@ fn word_of(verdict: Verdict) -> &'static str
 
 // Writes a conflict with its report.
 fn put_report(writer: &mut Writer, places: &[u16]) -> Result<(), AllocError>
-    ensures tokens { OnOk result (writer.new.tokens ≡ writer.old.tokens ++ (json_tokens (report_json places.now))) }
+    ensures tokens { OnOk result (writer.new.tokens
+        ≡ writer.old.tokens ++ (json_tokens (report_json places.now))) }
     ensures before { writer.new.before ≡ writer.old.before }
 {
     writer.begin_object()?;
@@ -100,7 +108,8 @@ fn put_report(writer: &mut Writer, places: &[u16]) -> Result<(), AllocError>
 }
 
 fn put_places(writer: &mut Writer, places: &[u16]) -> Result<(), AllocError>
-    ensures tokens { OnOk result (writer.new.tokens ≡ writer.old.tokens ++ (json_tokens (list_json place_json places.now))) }
+    ensures tokens { OnOk result (writer.new.tokens
+        ≡ writer.old.tokens ++ (json_tokens (list_json place_json places.now))) }
     ensures before { writer.new.before ≡ writer.old.before }
 {
     writer.begin_array()?;
@@ -110,7 +119,8 @@ fn put_places(writer: &mut Writer, places: &[u16]) -> Result<(), AllocError>
 }
 
 fn each_place(writer: &mut Writer, places: &[u16]) -> Result<(), AllocError>
-    ensures tokens { OnOk result (writer.new.tokens ≡ writer.old.tokens ++ (all_tokens place_json places.now)) }
+    ensures tokens { OnOk result (writer.new.tokens
+        ≡ writer.old.tokens ++ (all_tokens place_json places.now)) }
     ensures before { writer.new.before ≡ writer.old.before }
 {
     for place in places {

@@ -10,7 +10,7 @@ use crate::place::Place;
 use crate::refusal::Refusal;
 use json::Value;
 
-/// Reads a whole number.
+/// Reads an integer.
 pub fn number_of(value: &Value<'_>, place: Place) -> Result<i64, Refusal>
     ensures reads { Reads (λ n. n) result (number_in (value_view value.now)) }
 {
@@ -20,7 +20,7 @@ pub fn number_of(value: &Value<'_>, place: Place) -> Result<i64, Refusal>
     }
 }
 
-// Returns why a value is no whole number of 64 bits.
+// Returns why a value is no integer of 64 bits.
 fn number_fault(value: &Value<'_>) -> Cause {
     if value.as_number().is_some() {
         Cause::NotWhole

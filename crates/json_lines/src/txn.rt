@@ -30,7 +30,8 @@ const MEMBERS: [Member; 4] = [
 /// Reads the transactions of a batch.
 #[tactic(auto, unfolding(crate::specs::Values::list_in))]
 pub fn txns_of(alloc: Global, value: &Value<'_>, place: Place) -> Result<Vec<Txn>, Refusal>
-    ensures reads { Reads (λ txns. map txn_fields txns.items) result (txns_in (value_view value.now)) }
+    ensures reads { Reads (λ txns. map txn_fields txns.items) result
+        (txns_in (value_view value.now)) }
     ensures few { IfOk result (λ txns. length txns.items ≤ MAX_TXNS) }
 {
     let items = few_items_of(value, MAX_TXNS, Cause::ManyTxns, place)?;
@@ -38,7 +39,8 @@ pub fn txns_of(alloc: Global, value: &Value<'_>, place: Place) -> Result<Vec<Txn
 }
 
 fn each_txn(alloc: Global, items: &[Value<'_>], place: Place) -> Result<Vec<Txn>, Refusal>
-    ensures reads { Reads (λ txns. map txn_fields txns.items) result (each txn_in (items_view items.now)) }
+    ensures reads { Reads (λ txns. map txn_fields txns.items) result
+        (each txn_in (items_view items.now)) }
     ensures count { IfOk result (λ txns. length txns.items ≡ length items.now) }
 {
     let mut txns = Vec::with_capacity(alloc, items.len())?;
@@ -78,9 +80,10 @@ fn members_of(alloc: Global, value: &Value<'_>, place: Place) -> Result<Txn, Ref
     ))
 }
 
-/// Reads the whole number of a member that has to be there.
+/// Reads the integer of a required member.
 pub fn number_at(value: &Value<'_>, member: Member, place: Place) -> Result<i64, Refusal>
-    ensures reads { Reads (λ n. n) result (required number_in (name_of member) (value_view value.now)) }
+    ensures reads { Reads (λ n. n) result
+        (required number_in (name_of member) (value_view value.now)) }
 {
     let place = place.member(member);
     number_of(required(value, member, place)?, place)

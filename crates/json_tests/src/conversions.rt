@@ -6,7 +6,7 @@ use std::str;
 use std::test::Fail;
 use wire::{StdSink, StdSource};
 
-// What is tested, of the whole input.
+// What is tested, of the complete input.
 #[derive(Clone, Copy)]
 enum Way {
     Encode(Kind),
@@ -14,21 +14,43 @@ enum Way {
     Show(Kind, bool),
 }
 
-// What is written, and behind it the failure as text, if there is one.
+// What is written, and then the failure as text, if there is one.
 fn outcome(alloc: Global, way: Way, input: &[u8]) -> Result<Vec<u8>, AllocError> {
     let mut error = StdSink::new(Vec::new(alloc));
     let mut progress = Progress::new(alloc, None);
     let mut out = StdSink::new(Vec::new(alloc));
     let mut reader = input;
     let done = match way {
-        Way::Encode(kind) => encode(alloc, kind, &mut reader, &mut out, &mut error, &mut progress),
+        Way::Encode(kind) => encode(
+            alloc,
+            kind,
+            &mut reader,
+            &mut out,
+            &mut error,
+            &mut progress,
+        ),
         Way::Decode(kind) => {
             let mut source = StdSource::new(reader);
-            decode(alloc, kind, &mut source, &mut out, &mut error, &mut progress)
+            decode(
+                alloc,
+                kind,
+                &mut source,
+                &mut out,
+                &mut error,
+                &mut progress,
+            )
         }
         Way::Show(kind, full) => {
             let mut source = StdSource::new(reader);
-            show(alloc, kind, full, &mut source, &mut out, &mut error, &mut progress)
+            show(
+                alloc,
+                kind,
+                full,
+                &mut source,
+                &mut out,
+                &mut error,
+                &mut progress,
+            )
         }
     };
     let mut written = out.into_inner();
@@ -67,7 +89,8 @@ fn lines_become_frames_and_lines(rt: HostRuntime) -> Result<(), Fail> {
     Ok(())
 }
 
-// Blank lines are counted, the frame of the line before is whole, and the last line needs no line feed.
+// Blank lines are counted, the frame of the line before is complete, and the last line needs no
+// line feed.
 #[test]
 fn refusal_names_its_line(rt: HostRuntime) -> Result<(), Fail> {
     let alloc = rt.alloc();

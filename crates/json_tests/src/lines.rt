@@ -3,7 +3,8 @@
 use crate::rows::{Way, expect_rows};
 use std::test::Fail;
 
-// What a line is read as: defaults, either case of the digits, an empty range, and one key for a range.
+// What a line is read as: defaults, either case of the digits, an empty range, and one key for a
+// range.
 const READ: &str = r#"{"previous":-1,"version":0,"transactions":[]} => -1>0 received -1
 {"previous":0,"version":100,"received":-1,"transactions":[{"snapshot":0,"report":true,"reads":[["a","b"],"k"],"writes":[["c","d"]]}]} => 0>100 received -1; m R[61,62) R[6b,6b00) W[63,64) @0
  { "transactions" : [ { "writes" : [ ] , "reads" : [ ] , "snapshot" : 7 } ] , "version" : 9223372036854775807 , "previous" : 5 , "received" : 6 }  => 5>9223372036854775807 received 6; @7
@@ -15,7 +16,8 @@ fn lines_are_read(rt: HostRuntime) -> Result<(), Fail> {
     expect_rows(&rt, rt.alloc(), Way::Batch, READ)
 }
 
-// How a line is written: each member, a range of a single key as that key, and bytes by their numbers only where they have to be.
+// How a line is written: each member, a range of a single key as that key, and bytes by their
+// numbers only where they have to be.
 const WRITTEN: &str =
     r#"{"version":0,"previous":-1,"transactions":[]} => {"previous":-1,"version":0,"received":-1,"transactions":[]}
 {"previous":0,"version":100,"received":-1,"transactions":[{"snapshot":0,"report":true,"reads":[["a","b"],["k","k\\x00"]],"writes":[["c","d"]]}]} => {"previous":0,"version":100,"received":-1,"transactions":[{"snapshot":0,"report":true,"reads":[["a","b"],"k"],"writes":[["c","d"]]}]}

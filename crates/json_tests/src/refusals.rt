@@ -53,7 +53,7 @@ fn lines_are_refused(rt: HostRuntime) -> Result<(), Fail> {
     expect_rows(&rt, rt.alloc(), Way::Batch, REFUSED)
 }
 
-// A text of so many copies of a part, with commas between them.
+// A text of n copies of a part, with commas between them.
 fn many(alloc: Global, part: &str, count: usize) -> Result<String, Unmade> {
     let mut text = String::new(alloc);
     for index in 0..count {
@@ -65,7 +65,8 @@ fn many(alloc: Global, part: &str, count: usize) -> Result<String, Unmade> {
     Ok(text)
 }
 
-// What comes of a batch with so many transactions, of so many ranges, and with a key of so many bytes and an end of one more.
+// The outcome of a batch with n transactions, n ranges, and a key of n bytes and an end of one
+// more.
 fn limits(alloc: Global, txns: usize, ranges: usize, bytes: usize) -> Result<String, Unmade> {
     let key = "k".repeat(alloc, bytes)?;
     let ranges = many(alloc, "\"k\"", ranges)?;

@@ -7,7 +7,7 @@ use std::str;
 use std::test::Fail;
 use test_values::{Unmade, show_batch, show_reply};
 
-/// What a line is read as, and what is told of it.
+/// The value that a line is read as, or the reported refusal.
 #[derive(Clone, Copy)]
 pub(crate) enum Way {
     /// A batch, shown as the worked rows write it.

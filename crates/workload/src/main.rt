@@ -1,6 +1,8 @@
-//! The program `workload` writes a file of batch frames to measure `replay` with: `workload SHAPE BATCHES TRANSACTIONS`.
+//! The program `workload` writes a file of batch frames to measure `replay` with: `workload SHAPE
+//! BATCHES TRANSACTIONS`.
 //!
-//! The library `workload_program` does all of it, over any words and streams. Here it is given those of the process.
+//! The library `workload_program` does all of it, over any words and streams. Here it is given
+//! those of the process.
 #![tactic(auto)]
 
 use std::io::BufWriter;

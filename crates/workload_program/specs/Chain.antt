@@ -13,7 +13,7 @@ abbrev pub previous_of : Shape → ℕ → ℤ
 previous_of shape zero = negsuc 0
 previous_of shape (suc before) = version_of shape before
 
--- the batch of a number, with so many transactions
+-- the batch of a number, with n transactions
 pub record IsBatchOf (shape : Shape) (count number : ℕ) (batch : Batch) : Type 0 where
   pub version : batch.version ≡ version_of shape number
   pub previous : batch.previous ≡ previous_of shape number
@@ -30,7 +30,7 @@ AreFrames shape count (suc number) bytes =
     (front last : List ℕ) × (batch : Batch) × (bytes ≡ front ++ last) × AreFrames shape count number front
     × IsBatchOf shape count number batch × SpellsBatch One last batch
 
--- Where the sink still tells its bytes, they grew by a beginning of the frames of all batches below some number, which is at most this
+-- If the sink still reports its bytes, they grew by a prefix of the frames of all batches below some number, which is at most this
 -- one.
 abbrev pub BreaksOff : Shape → ℕ → ℕ → Option (List ℕ) → Option (List ℕ) → Type 0
 BreaksOff shape count batches before after =

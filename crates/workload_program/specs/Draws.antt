@@ -10,7 +10,7 @@ abbrev pub drawn_key : Shape → ℕ → ℕ
 drawn_key SkipListTest state = number_below (keys_of SkipListTest) (state_after state)
 drawn_key Points state = number_below (1 + number_below (keys_of Points) (state_after state)) (state_after (state_after state))
 
--- the state behind the draw of a key
+-- the state after the draw of a key
 abbrev pub behind_key : Shape → ℕ → ℕ
 behind_key SkipListTest state = state_after state
 behind_key Points state = state_after (state_after state)
@@ -20,7 +20,7 @@ abbrev pub drawn_back : Shape → ℕ → ℕ
 drawn_back SkipListTest state = 50
 drawn_back Points state = 1 + number_below 8 (state_after state)
 
--- the state behind that draw
+-- the state after that draw
 abbrev pub behind_back : Shape → ℕ → ℕ
 behind_back SkipListTest state = state
 behind_back Points state = state_after state

@@ -8,7 +8,7 @@ use Rattle.wire.specs.declared.error.WireError.TheVariants as wire
 use Rattle.workload_program.specs.declared.fault.Fault.{Fault}
 use Rattle.workload_program.specs.declared.fault.Fault.TheVariants.{Memory, Limit, Write}
 
--- the line that tells why a file could not be written whole
+-- the line that reports why a file could not be written in full
 abbrev pub line_of : Fault → List ℕ
 line_of Memory = codes "workload: memory is refused\n"
 line_of Limit = codes "workload: a batch is outside its limits\n"

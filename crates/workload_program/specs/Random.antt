@@ -7,7 +7,7 @@ use Rattle.workload_program.specs.declared.random.Random.{Random}
 abbrev pub state_of : Random → ℕ
 state_of random = random.state
 
--- the state behind this one
+-- the state after this one
 abbrev pub state_after : ℕ → ℕ
 state_after state = (state * 6364136223846793005 + 1442695040888963407) % 2 ^ 64
 

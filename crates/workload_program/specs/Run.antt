@@ -9,7 +9,7 @@ abbrev pub AreAskedFor : List (List ℕ) → List ℕ → Type 0
 AreAskedFor words bytes =
     (plan : Plan) × AskFor plan words × AreFrames plan.shape plan.transactions plan.batches bytes
 
--- between these bytes of a sink a beginning of frames was written that the words ask for
+-- between these bytes of a sink a prefix of the frames was written that the arguments ask for
 abbrev pub BreakOffAsked : List (List ℕ) → Option (List ℕ) → Option (List ℕ) → Type 0
 BreakOffAsked words before after =
     (plan : Plan) × AskFor plan words × BreaksOff plan.shape plan.transactions plan.batches before after

@@ -11,7 +11,7 @@ use Rattle.workload_program.specs.declared.shape.Shape.TheVariants.{SkipListTest
 abbrev pub numbered_key : ℕ → List ℕ
 numbered_key number = codes "workload" ++ to_be_bytes w64 number
 
--- the key of a number, of 8 to 24 bytes: behind the number come dots, of which the number settles how many
+-- the key of a number, of 8 to 24 bytes: the number, and then dots, whose count follows from the number
 abbrev pub point : ℕ → List ℕ
 point number = to_be_bytes w64 number ++ replicate (number % 17) 46
 
@@ -23,7 +23,7 @@ IsRangeOf SkipListTest range =
 IsRangeOf Points range =
     (number : ℕ) × (number < keys_of Points) × (range.begin ≡ point number) × (range.end ≡ point number ++ 0 ∷ [])
 
--- a transaction reads as of so many batches before its own
+-- a transaction reads as of n batches before its own
 abbrev pub LooksBack : Shape → ℕ → Type 0
 LooksBack SkipListTest back = back ≡ 50
 LooksBack Points back = (1 ≤ back) × (back ≤ 8)

@@ -15,7 +15,7 @@ pub fn version(shape: Shape, number: u32) -> i64
     }
 }
 
-/// Returns the version of the batch that comes so many batches before, or -1 if there is none.
+/// Returns the version of the batch n batches before, or -1 if there is none.
 pub fn version_before(shape: Shape, number: u32, count: u32) -> i64
     requires some { 1 ≤ count }
     ensures none { number < count → result ≡ negsuc 0 }

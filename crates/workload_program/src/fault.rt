@@ -1,4 +1,4 @@
-//! Why a file could not be written whole.
+//! Why a file could not be written in full.
 
 ghost use Rattle.std.specs.Prelude.{◌≡◌};
 ghost use Rattle.workload_program.specs.Fault.{IsTold, line_of, of_frame, of_limit};
@@ -8,7 +8,7 @@ use keyspace::{KeyError, LimitError};
 use std::alloc::{AllocError, AllocFailed};
 use wire::{Failed, Sink, WireError, write_all};
 
-/// Why a file could not be written whole.
+/// Why a file could not be written in full.
 #[derive(Clone, Copy, Debug, PartialEq, Eq)]
 pub enum Fault {
     /// Memory was refused.
@@ -35,7 +35,8 @@ impl Fault {
 /// Tells the fault, and returns the exit code. A failed write changes nothing. Takes no memory.
 pub fn fail<E: Sink>(error: &mut E, fault: Fault) -> u8
     ensures code { result ≡ 1 }
-    ensures told { IsTold (line_of fault) (E.given error.old) (E.given error.new) (E.failures error.old) (E.failures error.new) }
+    ensures told { IsTold (line_of fault) (E.given error.old) (E.given error.new)
+        (E.failures error.old) (E.failures error.new) }
 {
     let _ = write_all(error, fault.line().as_bytes());
     1

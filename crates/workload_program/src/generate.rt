@@ -1,6 +1,7 @@
 //! Batches of transactions, and their frames.
 
-ghost use Rattle.std.specs.Prelude.{◌≡◌, ◌≢◌, ◌<◌, ◌≤◌, ◌-◌, ℕ, negsuc, List, Err, All, IfErr, IfOk, OnErr, OnOk, length, vec_len};
+ghost use Rattle.std.specs.Prelude.{◌≡◌, ◌≢◌, ◌<◌, ◌≤◌, ◌-◌, ℕ, negsuc, List, Err, All, IfErr};
+ghost use Rattle.std.specs.Prelude.{IfOk, OnErr, OnOk, length, vec_len};
 ghost use Rattle.keyspace.specs.declared.batch.TheConstants.{MAX_TXNS};
 ghost use Rattle.std.specs.Io.KnownBytes.{Appends};
 ghost use Rattle.workload_program.specs.Versions.{version_of};
@@ -43,7 +44,7 @@ fn draw_txn(alloc: Global, random: &mut Random, shape: Shape, number: u32) -> Re
     Ok(Txn::checked(snapshot, false, reads, Sequence::new(writes))?)
 }
 
-// Draws so many transactions of the batch of this number.
+// Draws `count` transactions of the batch of this number.
 fn draw_txns(
     alloc: Global,
     random: &mut Random,
@@ -62,9 +63,10 @@ fn draw_txns(
     Ok(txns)
 }
 
-/// Draws the batch of this number, from 0, with so many transactions. The batches of a shape are one chain: each follows the
-/// version of the one before, and the first follows -1. The proxy has received the answer of eight batches before. Where a batch
-/// may have so many transactions, only memory may be refused.
+/// Draws the batch of this number, from 0, with `count` transactions. The batches of a shape are
+/// one chain: each follows the version of the one before, and the first follows -1. The proxy has
+/// received the answer of eight batches before. If a batch may have that many transactions, only
+/// memory may be refused.
 pub fn draw_batch(
     alloc: Global,
     random: &mut Random,
@@ -75,7 +77,8 @@ pub fn draw_batch(
     ensures version { IfOk result (λ batch. batch.version ≡ version_of shape number) }
     ensures previous { IfOk result (λ batch. batch.previous ≡ previous_of shape number) }
     ensures received_none { IfOk result (λ batch. number < 8 → batch.received ≡ negsuc 0) }
-    ensures received { IfOk result (λ batch. 8 ≤ number → batch.received ≡ version_of shape (number - 8)) }
+    ensures received { IfOk result (λ batch. 8 ≤ number
+        → batch.received ≡ version_of shape (number - 8)) }
     ensures count { IfOk result (λ batch. length batch.txns ≡ count) }
     ensures txns { IfOk result (λ batch. All (IsTxnOf shape number) batch.txns) }
     ensures memory { count ≤ MAX_TXNS → IfErr result (λ fault. fault ≡ Fault.Memory) }
@@ -87,16 +90,18 @@ pub fn draw_batch(
     Ok(Batch::checked(alloc, previous, version, received, txns)?)
 }
 
-/// Writes the frames of the batches that the plan asks for, and nothing else, and flushes the sink. Returns `Write` where the
-/// sink fails, and else `Memory`; a beginning of the frames is written then.
+/// Writes the frames of the batches that the plan asks for, and nothing else, and flushes the sink.
+/// Returns `Write` where the sink fails, and else `Memory`; a prefix of the frames is written then.
 pub fn write_batches<W: Sink>(alloc: Global, plan: Plan, out: &mut W) -> Result<(), Fault>
     ensures written { OnOk result ((bytes : List ℕ)
-        × AreFrames plan.shape plan.transactions plan.batches bytes × Appends (W.given out.old) (W.given out.new) bytes) }
+        × AreFrames plan.shape plan.transactions plan.batches bytes
+        × Appends (W.given out.old) (W.given out.new) bytes) }
     ensures broken_off { OnErr result
         (BreaksOff plan.shape plan.transactions plan.batches (W.given out.old) (W.given out.new)) }
     ensures ok { OnOk result (W.failures out.new ≡ W.failures out.old) }
     ensures failed { W.failures out.old < W.failures out.new → result ≡ Err Fault.Write }
-    ensures write { IfErr result (λ fault. fault ≡ Fault.Write → W.failures out.old < W.failures out.new) }
+    ensures write { IfErr result (λ fault. fault ≡ Fault.Write
+        → W.failures out.old < W.failures out.new) }
     ensures never_limit { IfErr result (λ fault. fault ≢ Fault.Limit) }
 {
     let mut random = Random::new(SEED);

@@ -1,8 +1,10 @@
 //! Draws the batches of one chain to measure a resolver with, and writes their frames.
 //!
-//! [`run`] is the program `workload` over any words and streams, and [`run_in`] takes the words from an environment. `words` reads the
-//! command line, and has `clap` answer `--help` and `--version`. [`write_batches`] draws the batches by the numbers of [`Random`], as
-//! their [`Shape`] wants, and writes their frames; `chain` settles their versions, and `ranges` their ranges.
+//! [`run`] is the program `workload` over any words and streams, and [`run_in`] takes the words
+//! from an environment. `words` reads the command line, and has `clap` answer `--help` and
+//! `--version`. [`write_batches`] draws the batches by the numbers of [`Random`], as their
+//! [`Shape`] wants, and writes their frames; `chain` settles their versions, and `ranges` their
+//! ranges.
 #![tactic(auto)]
 
 mod chain;

@@ -1,6 +1,7 @@
 //! The program, over any words and streams.
 
-ghost use Rattle.std.specs.Prelude.{◌≡◌, ◌≢◌, ◌⊎◌, ◌<◌, ◌≤◌, ℕ, List, true, false, length, map, string_bytes, Ok, Err, IfErr, IfOk, OnErr, OnOk};
+ghost use Rattle.std.specs.Prelude.{◌≡◌, ◌≢◌, ◌⊎◌, ◌<◌, ◌≤◌, ℕ, List, true, false, length, map};
+ghost use Rattle.std.specs.Prelude.{string_bytes, Ok, Err, IfErr, IfOk, OnErr, OnOk};
 ghost use Rattle.std.specs.Io.KnownBytes.{Appends};
 ghost use Rattle.workload_program.specs.Fault.{IsTold, line_of, expected_line};
 ghost use Rattle.workload_program.specs.Command.{AsksForText, AsksForTextAlone};
@@ -24,11 +25,13 @@ fn show<W: Sink>(out: &mut W, text: &str) -> Result<(), Failed>
     out.flush()
 }
 
-// Writes what the words ask for, or how the program is used where there are none but its name. Returns `false`, and writes
-// nothing, where the words aren't as expected.
+// Writes what the words ask for, or how the program is used where there are none but its name.
+// Returns `false`, and writes nothing, where the words aren't as expected.
 fn write_asked<W: Sink>(alloc: Global, words: &[String], out: &mut W) -> Result<bool, Fault>
-    ensures written { IfOk result (λ done. done ≡ true → 2 ≤ length words.entry.now → (bytes : List ℕ)
-        × AreAskedFor (map string_bytes words.entry.now) bytes × Appends (W.given out.old) (W.given out.new) bytes) }
+    ensures written { IfOk result (λ done. done ≡ true → 2 ≤ length words.entry.now
+        → (bytes : List ℕ)
+        × AreAskedFor (map string_bytes words.entry.now) bytes
+        × Appends (W.given out.old) (W.given out.new) bytes) }
     ensures broken_off { OnErr result (2 ≤ length words.entry.now
         → BreakOffAsked (map string_bytes words.entry.now) (W.given out.old) (W.given out.new)) }
     ensures usage { IfOk result (λ done. length words.entry.now < 2
@@ -39,7 +42,8 @@ fn write_asked<W: Sink>(alloc: Global, words: &[String], out: &mut W) -> Result<
     ensures nothing_written { result ≡ Ok false → W.given out.new ≡ W.given out.old }
     ensures ok { OnOk result (W.failures out.new ≡ W.failures out.old) }
     ensures failed { W.failures out.old < W.failures out.new → result ≡ Err Fault.Write }
-    ensures write { IfErr result (λ fault. fault ≡ Fault.Write → W.failures out.old < W.failures out.new) }
+    ensures write { IfErr result (λ fault. fault ≡ Fault.Write
+        → W.failures out.old < W.failures out.new) }
     ensures never_limit { IfErr result (λ fault. fault ≢ Fault.Limit) }
 {
     if words.len() < 2 {
@@ -53,22 +57,29 @@ fn write_asked<W: Sink>(alloc: Global, words: &[String], out: &mut W) -> Result<
     Ok(true)
 }
 
-// Prints help or the version where the words ask for it, and else tells that they aren't as expected. Returns the exit code.
+// Prints help or the version if the arguments ask for it, and otherwise reports that they aren't as
+// expected. Returns the exit code.
 fn answer<O: Sink, E: Sink>(alloc: Global, words: &[String], out: &mut O, error: &mut E) -> u8
     ensures shown { result ≡ 0 → AsksForText (map string_bytes words.entry.now) }
     ensures text { result ≡ 0 → (text : List ℕ) × Appends (O.given out.old) (O.given out.new) text }
     ensures quiet { result ≡ 0 → E.given error.new ≡ E.given error.old }
-    ensures answered { AsksForTextAlone (map string_bytes words.entry.now) → (result ≡ 0) ⊎ (result ≡ 1) }
-    ensures refused { ¬ AsksForText (map string_bytes words.entry.now) → (result ≡ 2) ⊎ ((result ≡ 1)
-        × IsTold (line_of Fault.Memory) (E.given error.old) (E.given error.new) (E.failures error.old) (E.failures error.new)) }
+    ensures answered { AsksForTextAlone (map string_bytes words.entry.now) → (result ≡ 0)
+        ⊎ (result ≡ 1) }
+    ensures refused { ¬ AsksForText (map string_bytes words.entry.now) → (result ≡ 2)
+        ⊎ ((result ≡ 1)
+        × IsTold (line_of Fault.Memory) (E.given error.old) (E.given error.new)
+        (E.failures error.old) (E.failures error.new)) }
     ensures code { (result ≡ 0) ⊎ ((result ≡ 1) ⊎ (result ≡ 2)) }
     ensures nothing { result ≡ 2 → O.given out.new ≡ O.given out.old }
     ensures expected { result ≡ 2
-        → IsTold expected_line (E.given error.old) (E.given error.new) (E.failures error.old) (E.failures error.new) }
+        → IsTold expected_line (E.given error.old) (E.given error.new) (E.failures error.old)
+        (E.failures error.new) }
     ensures failed { O.failures out.old < O.failures out.new → (result ≡ 1)
-        × IsTold (line_of Fault.Write) (E.given error.old) (E.given error.new) (E.failures error.old) (E.failures error.new) }
+        × IsTold (line_of Fault.Write) (E.given error.old) (E.given error.new)
+        (E.failures error.old) (E.failures error.new) }
     ensures memory { result ≡ 1 → (O.failures out.old < O.failures out.new)
-        ⊎ IsTold (line_of Fault.Memory) (E.given error.old) (E.given error.new) (E.failures error.old) (E.failures error.new) }
+        ⊎ IsTold (line_of Fault.Memory) (E.given error.old) (E.given error.new)
+        (E.failures error.old) (E.failures error.new) }
 {
     match asked_text(alloc, words) {
         Ok(Some(text)) => match show(out, &text) {
@@ -80,16 +91,20 @@ fn answer<O: Sink, E: Sink>(alloc: Global, words: &[String], out: &mut O, error:
     }
 }
 
-/// Does what the words ask for, of which the first is the program's name, and returns the exit code: frames are written, or how the
-/// program is used where the words have nothing else. Words that ask for no frames may ask for help or the version.
+/// Does what the words ask for, of which the first is the program's name, and returns the exit
+/// code: frames are written, or how the program is used where the words have nothing else. Words
+/// that ask for no frames may ask for help or the version.
 pub fn run<O: Sink, E: Sink>(alloc: Global, words: &[String], out: &mut O, error: &mut E) -> u8
     ensures written { result ≡ 0 → 2 ≤ length words.entry.now → ((bytes : List ℕ)
-        × AreAskedFor (map string_bytes words.entry.now) bytes × Appends (O.given out.old) (O.given out.new) bytes)
-        ⊎ (AskForNothing (map string_bytes words.entry.now) × AsksForText (map string_bytes words.entry.now)) }
+        × AreAskedFor (map string_bytes words.entry.now) bytes
+        × Appends (O.given out.old) (O.given out.new) bytes)
+        ⊎ (AskForNothing (map string_bytes words.entry.now)
+        × AsksForText (map string_bytes words.entry.now)) }
     ensures text { result ≡ 0 → (text : List ℕ) × Appends (O.given out.old) (O.given out.new) text }
     ensures usage { result ≡ 0 → length words.entry.now < 2
         → Appends (O.given out.old) (O.given out.new) usage_lines }
-    ensures answered { AsksForTextAlone (map string_bytes words.entry.now) → (result ≡ 0) ⊎ (result ≡ 1) }
+    ensures answered { AsksForTextAlone (map string_bytes words.entry.now) → (result ≡ 0)
+        ⊎ (result ≡ 1) }
     ensures broken_off { result ≡ 1 → 2 ≤ length words.entry.now
         → BreakOffAsked (map string_bytes words.entry.now) (O.given out.old) (O.given out.new)
         ⊎ AskForNothing (map string_bytes words.entry.now) }
@@ -97,18 +112,23 @@ pub fn run<O: Sink, E: Sink>(alloc: Global, words: &[String], out: &mut O, error
         → (2 ≤ length words.entry.now) × AskForNothing (map string_bytes words.entry.now) }
     ensures refused { 2 ≤ length words.entry.now → AskForNothing (map string_bytes words.entry.now)
         → ¬ AsksForText (map string_bytes words.entry.now) → (result ≡ 2) ⊎ ((result ≡ 1)
-        × IsTold (line_of Fault.Memory) (E.given error.old) (E.given error.new) (E.failures error.old) (E.failures error.new)) }
+        × IsTold (line_of Fault.Memory) (E.given error.old) (E.given error.new)
+        (E.failures error.old) (E.failures error.new)) }
     ensures code { (result ≡ 0) ⊎ ((result ≡ 1) ⊎ (result ≡ 2)) }
     ensures quiet { result ≡ 0 → E.given error.new ≡ E.given error.old }
     ensures nothing { result ≡ 2 → O.given out.new ≡ O.given out.old }
     ensures expected { result ≡ 2
-        → IsTold expected_line (E.given error.old) (E.given error.new) (E.failures error.old) (E.failures error.new) }
+        → IsTold expected_line (E.given error.old) (E.given error.new) (E.failures error.old)
+        (E.failures error.new) }
     ensures failed { O.failures out.old < O.failures out.new → (result ≡ 1)
-        × IsTold (line_of Fault.Write) (E.given error.old) (E.given error.new) (E.failures error.old) (E.failures error.new) }
+        × IsTold (line_of Fault.Write) (E.given error.old) (E.given error.new)
+        (E.failures error.old) (E.failures error.new) }
     ensures memory { result ≡ 1 → (O.failures out.old < O.failures out.new)
-        ⊎ IsTold (line_of Fault.Memory) (E.given error.old) (E.given error.new) (E.failures error.old) (E.failures error.new) }
+        ⊎ IsTold (line_of Fault.Memory) (E.given error.old) (E.given error.new)
+        (E.failures error.old) (E.failures error.new) }
     ensures told { result ≡ 1 → (fault : FaultValue)
-        × IsTold (line_of fault) (E.given error.old) (E.given error.new) (E.failures error.old) (E.failures error.new) }
+        × IsTold (line_of fault) (E.given error.old) (E.given error.new) (E.failures error.old)
+        (E.failures error.new) }
 {
     match write_asked(alloc, words, out) {
         Ok(true) => 0,

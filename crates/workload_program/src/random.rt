@@ -17,7 +17,8 @@ impl Random {
         Random { state: seed }
     }
 
-    /// Returns the next number below the bound. All of them are almost equally likely where the bound is much smaller than 2³².
+    /// Returns the next number below the bound. All of them are almost equally likely where the
+    /// bound is much smaller than 2³².
     pub fn below(&mut self, bound: u64) -> u64
         requires some { 1 ≤ bound }
         ensures below { result < bound }

@@ -51,7 +51,7 @@ pub fn draw_range(alloc: Global, random: &mut Random, shape: Shape) -> Result<Ra
     }
 }
 
-/// Draws so many ranges. Only memory may be refused.
+/// Draws `count` ranges. Only memory may be refused.
 pub fn draw_ranges(
     alloc: Global,
     random: &mut Random,

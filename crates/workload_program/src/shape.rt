@@ -17,8 +17,8 @@ const POINT_KEYS: u64 = 1_000_000;
 /// What the transactions of a file look like.
 #[derive(Clone, Copy, Debug, PartialEq, Eq)]
 pub enum Shape {
-    /// One read and one write, each of 1 to 10 keys side by side, as in `skiplisttest` of FoundationDB 7.1. All keys are
-    /// equally likely.
+    /// One read and one write, each of 1 to 10 keys side by side, as in `skiplisttest` of
+    /// FoundationDB 7.1. All keys are equally likely.
     SkipListTest,
     /// Five reads and two writes of single keys. Small keys are likelier.
     Points,

@@ -26,10 +26,12 @@ Writes the frames of one chain of batches to standard output. The same words giv
 const EXPECTED: &str =
     "workload: SHAPE (skiplisttest or points), BATCHES (1 to 65536) and TRANSACTIONS (1 to 2500) are expected\n";
 
-/// Reads the words, of which the first is the program's name. Returns `None` where they aren't as expected.
+/// Reads the words, of which the first is the program's name. Returns `None` where they aren't as
+/// expected.
 pub fn read_words(words: &[String]) -> Option<Plan>
     ensures plan { IfSome result (λ plan. AskFor plan (map string_bytes words.entry.now)) }
-    ensures none { IfNone result ((plan : PlanValue) → ¬ AskFor plan (map string_bytes words.entry.now)) }
+    ensures none { IfNone result ((plan : PlanValue)
+        → ¬ AskFor plan (map string_bytes words.entry.now)) }
 {
     let [_, name, batches, transactions] = words else {
         return None;
@@ -56,10 +58,12 @@ fn read_number(text: &str, most: u64) -> Option<u64>
     Some(number)
 }
 
-/// Tells that the words aren't as expected, and returns the exit code. A failed write changes nothing.
+/// Tells that the words aren't as expected, and returns the exit code. A failed write changes
+/// nothing.
 pub fn refuse<E: Sink>(error: &mut E) -> u8
     ensures code { result ≡ 2 }
-    ensures told { IsTold expected_line (E.given error.old) (E.given error.new) (E.failures error.old) (E.failures error.new) }
+    ensures told { IsTold expected_line (E.given error.old) (E.given error.new)
+        (E.failures error.old) (E.failures error.new) }
 {
     let _ = write_all(error, EXPECTED.as_bytes());
     2
@@ -67,8 +71,10 @@ pub fn refuse<E: Sink>(error: &mut E) -> u8
 
 /// Returns the text of help or of the version, where `clap` finds that the words ask for it.
 pub fn asked_text(alloc: Global, words: &[String]) -> Result<Option<String>, Fault>
-    ensures asked { IfOk result (λ text. IfSome text (λ _. AsksForText (map string_bytes words.entry.now))) }
-    ensures answered { IfOk result (λ text. AsksForTextAlone (map string_bytes words.entry.now) → IsSome text) }
+    ensures asked { IfOk result (λ text. IfSome text
+        (λ _. AsksForText (map string_bytes words.entry.now))) }
+    ensures answered { IfOk result (λ text. AsksForTextAlone (map string_bytes words.entry.now)
+        → IsSome text) }
     ensures memory { IfErr result (λ fault. fault ≡ Fault.Memory) }
 {
     let Err(error) = command(alloc)?.try_get_matches_from(words) else {
