@@ -22,3 +22,6 @@ pub mod JudgedBatch
 pub mod UnionWritten
 pub mod Swept
 pub mod Edges
+pub mod UnknownHistory
+pub mod Paced
+pub mod Starting

@@ -4,3 +4,5 @@ pub mod Asking
 pub mod Written
 pub mod Union
 pub mod ConflictSet
+pub mod Pace
+pub mod Unknown

@@ -1,7 +1,9 @@
 //! The conflict set: a batch is judged, what it commits is written, and the sweep goes on.
 
-ghost use Rattle.std.specs.Prelude.{◌≡◌, ◌≤◌, ◌≤ℤ◌, ◌<ℤ◌, pos, ◌++◌, List, [], length, None, Some, Err};
+ghost use Rattle.std.specs.Prelude.{◌≡◌, ◌<◌, ◌≤◌, ◌↔◌, ◌≤ℤ◌, ◌<ℤ◌, ◌-ℤ◌, pos, negsuc, ◌++◌, List, [], length};
+ghost use Rattle.std.specs.Prelude.{None, Some, Err};
 ghost use Rattle.std.specs.Prelude.{IfOk, IfErr, OnOk, OnErr, IfSome, ◌⊎◌};
+ghost use Rattle.std.specs.Int.{int_max};
 ghost use Rattle.keyspace.specs.declared.reply.Entry.{Entry};
 ghost use Rattle.keyspace.specs.Writes.{Write, at_version, committed, writes_of};
 ghost use Rattle.keyspace.specs.Judge.{judge_txns};
@@ -12,10 +14,13 @@ ghost use Rattle.stepmap.specs.Covers.{MapCovers};
 ghost use Rattle.stepmap.specs.Rooted.{Rooted};
 ghost use Rattle.conflict.specs.ConflictSet.{new_set, Remembers, IsSwept, IsOverLimit, IsOverLimitUnited};
 ghost use Rattle.conflict.specs.ConflictSet.{raised, HasRoomToWrite, HasNoRoomToWrite};
+ghost use Rattle.conflict.specs.Pace.{IsPaced};
+ghost use Rattle.conflict.specs.Unknown.{unknown_until};
 
 use crate::error::SetStop;
 use crate::judging::judge_batch;
 use crate::scratch::Scratch;
+use crate::unknown::write_every_key;
 use crate::writing::write_batch;
 use keyspace::{Batch, Reply, Sequence};
 use std::alloc::Global;
@@ -26,6 +31,9 @@ use stepmap::StepMap;
 pub const MAX_WINDOW: i64 = 1_099_511_627_776;
 
 const _: () = prove!(MAX_WINDOW == 1_099_511_627_776);
+
+// How many boundaries the write of every key needs: one at the empty key, and two for the range.
+const LEAST_LIMIT_TO_START: usize = 3;
 
 /// The committed writes of the batches resolved so far, as far back as the window: `ConflictSet` of FoundationDB 7.1.
 #[derive(Debug, Drop)]
@@ -71,6 +79,45 @@ impl ConflictSet {
         })
     }
 
+    /// Creates a set that starts at a version: what was written up to it isn't known. Each read range with a snapshot below
+    /// the version is in conflict, unless it is empty; the others are judged by what is resolved later. A set that starts at
+    /// -1 is that of [`ConflictSet::new`].
+    ///
+    /// Returns `ArenaFull` if the limit is below 3 and the version isn't -1, or `Memory` if memory is refused.
+    pub fn new_at(alloc: Global, window: i64, limit: usize, version: i64) -> Result<Self, SetStop>
+        requires least_window { pos 1 ≤ℤ window }
+        requires most_window { window ≤ℤ MAX_WINDOW }
+        requires least_limit { 1 ≤ limit }
+        requires most_limit { limit ≤ MAX_LIMIT }
+        requires least_version { negsuc 0 ≤ℤ version }
+        ensures remembers { IfOk result (λ set. Remembers set (unknown_until version)) }
+        ensures resolved { IfOk result (λ set. set.resolved ≡ version) }
+        ensures edge { IfOk result (λ set. set.map.edge ≡ int_max (version -ℤ window) (pos 0)) }
+        ensures window { IfOk result (λ set. set.window ≡ window) }
+        ensures limit { IfOk result (λ set. set.map.limit ≡ limit) }
+        ensures goes_on { IfOk result (λ set. set.stop ≡ None) }
+        ensures empty { version ≡ negsuc 0 → IfOk result (λ set. set ≡ new_set window limit) }
+        ensures full { (result ≡ Err SetStop.ArenaFull) ↔ (pos 0 ≤ℤ version) × (limit < 3) }
+    {
+        if version < 0 {
+            return ConflictSet::new(alloc, window, limit);
+        }
+        if limit < LEAST_LIMIT_TO_START {
+            return Err(SetStop::ArenaFull);
+        }
+        let mut map = StepMap::new(alloc, limit)?;
+        map.raise(edge_at(window, version));
+        write_every_key(alloc, &mut map, version)?;
+        Ok(ConflictSet {
+            alloc,
+            window,
+            resolved: version,
+            map,
+            stop: None,
+            scratch: Scratch::new(alloc),
+        })
+    }
+
     /// Judges a batch after all writes that the set remembers, and remembers what the batch commits.
     ///
     /// An error is final: every later call returns the same one. The set still remembers what it remembered before.
@@ -88,6 +135,8 @@ impl ConflictSet {
         ensures swept { IfOk result (λ reply. (ws : List Write) → Rooted self.old.map ws
             → IsSwept (edge self.old.window batch.now) self.old.map self.new.map (ws ++ writes_of batch.now reply)
             (committed batch.now.txns reply.entries)) }
+        ensures paced { IfOk result (λ reply. IsPaced (edge self.old.window batch.now) batch.now.version
+            self.old.map self.new.map (committed batch.now.txns reply.entries)) }
         ensures resolved { OnOk result (self.new.resolved ≡ batch.now.version) }
         ensures unresolved { OnErr result (self.new.resolved ≡ self.old.resolved) }
         ensures window { self.new.window ≡ self.old.window }
@@ -143,6 +192,27 @@ impl ConflictSet {
     {
         self.map.boundaries()
     }
+
+    /// Returns how many boundaries there may be.
+    pub fn limit(&self) -> usize
+        ensures limit { result ≡ self.now.map.limit }
+    {
+        self.map.limit()
+    }
+
+    /// Returns the version of the batch resolved last, or that at which the set started.
+    pub fn version(&self) -> i64
+        ensures version { result ≡ self.now.resolved }
+    {
+        self.resolved
+    }
+
+    /// Returns the edge: what was written below this version is forgotten, or will be.
+    pub fn edge(&self) -> i64
+        ensures edge { result ≡ self.now.map.edge }
+    {
+        self.map.edge()
+    }
 }
 
 // Returns the edge of a batch: its version minus the window, or 0 where that is negative.
@@ -151,7 +221,17 @@ fn edge_of(window: i64, batch: &Batch) -> i64
     requires most_window { window ≤ℤ MAX_WINDOW }
     ensures edge { result ≡ edge window batch.now }
 {
-    (batch.version - window).max(0)
+    edge_at(window, batch.version)
+}
+
+// Returns the version minus the window, or 0 where that is negative.
+fn edge_at(window: i64, version: i64) -> i64
+    requires least_window { pos 1 ≤ℤ window }
+    requires most_window { window ≤ℤ MAX_WINDOW }
+    requires least_version { negsuc 0 ≤ℤ version }
+    ensures edge { result ≡ int_max (version -ℤ window) (pos 0) }
+{
+    (version - window).max(0)
 }
 
 // Judges a batch, raises the edge to this one, writes what the batch commits, and sweeps on.
@@ -174,6 +254,8 @@ fn resolve_at(
         → Rooted steps.new (ws ++ writes_of batch.now reply)) }
     ensures swept { IfOk result (λ reply. (ws : List Write) → Rooted steps.old ws
         → IsSwept edge steps.old steps.new (ws ++ writes_of batch.now reply) (committed batch.now.txns reply.entries)) }
+    ensures paced { IfOk result (λ reply. IsPaced edge batch.now.version steps.old steps.new
+        (committed batch.now.txns reply.entries)) }
     ensures edge { OnOk result (steps.new.edge ≡ edge) }
     ensures newest { OnOk result (AreUpTo batch.now.version steps.new.boundaries) }
     ensures limit { steps.new.limit ≡ steps.old.limit }

@@ -2,6 +2,7 @@
 
 ghost use Rattle.conflict.specs.Written.{RunsTellOverlap};
 ghost use Rattle.conflict.specs.InBatch.{HistoryFirst};
+ghost use Rattle.conflict.specs.Unknown.{HitsCovered, CommitsCovered, HitsBelow, HitsFromOn};
 
 /// A range overlaps one of a list exactly if the run of one of these has a gap of its run, where the keys have the begins
 /// of those ranges that aren't empty.
@@ -14,4 +15,13 @@ pub fn runs()
 /// The plain scan may ask the history for all transactions first, and then go through the batch in order.
 pub fn history_first()
     ensures scan { HistoryFirst }
+{}
+
+/// One write of every key represents a history that isn't known. It hits what any history up to its version hits: each read
+/// range with a snapshot below the version, unless that is empty. It hits no other.
+pub fn unknown_history()
+    ensures covered { HitsCovered }
+    ensures commits { CommitsCovered }
+    ensures below { HitsBelow }
+    ensures from_on { HitsFromOn }
 {}

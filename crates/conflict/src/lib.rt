@@ -5,10 +5,11 @@
 //! each transaction by the answers alone. Those that are left `in_batch` judges in order:
 //! a batch knows which gaps between its keys each of its ranges covers, and `gaps` keeps those that earlier transactions
 //! wrote. What the batch commits is marked by `marking`, its `union` is gathered by begins, and `writing` writes that.
-//! `laws` ties these parts to the reference definitions.
+//! `laws` ties these parts to the reference definitions. A set that starts at a version has one write of every key, by
+//! `unknown`, in place of what was written before.
 //!
-//! The layer above may use the contracts of [`ConflictSet`] alone, which see it as its window, the greatest version
-//! resolved, its step map and its stop.
+//! The layer above may use the contracts of [`ConflictSet`], which see it as its window, the greatest version resolved, its
+//! step map and its stop, and the laws of [`laws`].
 #![tactic(auto)]
 
 mod asking;
@@ -18,11 +19,12 @@ mod gaps;
 mod history;
 mod in_batch;
 mod judging;
-mod laws;
+pub mod laws;
 mod marking;
 mod read_name;
 mod scratch;
 mod union;
+mod unknown;
 mod writing;
 
 pub use conflict_set::{ConflictSet, MAX_WINDOW};

@@ -19,6 +19,7 @@ ghost use Rattle.stepmap.specs.Laws.{IsWriting};
 ghost use Rattle.conflict.specs.declared.union.Span as span_type;
 ghost use Rattle.conflict.specs.Union.{Spans, AreSpanned};
 ghost use Rattle.conflict.specs.ConflictSet.{IsOverLimit, IsOverLimitUnited, HasRoomToWrite, HasNoRoomToWrite};
+ghost use Rattle.conflict.specs.Pace.{after_writes, with_written};
 
 use crate::error::SetStop;
 use crate::marking::mark_written;
@@ -47,7 +48,8 @@ pub fn write_batch(
     ensures limit { steps.new.limit ≡ steps.old.limit }
     ensures few { IfOk result (λ count. 2 * count ≤ MAX_LIMIT) }
     ensures united { IfOk result (λ count. (united : List Range)
-        × Unites united (committed batch.now.txns entries.now) × (length united ≡ count)) }
+        × Unites united (committed batch.now.txns entries.now) × (length united ≡ count)
+        × (steps.new ≡ with_written united batch.now.version steps.old)) }
     ensures covers { OnOk result ((ws : List Write) → MapCovers steps.old ws
         → MapCovers steps.new (ws ++ at_version batch.now.version (committed batch.now.txns entries.now))) }
     ensures rooted { OnOk result ((ws : List Write) → Rooted steps.old ws
@@ -133,6 +135,8 @@ fn write_prepared(steps: &mut StepMap, txns: &Txns, spans: &[Span], version: i64
         → IsWriting united version 0 steps.old steps.old }
     ensures written { (united : List Range) → AreSpanned (ranges_in txns.now) spans.now united
         → IsWriting united version (length united) steps.old steps.new }
+    ensures exact { (united : List Range) → AreSpanned (ranges_in txns.now) spans.now united
+        → steps.new ≡ after_writes united version steps.old }
     ensures edge { steps.new.edge ≡ steps.old.edge }
     ensures limit { steps.new.limit ≡ steps.old.limit }
 {

@@ -159,6 +159,20 @@ impl StepMap {
         self.boundaries.len()
     }
 
+    /// Returns how many boundaries there may be.
+    pub fn limit(&self) -> usize
+        ensures limit { result ≡ self.now.limit }
+    {
+        self.limit
+    }
+
+    /// Returns the edge: a version below it tells nothing.
+    pub fn edge(&self) -> i64
+        ensures edge { result ≡ self.now.edge }
+    {
+        self.edge
+    }
+
     /// Takes all the memory that writing ranges with keys of these lengths needs, in place of what was taken before. Such
     /// ranges can then be written, in this order. Where the boundaries, and two for each range, exceed the limit, it
     /// sweeps a whole round from the front first.

@@ -1,12 +1,15 @@
-use Rattle.std.proofs.Common.{Err, w64, ◌≡◌, ◌≤◌, ◌+◌, ◌*◌, ◌⊎◌, List, [], ◌++◌, ap, sym, subst, ◌∙◌}
+use Rattle.std.proofs.Common.{Err, w64, ◌≡◌, ◌≤◌, ◌+◌, ◌*◌, ◌⊎◌, List, [], ◌++◌, length, ap, sym, subst, ◌∙◌}
 use Rattle.std.proofs.lemmas.Int.{to_z-of_z}
 use Rattle.keyspace.specs.Judge.{judge_txns}
 use Rattle.keyspace.specs.Writes.{Write, at_version, committed, writes_of}
 use Rattle.stepmap.specs.Covers.{MapCovers}
 use Rattle.stepmap.specs.Rooted.{Ends, Rooted}
 use Rattle.stepmap.specs.StepMap.{Steps}
-use Rattle.stepmap.specs.Sweeping.{rest}
+use Rattle.stepmap.specs.Sweeping.{rest, after_sweep}
+use Rattle.stepmap.specs.Uniting.{Unites}
+use Rattle.keys.specs.declared.range.Range.{Range}
 use Rattle.conflict.specs.ConflictSet.{IsSwept, IsOverLimitUnited, raised, HasRoomToWrite, HasNoRoomToWrite}
+use Rattle.conflict.specs.Pace.{with_written, IsPaced}
 use Rattle.conflict.proofs.Swept.{on_err, since_raised, swept_on}
 use Rattle.conflict.proofs.UnionWritten.{of_err}
 use Rattle.conflict.proofs.conflict_set.resolve_at.Goals as goal
@@ -99,7 +102,9 @@ returns-clause-swept c = λ ws rooted.
     ⊎ ((mid.round ≡ old.round) × (rest mid ≤ rest old + 2 * c.in_ok-count.count)) =
     since_raised old c.raise.new.self mid c.args.edge all c.in_ok-count.count raised
     (ap (λ (m : Steps). m.round) c.raise.ensures.map) (ap rest c.raise.ensures.map) wrote in
-    let united = c.in_ok-count.ensures.united in
+    let wrote_all = c.in_ok-count.ensures.united in
+    let united : (united : List Range) × Unites united (committed txns entries) × (length united ≡ c.in_ok-count.count) =
+    (wrote_all.0, wrote_all.1, wrote_all.2) in
     subst (λ es. IsSwept c.args.edge old now (ws ++ at_version version (committed txns es)) (committed txns es))
     (sym same)
     (swept_on c.args.edge old mid now all (committed txns entries) c.in_ok-count.count united mid_edge before
@@ -116,3 +121,22 @@ returns-clause-room c =
     subst (λ es. HasRoomToWrite (raised c.args.edge c.args.steps.now) (committed txns es)) (sym same)
     (subst (λ m. HasRoomToWrite m (committed txns entries)) up
     c.in_ok-count.ensures.room)
+
+pub returns-clause-paced : goal.returns-clause-paced
+returns-clause-paced c =
+    let txns = c.args.batch.now.txns in
+    let version = c.args.batch.now.version in
+    let entries = c.deref.result.now in
+    let old = c.args.steps.now in
+    let mid = c.write_batch.new.steps in
+    let now = c.sweep.new.self in
+    let same = c.new-2.ensures.entries ∙ c.new.ensures.items ∙ sym c.deref.ensures.value in
+    let up : c.raise.new.self ≡ raised c.args.edge old =
+    c.raise.ensures.map ∙ ap (λ e. raised e old) (to_z-of_z w64 c.args.edge c.ranges.edge) in
+    let wrote = c.in_ok-count.ensures.united in
+    subst (λ es. IsPaced c.args.edge version old now (committed txns es)) (sym same) (
+      wrote.0,
+      wrote.1,
+      c.sweep.ensures.map ∙ ap (λ n. after_sweep (3 * n + 10) mid) (sym wrote.2)
+          ∙ ap (after_sweep (3 * length wrote.0 + 10)) (wrote.3 ∙ ap (with_written wrote.0 version) up),
+    )

@@ -8,10 +8,12 @@ use Rattle.keyspace.specs.BatchRanges.{is_write_in}
 use Rattle.keyspace.specs.Writes.{committed}
 use Rattle.stepmap.specs.StepMap.{Steps}
 use Rattle.stepmap.specs.Laws.{IsWriting, IsWritten}
+use Rattle.stepmap.specs.Limit.{prepared}
 use Rattle.stepmap.specs.Sweeping.{rest}
 use Rattle.stepmap.specs.Uniting.{Unites}
 use Rattle.stepmap.specs.Writing.{AreApart}
 use Rattle.conflict.specs.Union.{AreSpanned, picked}
+use Rattle.conflict.specs.Pace.{after_writes}
 use Rattle.conflict.proofs.Spanned.{spanned_count}
 use Rattle.conflict.proofs.UnionWritten.{IsUnion, apart, all_written, over_limit, full_of, of_err}
 use Rattle.conflict.proofs.writing.write_batch.Goals.{After-spans-spans, After-write_prepared}
@@ -102,6 +104,31 @@ all c one =
     all_written c.ranges-ranges.result c.spans-spans.result.now (committed c.args.batch.now.txns c.args.entries.now)
     one c.writing.ensures.in_turn c.args.batch.now.version c.prepare.new.self c.write_prepared.new.steps
     (wrote c)
+
+-- exactly
+wrote_exactly : (c : After-write_prepared) → (united : List Range)
+    → AreSpanned c.ranges-ranges.result c.spans-spans.result.now united
+    → c.write_prepared.new.steps ≡ after_writes united c.args.batch.now.version c.prepare.new.self
+wrote_exactly c united spans =
+    let version = c.args.batch.now.version in
+    let fits : SFits w64 version = search rules in
+    subst (λ v. c.write_prepared.new.steps ≡ after_writes united v c.prepare.new.self)
+    (to_z-of_z w64 version fits) (rw c.note_keys.ensures.same at c.write_prepared.ensures.exact united
+    (subst (λ (ranges : List Range). AreSpanned ranges c.spans-spans.result.now united) c.ranges-ranges.ensures.ranges spans))
+
+pub returns-clause-united : goal.returns-clause-united
+returns-clause-united c =
+    let here = (goal.at.returns-clause-united c).After-write_prepared in
+    let one = union (goal.at.returns-clause-united c).After-spans-spans in
+    let as_many = spanned_count c.ranges-ranges.result c.spans-spans.result.now one.0 one.1 in
+    let told = c.in_ok-prepare.ensures.ok
+    ∙ ap (λ lengths. prepared lengths c.args.steps.now)
+    (c.deref-2.ensures.value ∙ c.in_ok-gather_lengths.ensures.lengths one.0 one.1) in (
+      one.0,
+      one.2,
+      as_many,
+      wrote_exactly here one.0 one.1 ∙ ap (after_writes one.0 c.args.batch.now.version) told,
+    )
 
 pub returns-clause-covers : goal.returns-clause-covers
 returns-clause-covers c = λ ws covers.

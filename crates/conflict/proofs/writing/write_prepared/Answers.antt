@@ -6,7 +6,10 @@ use Rattle.keys.specs.declared.range.Range.{Range}
 use Rattle.stepmap.specs.Laws.{IsWriting, MayBeNext}
 use Rattle.keyspace.specs.BatchRanges.{ranges_in}
 use Rattle.conflict.specs.declared.union.Span.{Span}
+use Rattle.stepmap.specs.Writing.{after_write}
 use Rattle.conflict.specs.Union.{Spans}
+use Rattle.conflict.specs.Pace.{after_writes}
+use Rattle.conflict.proofs.Paced.{after_writes_more, after_writes_all}
 use Rattle.conflict.proofs.Spanned.{span_at, spanned_count, lengths_same, empty_same, after_same}
 use Rattle.conflict.proofs.writing.write_prepared.Goals.{In-Some, In_default}
 use Rattle.conflict.proofs.writing.write_prepared.Goals as goal
@@ -87,6 +90,11 @@ loop-next-preserved c =
           turn.step i at.0 c.args.steps.now c.loop-next.steps c.write.new.self
           (c.loop-next.invariant.written united spanned) at.1
           (map ∙ after_same span.2 at.2 version c.loop-next.steps);
+      exact = λ united spanned.
+          let at = span_at ranges c.args.spans.now united spanned i span.0 span.1 in
+          map ∙ after_same span.2 at.2 version c.loop-next.steps
+          ∙ ap (after_write at.0 version) (c.loop-next.invariant.exact united spanned)
+          ∙ sym (after_writes_more united i at.0 version c.args.steps.now at.1);
       edge = ap (λ m. m.edge) map ∙ c.loop-next.invariant.edge;
       limit = ap (λ m. m.limit) map ∙ c.loop-next.invariant.limit;
     }
@@ -107,3 +115,12 @@ returns-clause-written c = λ united spanned.
     (to_z-of_z w64 c.args.version c.ranges.version)
     (subst (λ n. IsWriting united (to_z w64 (of_z w64 c.args.version)) n c.args.steps.now c.loop-next.steps)
     (all ∙ sym count) (c.loop-next.invariant.written united spanned))
+
+pub returns-clause-exact : goal.returns-clause-exact
+returns-clause-exact c = λ united spanned.
+    let all = all_written (goal.at.returns-clause-exact c).In_default in
+    let count = spanned_count (ranges_in c.args.txns.now) c.args.spans.now united spanned in
+    subst (λ version. c.loop-next.steps ≡ after_writes united version c.args.steps.now)
+    (to_z-of_z w64 c.args.version c.ranges.version)
+    (c.loop-next.invariant.exact united spanned
+    ∙ after_writes_all united c.loop-next.index (to_z w64 (of_z w64 c.args.version)) c.args.steps.now (all ∙ sym count))

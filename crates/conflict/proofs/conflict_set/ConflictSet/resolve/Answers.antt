@@ -19,6 +19,7 @@ use Rattle.conflict.specs.ConflictSet.{
   HasRoomToWrite,
   HasNoRoomToWrite,
 }
+use Rattle.conflict.specs.Pace.{IsPaced}
 use Rattle.conflict.proofs.Edges.{edge_rises, edge_below, edge_handed, at_most, from_least}
 use Rattle.conflict.proofs.conflict_set.ConflictSet.resolve.Goals as goal
 
@@ -123,6 +124,20 @@ returns-in-Ok-clause-swept c = λ ws rooted.
     subst (λ m. IsSwept (edge c.args.self.now.window b) m c.resolve_at.new.steps all ranges) map
     (subst (λ e. IsSwept e c.self.inside.map c.resolve_at.new.steps all ranges) is
     (c.in-Ok.ensures.swept ws (subst (λ m. Rooted m ws) (sym map) rooted)))
+
+pub returns-in-Ok-clause-paced : goal.returns-in-Ok-clause-paced
+returns-in-Ok-clause-paced c =
+    let b = c.args.batch.now in
+    let given = c.edge_of-edge.result in
+    let fits : SFits w64 given = search rules in
+    let window_fits : SFits w64 c.self.inside.window = search rules in
+    let window : c.self.inside.window ≡ c.args.self.now.window = ap (λ (s : SetState). s.window) c.self.view_is in
+    let map : c.self.inside.map ≡ c.args.self.now.map = ap (λ (s : SetState). s.map) c.self.view_is in
+    let is = edge_handed c.self.inside.window given b window_fits fits c.edge_of-edge.ensures.edge
+    ∙ ap (λ w. edge w b) window in
+    let ranges = committed b.txns c.in-Ok.reply.entries in
+    subst (λ m. IsPaced (edge c.args.self.now.window b) b.version m c.resolve_at.new.steps ranges) map
+    (subst (λ e. IsPaced e b.version c.self.inside.map c.resolve_at.new.steps ranges) is c.in-Ok.ensures.paced)
 
 pub returns-in-Err-clause-kept : goal.returns-in-Err-clause-kept
 returns-in-Err-clause-kept c = λ ws remembers.
