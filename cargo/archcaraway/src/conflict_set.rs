@@ -5,12 +5,14 @@
 // | function | condition | how it is met |
 // |---|---|---|
 // | `conflict::ConflictSet::new` | `least_window`, `most_window`, `least_limit`, `most_limit` | `check_set`: `NewError::Window`, `NewError::Limit` |
+// | `conflict::ConflictSet::new_at` | the same, and `least_version` | `check_set`, `check_version`: `NewError::Version` |
 // | `conflict::ConflictSet::resolve` | `rising`: the version is above that of the batch resolved last | `ResolveError::Version`, by the field `version` |
-// | `conflict::ConflictSet::boundaries` | none | |
+// | `conflict::ConflictSet::boundaries`, `limit`, `edge` | none | |
 
 use crate::batch::Batch;
 use crate::reply::Reply;
-use crate::stop::{NewError, Stop, check_set, stop_of_set};
+use crate::stop::{NewError, Stop, check_set, check_version, stop_of_set};
+use conflict::SetStop;
 use rattle_std::alloc::Global;
 use std::error::Error;
 use std::fmt;
@@ -53,6 +55,38 @@ impl ConflictSet {
         })
     }
 
+    /// Creates a set that starts at a version, from -1 on, for a store that has been written before.
+    ///
+    /// What was written up to the version is not known: each read range with a snapshot below it
+    /// conflicts, unless the range is empty. The first batch has a greater version. At -1 this is
+    /// [`new`](ConflictSet::new); at any other version the limit must be 3 or more.
+    ///
+    /// ```
+    /// use archcaraway::{BatchBuilder, ConflictSet, MAX_LIMIT, Txn, Verdict, WINDOW};
+    ///
+    /// let mut set = ConflictSet::new_at(WINDOW, MAX_LIMIT, 1_000)?;
+    /// let batch = BatchBuilder::new(1_000, 1_001)
+    ///     .txn(Txn::at(900).read_key("k"))
+    ///     .txn(Txn::at(1_000).read_key("k"))
+    ///     .build()?;
+    /// let reply = set.resolve(&batch)?;
+    /// assert!(reply.verdicts().eq([Verdict::Conflict, Verdict::Committed]));
+    /// # Ok::<(), Box<dyn std::error::Error>>(())
+    /// ```
+    pub fn new_at(window: i64, limit: usize, version: i64) -> Result<Self, NewError> {
+        check_set(window, limit)?;
+        check_version(version)?;
+        match conflict::ConflictSet::new_at(Global, window, limit, version) {
+            Ok(set) => Ok(ConflictSet {
+                set,
+                version,
+                stop: None,
+            }),
+            Err(SetStop::Memory) => Err(NewError::Memory),
+            Err(SetStop::ArenaFull) => Err(NewError::LimitAtVersion(limit)),
+        }
+    }
+
     /// Judges a batch after all writes in the set, and adds the writes that the batch commits.
     ///
     /// After [`ResolveError::Version`] the set is unchanged. A stop is final: every later call
@@ -83,7 +117,17 @@ impl ConflictSet {
         self.set.boundaries()
     }
 
-    /// Returns the version of the batch resolved last, or -1.
+    /// Returns how many boundaries there may be.
+    pub fn limit(&self) -> usize {
+        self.set.limit()
+    }
+
+    /// Returns the edge: what was written below this version is forgotten, or will be.
+    pub fn edge(&self) -> i64 {
+        self.set.edge()
+    }
+
+    /// Returns the version of the batch resolved last, or that at which the set started.
     pub fn version(&self) -> i64 {
         self.version
     }

@@ -6,13 +6,15 @@
 // |---|---|---|
 // | `resolver::Core::new` | `least_proxies`, `most_proxies` | `check_proxies`: `NewError::Proxies` |
 // | | `least_window`, `most_window`, `least_limit`, `most_limit` | `check_set`: `NewError::Window`, `NewError::Limit` |
+// | `resolver::Core::new_at` | the same, and `least_version` | the same, and `check_version`: `NewError::Version` |
 // | `resolver::Core::admit` | `known`: there is such a proxy | `check_proxy`: `CoreError::Proxy` |
 // | `resolver::Core::give` | `known`: there is such a proxy | `check_proxy`: `CoreError::Proxy` |
-// | `resolver::Core::finish`, `owed`, `proxies`, `stop` | none | |
+// | `resolver::Core::owes` | `known`: there is such a proxy | `next` asks only of those that there are |
+// | `resolver::Core::finish`, `owed`, `held`, `version`, `set`, `proxies`, `stop` | none | |
 
 use crate::batch::Batch;
 use crate::reply::Answer;
-use crate::stop::{NewError, Stop, check_proxies, check_set, stop_of};
+use crate::stop::{NewError, Stop, check_proxies, check_set, check_version, stop_of};
 use rattle_std::alloc::Global;
 use std::error::Error;
 use std::fmt;
@@ -48,6 +50,39 @@ impl Core {
         Ok(Core(core.map_err(|_| NewError::Memory)?))
     }
 
+    /// Creates a resolver that starts at a version, from -1 on, for a store that has been written
+    /// before.
+    ///
+    /// The first batch follows that version. A batch with a lower previous version is answered
+    /// with [`Answer::Never`], and one with a higher one is held. What was written up to the version
+    /// is not known, as in [`ConflictSet::new_at`](crate::ConflictSet::new_at).
+    ///
+    /// ```
+    /// use archcaraway::{Answer, BatchBuilder, Core, MAX_LIMIT, WINDOW};
+    ///
+    /// let mut core = Core::new_at(1, WINDOW, MAX_LIMIT, 1_000_000_000)?;
+    /// core.admit(0, BatchBuilder::new(999_999_999, 1_000_000_000).build()?)?;
+    /// core.admit(0, BatchBuilder::new(1_000_000_000, 1_000_000_001).build()?)?;
+    /// assert_eq!(core.give(0)?, Some(Answer::Never(1_000_000_000)));
+    /// assert!(matches!(core.give(0)?, Some(Answer::Reply(_))));
+    /// # Ok::<(), Box<dyn std::error::Error>>(())
+    /// ```
+    pub fn new_at(
+        proxies: usize,
+        window: i64,
+        limit: usize,
+        version: i64,
+    ) -> Result<Self, NewError> {
+        check_proxies(proxies)?;
+        check_set(window, limit)?;
+        check_version(version)?;
+        match resolver::Core::new_at(Global, proxies, window, limit, version) {
+            Ok(core) => Ok(Core(core)),
+            Err(resolver::Stop::ArenaFull) => Err(NewError::LimitAtVersion(limit)),
+            Err(_) => Err(NewError::Memory),
+        }
+    }
+
     /// Takes a batch of a proxy: holds it, or answers it and the batches that waited for it.
     ///
     /// If there is no such proxy, the core is unchanged and the batch is dropped. A stop is final:
@@ -73,6 +108,37 @@ impl Core {
     /// Returns the number of answers owed to all proxies.
     pub fn owed(&self) -> usize {
         self.0.owed()
+    }
+
+    /// Returns the lowest proxy that is owed an answer, or `None` if none is.
+    pub fn next(&self) -> Option<usize> {
+        (0..self.proxies()).find(|proxy| self.0.owes(*proxy))
+    }
+
+    /// Returns the number of batches that wait for their previous version.
+    pub fn held(&self) -> usize {
+        self.0.held()
+    }
+
+    /// Returns the version of the batch processed last, or that at which the core started.
+    pub fn version(&self) -> i64 {
+        self.0.version()
+    }
+
+    /// Returns the number of boundaries of the conflict set.
+    pub fn boundaries(&self) -> usize {
+        self.0.set().boundaries()
+    }
+
+    /// Returns how many boundaries the conflict set may have.
+    pub fn limit(&self) -> usize {
+        self.0.set().limit()
+    }
+
+    /// Returns the edge of the conflict set: what was written below this version is forgotten, or
+    /// will be.
+    pub fn edge(&self) -> i64 {
+        self.0.set().edge()
     }
 
     /// Returns the number of proxies.

@@ -55,6 +55,10 @@ pub enum NewError {
     Window(i64),
     /// The limit is not 1 to [`MAX_LIMIT`] boundaries.
     Limit(usize),
+    /// The limit is below 3, which a start at a version other than -1 needs.
+    LimitAtVersion(usize),
+    /// The version to start at is below -1.
+    Version(i64),
     /// An allocation failed.
     Memory,
 }
@@ -66,6 +70,10 @@ impl fmt::Display for NewError {
             NewError::Capacity(found) => write!(f, "capacity {found} is not 1 to {MAX_CAPACITY}"),
             NewError::Window(found) => write!(f, "window {found} is not 1 to {MAX_WINDOW}"),
             NewError::Limit(found) => write!(f, "limit {found} is not 1 to {MAX_LIMIT}"),
+            NewError::LimitAtVersion(found) => {
+                write!(f, "limit {found} is below 3, too small for a start at a version")
+            }
+            NewError::Version(found) => write!(f, "version {found} is below -1"),
             NewError::Memory => f.write_str("allocation failed"),
         }
     }
@@ -91,6 +99,10 @@ pub(crate) fn check_capacity(capacity: usize) -> Result<(), NewError> {
 pub(crate) fn check_set(window: i64, limit: usize) -> Result<(), NewError> {
     check((1..=MAX_WINDOW).contains(&window), NewError::Window(window))?;
     check((1..=MAX_LIMIT).contains(&limit), NewError::Limit(limit))
+}
+
+pub(crate) fn check_version(version: i64) -> Result<(), NewError> {
+    check(version >= -1, NewError::Version(version))
 }
 
 fn check(holds: bool, error: NewError) -> Result<(), NewError> {

@@ -47,7 +47,7 @@ module _ (proxy : ℕ) (a : Answer) where
   abbrev only_to : ℕ → List Answer
   only_to other = cond (proxy == other) (a ∷ []) []
 
-  answers_to-one : (other : ℕ) → answers_to other ((proxy, a) ∷ []) ≡ only_to other
+  pub answers_to-one : (other : ℕ) → answers_to other ((proxy, a) ∷ []) ≡ only_to other
   answers_to-one other =
       elim (proxy == other) as
       (λ own. map (λ (x : ℕ × Answer). x.1) (cond own ((proxy, a) ∷ []) []) ≡ cond own (a ∷ []) []) [

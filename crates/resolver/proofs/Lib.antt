@@ -28,3 +28,4 @@ pub mod Unchanged
 pub mod Accounts
 pub mod Shares
 pub mod NewCore
+pub mod OpenedCore

@@ -11,7 +11,7 @@ use Rattle.resolver.specs.Owed.{OwedView, owed_to}
 use Rattle.resolver.specs.Core.{core_of, IsCore, IsIn}
 
 -- nothing is owed to any proxy
-none_owed : (proxies proxy : ℕ) → owed_to proxy (replicate proxies []) ≡ []
+pub none_owed : (proxies proxy : ℕ) → owed_to proxy (replicate proxies []) ≡ []
 none_owed zero proxy = refl
 none_owed (suc proxies) zero = refl
 none_owed (suc proxies) (suc proxy) = none_owed proxies proxy

@@ -3,6 +3,7 @@ pub mod Stop
 pub mod Owed
 pub mod Core
 pub mod Stands
+pub mod OpeningLog
 pub mod Lanes
 pub mod Resolver
 pub mod Share

@@ -9,6 +9,7 @@ ghost use Rattle.resolver.specs.Lanes.{Lanes};
 ghost use Rattle.resolver.specs.Resolver.{ResolverState, TakesOnlyFrom, StandsOver};
 ghost use Rattle.resolver.specs.Share.{HasMoreUnanswered, KeepsShare};
 ghost use Rattle.resolver.specs.Settled.{Settled};
+ghost use Rattle.resolver.specs.OpeningLog.{OpeningsStart};
 
 /// The logs of the headline hold no batch of a proxy without a client: of no other is a batch taken, judged or answered.
 pub fn no_other_proxy()
@@ -25,4 +26,10 @@ pub fn no_other_proxy()
 pub fn within_share()
     ensures within { (share proxy : ℕ) (r : ResolverState) (c : Client) (l : Lanes) → slice_get r.lanes proxy ≡ Some l
         → Lane c.requests l.requests → Lane l.replies c.replies → KeepsShare share c → ¬ HasMoreUnanswered share proxy r }
+{}
+
+/// A core that starts at a version is one whose reference resolver is at that version, knows nothing of what was written up
+/// to it, and has neither a batch nor an answer of any proxy.
+pub fn openings()
+    ensures start { OpeningsStart }
 {}

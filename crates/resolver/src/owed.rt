@@ -1,6 +1,7 @@
 //! The answers owed to each proxy, in the order in which they were made.
 
-ghost use Rattle.std.specs.Prelude.{◌≡◌, ◌+◌, ◌^◌, ◌<◌, [], ◌∷◌, ◌++◌, length, replicate, IfOk, OnOk, IfNone, IfSome, option_to_list};
+ghost use Rattle.std.specs.Prelude.{◌≡◌, ◌+◌, ◌^◌, ◌<◌, ◌↔◌, [], ◌∷◌, ◌++◌, length, replicate, IfOk, OnOk, IfNone, IfSome};
+ghost use Rattle.std.specs.Prelude.{IsTrue, option_to_list};
 ghost use Rattle.resolver.specs.Owed.{owed_to, owed_also, given_oldest, owed_count, HasRoomFor};
 ghost use Rattle.resolver.specs.declared.resolver_core.TheConstants.{MAX_PROXIES};
 
@@ -79,6 +80,14 @@ impl Owed {
         let answer = self.queues[proxy].pop_front()?;
         self.count -= 1;
         Some(answer)
+    }
+
+    /// Returns `true` if an answer is owed to the proxy.
+    pub fn owes(&self, proxy: usize) -> bool
+        requires known { proxy < length self.now.answers }
+        ensures owes { IsTrue result ↔ (0 < length (owed_to proxy self.now.answers)) }
+    {
+        !self.queues[proxy].is_empty()
     }
 
     /// Returns the number of answers owed to all proxies.

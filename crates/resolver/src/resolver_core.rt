@@ -1,7 +1,8 @@
 //! The resolver over values, which stops for good at the first refusal.
 
-ghost use Rattle.std.specs.Prelude.{◌≡◌, ◌<◌, ◌≤◌, ◌≤ℤ◌, ◌<ℤ◌, ◌↔◌, pos, List, [], ◌∷◌, ◌++◌, length, Some, None, Err};
-ghost use Rattle.std.specs.Prelude.{◌+◌, ◌^◌, OnOk, IfOk, IfErr, IfSome, option_to_list};
+ghost use Rattle.std.specs.Prelude.{◌≡◌, ◌≢◌, ◌<◌, ◌≤◌, ◌≤ℤ◌, ◌<ℤ◌, ◌↔◌, pos, negsuc, List, [], ◌∷◌, ◌++◌, length};
+ghost use Rattle.std.specs.Prelude.{Some, None, Err};
+ghost use Rattle.std.specs.Prelude.{◌+◌, ◌^◌, OnOk, IfOk, IfErr, IfSome, IsTrue, option_to_list};
 ghost use Rattle.keyspace.specs.Run.{Step, Take, Finish, run};
 ghost use Rattle.stepmap.specs.declared.step_map.TheConstants.{MAX_LIMIT};
 ghost use Rattle.conflict.specs.declared.conflict_set.TheConstants.{MAX_WINDOW};
@@ -9,14 +10,17 @@ ghost use Rattle.chain.specs.declared.gate.TheConstants.{MAX_HELD};
 ghost use Rattle.resolver.specs.Owed.{owed_to, given_oldest, owed_count};
 ghost use Rattle.resolver.specs.Core.{Given, GoesOn, StopsAtLimit};
 ghost use Rattle.resolver.specs.Stands.{Stands, given_also};
+ghost use Rattle.resolver.specs.OpeningLog.{opening_log};
 
 mod answering;
+mod opened;
 
 use crate::owed::Owed;
 use crate::stop::{OpenError, Stop};
 use chain::{Gate, Replies};
 use conflict::ConflictSet;
 use keyspace::{Answer, Batch};
+use opened::replies_at;
 use std::alloc::Global;
 use std::marker::Model;
 
@@ -82,6 +86,53 @@ impl Core {
             gate: Gate::new(alloc),
             replies: Replies::new(alloc),
             owed: Owed::new(alloc, proxies)?,
+            stop: None,
+        })
+    }
+
+    /// Creates a resolver that starts at a version, from -1 on: the first batch that it processes follows that version, and
+    /// what was written up to it isn't known. Each read range with a snapshot below the version is in conflict, unless it is
+    /// empty. The resolver answers `Never` to batches whose previous version is below it. At -1 this is [`Core::new`].
+    ///
+    /// Contracts see it as a resolver that has processed one batch already, which wrote every key at the version and which
+    /// none of the proxies sent. Returns `ArenaFull` if the limit is below 3 and the version isn't -1, or `Memory` if memory is
+    /// refused.
+    pub fn new_at(
+        alloc: Global,
+        proxies: usize,
+        window: i64,
+        limit: usize,
+        version: i64,
+    ) -> Result<Self, Stop>
+        requires least_proxies { 1 ≤ proxies }
+        requires most_proxies { proxies ≤ MAX_PROXIES }
+        requires least_window { pos 1 ≤ℤ window }
+        requires most_window { window ≤ℤ MAX_WINDOW }
+        requires least_limit { 1 ≤ limit }
+        requires most_limit { limit ≤ MAX_LIMIT }
+        requires least_version { negsuc 0 ≤ℤ version }
+        ensures stands { IfOk result (λ core. Stands core (opening_log proxies version) (λ _. [])) }
+        ensures open { IfOk result (λ core. core.stop ≡ None) }
+        ensures proxies { IfOk result (λ core. length core.owed ≡ proxies) }
+        ensures window { IfOk result (λ core. core.set.window ≡ window) }
+        ensures limit { IfOk result (λ core. core.set.map.limit ≡ limit) }
+        ensures full { (result ≡ Err Stop.ArenaFull) ↔ (pos 0 ≤ℤ version) × (limit < 3) }
+        ensures not_gate { result ≢ Err Stop.GateFull }
+    {
+        let set = ConflictSet::new_at(alloc, window, limit, version)?;
+        let Ok(replies) = replies_at(alloc, proxies, version) else {
+            return Err(Stop::Memory);
+        };
+        let Ok(owed) = Owed::new(alloc, proxies) else {
+            return Err(Stop::Memory);
+        };
+        Ok(Core {
+            alloc,
+            set,
+            version,
+            gate: Gate::new(alloc),
+            replies,
+            owed,
             stop: None,
         })
     }
@@ -155,6 +206,35 @@ impl Core {
         ensures few { result + MAX_PROXIES < 2 ^ 64 }
     {
         self.owed.count()
+    }
+
+    /// Returns `true` if an answer is owed to the proxy.
+    pub fn owes(&self, proxy: usize) -> bool
+        requires known { proxy < length self.now.owed }
+        ensures owes { IsTrue result ↔ (0 < length (owed_to proxy self.now.owed)) }
+    {
+        self.owed.owes(proxy)
+    }
+
+    /// Returns the number of batches that wait for their previous version.
+    pub fn held(&self) -> usize
+        ensures count { result ≡ length self.now.held }
+    {
+        self.gate.held()
+    }
+
+    /// Returns the version of the batch processed last, or that at which the resolver started.
+    pub fn version(&self) -> i64
+        ensures version { result ≡ self.now.version }
+    {
+        self.version
+    }
+
+    /// Returns the conflict set.
+    pub fn set(&self) -> &ConflictSet
+        ensures set { result.now ≡ self.now.set }
+    {
+        &self.set
     }
 
     /// Returns the number of proxies.

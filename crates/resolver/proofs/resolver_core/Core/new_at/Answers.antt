@@ -1,0 +1,28 @@
+use Rattle.std.proofs.Common.{w64, to_z, of_z, [], None, sym, subst}
+use Rattle.std.specs.Prelude.{negsuc, ◌≤ℤ◌}
+use Rattle.std.proofs.lemmas.Int.{to_z-of_z}
+use Rattle.keyspace.specs.Run.{run}
+use Rattle.resolver.specs.Core.{core_of, IsIn}
+use Rattle.resolver.specs.OpeningLog.{opening_log}
+use Rattle.resolver.proofs.OpenedCore.{is_core, is_in_opening}
+use Rattle.resolver.proofs.resolver_core.Core.new_at.Goals as goal
+
+pub invariant_of-result : goal.invariant_of-result
+invariant_of-result c =
+    let set = c.in_ok-set.set in
+    is_core set.window c.args.proxies set c.new-2.result c.in-Ok.replies c.in-Ok-new.owed
+    c.new-2.ensures.empty c.in-Ok-new.ensures.empty (to_z w64 (of_z w64 c.args.version))
+    c.in_ok-set.ensures.goes_on c.in_ok-set.ensures.resolved _ c.in_ok-set.ensures.remembers
+    (c.in-Ok.ensures.kept set.window)
+
+pub returns-clause-stands : goal.returns-clause-stands
+returns-clause-stands c =
+    let set = c.in_ok-set.set in
+    let v = to_z w64 (of_z w64 c.args.version) in
+    let same = to_z-of_z w64 c.args.version c.ranges.version in
+    subst (λ x. IsIn (run set.window (opening_log c.args.proxies x)) (λ _. [])
+    (core_of set v c.new-2.result c.in-Ok.replies c.in-Ok-new.owed None)) same
+    (is_in_opening set.window c.args.proxies set c.new-2.result c.in-Ok.replies c.in-Ok-new.owed
+    c.new-2.ensures.empty c.in-Ok-new.ensures.empty v
+    (subst (λ x. negsuc 0 ≤ℤ x) (sym same) c.requires.least_version)
+    c.in_ok-set.ensures.remembers (c.in-Ok.ensures.kept set.window))
