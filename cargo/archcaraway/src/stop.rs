@@ -71,7 +71,10 @@ impl fmt::Display for NewError {
             NewError::Window(found) => write!(f, "window {found} is not 1 to {MAX_WINDOW}"),
             NewError::Limit(found) => write!(f, "limit {found} is not 1 to {MAX_LIMIT}"),
             NewError::LimitAtVersion(found) => {
-                write!(f, "limit {found} is below 3, too small for a start at a version")
+                write!(
+                    f,
+                    "limit {found} is below 3, too small for a start at a version"
+                )
             }
             NewError::Version(found) => write!(f, "version {found} is below -1"),
             NewError::Memory => f.write_str("allocation failed"),

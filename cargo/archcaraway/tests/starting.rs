@@ -6,14 +6,18 @@ use archcaraway::{
 
 const START: i64 = 1_000_000_000;
 
-fn batch(previous: i64, version: i64, txns: impl IntoIterator<Item = Txn>) -> Batch {
+fn batch<'a>(previous: i64, version: i64, txns: impl IntoIterator<Item = Txn<'a>>) -> Batch {
     let builder = txns
         .into_iter()
         .fold(BatchBuilder::new(previous, version), BatchBuilder::txn);
     builder.build().expect("it is within the limits")
 }
 
-fn verdicts(set: &mut ConflictSet, version: i64, txns: impl IntoIterator<Item = Txn>) -> Vec<Verdict> {
+fn verdicts<'a>(
+    set: &mut ConflictSet,
+    version: i64,
+    txns: impl IntoIterator<Item = Txn<'a>>,
+) -> Vec<Verdict> {
     let reply = set.resolve(&batch(-1, version, txns));
     reply.expect("it is within the limit").verdicts().collect()
 }
@@ -26,14 +30,16 @@ fn reads_below_the_first_version_conflict() {
     let txns = [
         Txn::at(900).read_key("k"),
         Txn::at(999).read(("", "\u{0}")),
-        Txn::at(999).read_key(longest.clone()),
+        Txn::at(999).read_key(&longest),
         Txn::at(900).read(("k", "k")),
         Txn::at(1_000).read_key("k"),
-        Txn::at(1_000).read_key(longest),
+        Txn::at(1_000).read_key(&longest),
         Txn::at(900).write_key("k"),
     ];
     use Verdict::{Committed, Conflict};
-    let expected = [Conflict, Conflict, Conflict, Committed, Committed, Committed, Committed];
+    let expected = [
+        Conflict, Conflict, Conflict, Committed, Committed, Committed, Committed,
+    ];
     assert_eq!(verdicts(&mut set, 1_001, txns), expected);
     let later = [Txn::at(1_000).read_key("k"), Txn::at(1_001).read_key("k")];
     assert_eq!(verdicts(&mut set, 1_002, later), [Conflict, Committed]);
@@ -43,11 +49,19 @@ fn reads_below_the_first_version_conflict() {
 fn the_history_leaves_with_the_window() {
     let mut set = ConflictSet::new_at(10, MAX_LIMIT, 1_000).expect("the numbers are right");
     assert_eq!(set.edge(), 990);
-    let old = verdicts(&mut set, 1_009, [Txn::at(998).read_key("k"), Txn::at(999).read_key("k")]);
+    let old = verdicts(
+        &mut set,
+        1_009,
+        [Txn::at(998).read_key("k"), Txn::at(999).read_key("k")],
+    );
     assert_eq!(old, [Verdict::TooOld, Verdict::Conflict]);
     for version in 1_011..1_020 {
         let fresh = verdicts(&mut set, version, [Txn::at(1_001).read_key("k")]);
-        let expected = if version < 1_012 { Verdict::Committed } else { Verdict::TooOld };
+        let expected = if version < 1_012 {
+            Verdict::Committed
+        } else {
+            Verdict::TooOld
+        };
         assert_eq!(fresh, [expected], "{version}");
     }
     assert_eq!(set.boundaries(), 1);
@@ -57,9 +71,15 @@ fn the_history_leaves_with_the_window() {
 fn minus_one_is_the_start_of_a_new_set() {
     let mut set = ConflictSet::new_at(WINDOW, 1, -1).expect("the numbers are right");
     assert_eq!((set.version(), set.boundaries(), set.limit()), (-1, 1, 1));
-    assert_eq!(verdicts(&mut set, 0, [Txn::at(0).read_key("k")]), [Verdict::Committed]);
+    assert_eq!(
+        verdicts(&mut set, 0, [Txn::at(0).read_key("k")]),
+        [Verdict::Committed]
+    );
     let mut set = ConflictSet::new_at(WINDOW, MAX_LIMIT, 0).expect("the numbers are right");
-    assert_eq!(verdicts(&mut set, 1, [Txn::at(0).read_key("k")]), [Verdict::Committed]);
+    assert_eq!(
+        verdicts(&mut set, 1, [Txn::at(0).read_key("k")]),
+        [Verdict::Committed]
+    );
 }
 
 #[test]
@@ -87,7 +107,10 @@ fn numbers_of_a_start() {
 #[test]
 fn a_core_takes_the_batch_after_its_first_version() {
     let mut core = Core::new_at(2, WINDOW, MAX_LIMIT, START).expect("the numbers are right");
-    assert_eq!((core.version(), core.held(), core.owed(), core.next()), (START, 0, 0, None));
+    assert_eq!(
+        (core.version(), core.held(), core.owed(), core.next()),
+        (START, 0, 0, None)
+    );
     let read = |snapshot| Txn::at(snapshot).read_key("k");
     for (proxy, batch) in [
         (0, batch(-1, START, [])),
@@ -98,7 +121,10 @@ fn a_core_takes_the_batch_after_its_first_version() {
     ] {
         assert_eq!(core.admit(proxy, batch), Ok(()));
     }
-    assert_eq!((core.version(), core.held(), core.owed(), core.next()), (START + 2, 1, 4, Some(0)));
+    assert_eq!(
+        (core.version(), core.held(), core.owed(), core.next()),
+        (START + 2, 1, 4, Some(0))
+    );
     let given = |core: &mut Core, proxy| core.give(proxy).expect("there is such a proxy");
     assert_eq!(given(&mut core, 0), Some(Answer::Never(START)));
     assert_eq!(given(&mut core, 0), Some(Answer::Never(START + 5)));
@@ -116,24 +142,31 @@ fn a_core_takes_the_batch_after_its_first_version() {
 fn a_start_commits_nothing_that_the_history_would_not() {
     let mut state = 7_u64;
     let mut below = |limit: u64| {
-        state = state.wrapping_mul(6_364_136_223_846_793_005).wrapping_add(1_442_695_040_888_963_407);
+        state = state
+            .wrapping_mul(6_364_136_223_846_793_005)
+            .wrapping_add(1_442_695_040_888_963_407);
         (state >> 33) % limit
     };
     for _ in 0..200 {
         let mut known = ConflictSet::new(WINDOW, MAX_LIMIT).expect("the numbers are right");
         for version in 0..100 {
-            let key = vec![below(16) as u8];
-            verdicts(&mut known, version, [Txn::at(0).write_key(key)]);
+            let key = [below(16) as u8];
+            verdicts(&mut known, version, [Txn::at(0).write_key(&key)]);
         }
-        let mut started = ConflictSet::new_at(WINDOW, MAX_LIMIT, 99).expect("the numbers are right");
+        let mut started =
+            ConflictSet::new_at(WINDOW, MAX_LIMIT, 99).expect("the numbers are right");
         // Each transaction alone, so that both sets remember the same later writes.
         for version in 100..150 {
-            let read = vec![below(16) as u8];
+            let read = [below(16) as u8];
             let snapshot = 90 + below(version as u64 - 90) as i64;
-            let txn = || Txn::at(snapshot).read_key(read.clone());
+            let txn = || Txn::at(snapshot).read_key(&read);
             let by_start = verdicts(&mut started, version, [txn()])[0];
             let by_history = verdicts(&mut known, version, [txn()])[0];
-            let expected = if snapshot < 99 { Verdict::Conflict } else { by_history };
+            let expected = if snapshot < 99 {
+                Verdict::Conflict
+            } else {
+                by_history
+            };
             assert_eq!(by_start, expected, "{snapshot}");
             assert!(by_start != Verdict::Committed || by_history == Verdict::Committed);
         }

@@ -5,4 +5,3 @@ pub mod Bound
 pub mod SetObject
 pub mod Given
 pub mod CoreObject
-pub mod Starts

@@ -1,30 +1,5 @@
 -- A core that starts at a version, as the reference resolver is after the opening log.
-use Rattle.std.proofs.Common.{
-  ◌≡◌,
-  ℕ,
-  ◌<◌,
-  ◌&&◌,
-  ◌==◌,
-  true,
-  false,
-  cond,
-  List,
-  [],
-  ◌∷◌,
-  ◌++◌,
-  length,
-  replicate,
-  Option,
-  Some,
-  None,
-  refl,
-  sym,
-  ap,
-  ◌∙◌,
-  inl,
-  inr,
-  arith,
-}
+use Rattle.std.proofs.Common.{◌≡◌, ℕ, ◌<◌, ◌&&◌, ◌==◌, true, false, cond, List, [], ◌∷◌, length, replicate, Some, None, refl, sym, ap, ◌∙◌, inl, inr, arith}
 use Rattle.std.specs.Prelude.{ℤ, pos, negsuc, ◌≤ℤ◌, ◌<ℤ◌}
 use Rattle.std.specs.Ordering.{int_eq}
 use Rattle.std.proofs.lemmas.Bool.{and_parts, cond_both, cases_Bool, eqb-true}
@@ -47,7 +22,7 @@ use Rattle.conflict.specs.ConflictSet.{SetState, Remembers}
 use Rattle.conflict.specs.Unknown.{unknown_until}
 use Rattle.resolver.specs.Owed.{OwedView, owed_to}
 use Rattle.resolver.specs.Core.{core_of, IsCore, IsIn}
-use Rattle.resolver.specs.OpeningLog.{opening_batch, opening_log, StartsAt, OpeningsStart}
+use Rattle.resolver.specs.OpeningLog.{opening_batch, opening_log, OpeningsStart}
 use Rattle.resolver.proofs.Answered.{answers_to-one}
 use Rattle.resolver.proofs.Kept.{and-true}
 use Rattle.resolver.proofs.NewCore.{none_owed}

@@ -1,26 +1,9 @@
 -- How a core starts at a version: as if one batch had been processed that wrote every key at it. This project's own.
-use Rattle.std.specs.Prelude.{
-  ◌≡◌,
-  ℕ,
-  ◌<◌,
-  ◌≤◌,
-  ℤ,
-  pos,
-  negsuc,
-  ◌≤ℤ◌,
-  ◌<ℤ◌,
-  false,
-  List,
-  [],
-  ◌∷◌,
-  length,
-}
+use Rattle.std.specs.Prelude.{◌≡◌, ℕ, ◌<◌, ℤ, pos, negsuc, ◌≤ℤ◌, ◌<ℤ◌, false, List, [], ◌∷◌}
 use Rattle.std.proofs.Common.{zero-le}
 use Rattle.std.proofs.Math.Dec.{lit≤, le→leb}
 use lib.Signed.{le_z_yes, lt_z_yes}
-use Rattle.keyspace.specs.declared.txn.TheConstants.{MAX_RANGES}
 use Rattle.keyspace.specs.declared.txn.Txn.{Txn}
-use Rattle.keyspace.specs.declared.batch.TheConstants.{MAX_TXNS}
 use Rattle.keyspace.specs.declared.batch.Batch.{Batch}
 use Rattle.keyspace.specs.Processed.{version_of}
 use Rattle.keyspace.specs.Writes.{writes}

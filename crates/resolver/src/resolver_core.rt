@@ -120,8 +120,12 @@ impl Core {
         ensures not_gate { result ≢ Err Stop.GateFull }
     {
         let set = ConflictSet::new_at(alloc, window, limit, version)?;
-        let replies = replies_at(alloc, proxies, version)?;
-        let owed = Owed::new(alloc, proxies)?;
+        let Ok(replies) = replies_at(alloc, proxies, version) else {
+            return Err(Stop::Memory);
+        };
+        let Ok(owed) = Owed::new(alloc, proxies) else {
+            return Err(Stop::Memory);
+        };
         Ok(Core {
             alloc,
             set,

@@ -10,10 +10,10 @@ use Rattle.resolver.proofs.resolver_core.Core.new_at.Goals as goal
 pub invariant_of-result : goal.invariant_of-result
 invariant_of-result c =
     let set = c.in_ok-set.set in
-    is_core set.window c.args.proxies set c.new.result c.in_ok-replies.replies c.in_ok-owed.owed
-    c.new.ensures.empty c.in_ok-owed.ensures.empty (to_z w64 (of_z w64 c.args.version))
+    is_core set.window c.args.proxies set c.new-2.result c.in-Ok.replies c.in-Ok-new.owed
+    c.new-2.ensures.empty c.in-Ok-new.ensures.empty (to_z w64 (of_z w64 c.args.version))
     c.in_ok-set.ensures.goes_on c.in_ok-set.ensures.resolved _ c.in_ok-set.ensures.remembers
-    (c.in_ok-replies.ensures.kept set.window)
+    (c.in-Ok.ensures.kept set.window)
 
 pub returns-clause-stands : goal.returns-clause-stands
 returns-clause-stands c =
@@ -21,8 +21,8 @@ returns-clause-stands c =
     let v = to_z w64 (of_z w64 c.args.version) in
     let same = to_z-of_z w64 c.args.version c.ranges.version in
     subst (λ x. IsIn (run set.window (opening_log c.args.proxies x)) (λ _. [])
-    (core_of set v c.new.result c.in_ok-replies.replies c.in_ok-owed.owed None)) same
-    (is_in_opening set.window c.args.proxies set c.new.result c.in_ok-replies.replies c.in_ok-owed.owed
-    c.new.ensures.empty c.in_ok-owed.ensures.empty v
+    (core_of set v c.new-2.result c.in-Ok.replies c.in-Ok-new.owed None)) same
+    (is_in_opening set.window c.args.proxies set c.new-2.result c.in-Ok.replies c.in-Ok-new.owed
+    c.new-2.ensures.empty c.in-Ok-new.ensures.empty v
     (subst (λ x. negsuc 0 ≤ℤ x) (sym same) c.requires.least_version)
-    c.in_ok-set.ensures.remembers (c.in_ok-replies.ensures.kept set.window))
+    c.in_ok-set.ensures.remembers (c.in-Ok.ensures.kept set.window))
