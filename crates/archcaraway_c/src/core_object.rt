@@ -43,7 +43,7 @@ impl Model for CoreObject {
 }
 
 impl CoreObject {
-    /// Creates a resolver for so many proxies, which has taken nothing. `window` is how far back it remembers writes, in
+    /// Creates a resolver for this number of proxies, which has taken nothing. `window` is how far back it remembers writes, in
     /// versions; it never keeps more boundaries than `limit`. Returns `Argument` if one of them is outside its range, and the
     /// stop `Memory` if memory is refused.
     pub fn new(alloc: Global, proxies: u32, window: i64, limit: u64) -> Result<Self, Refusal>
@@ -72,7 +72,7 @@ impl CoreObject {
         })
     }
 
-    /// Takes the batch of a frame from a proxy. The batch is held, or it and what it frees are answered.
+    /// Takes the batch of a frame from a proxy. The batch is held, or it and the batches that it frees are answered.
     ///
     /// The first of these that holds decides. There is no such proxy: `Argument`. The resolver has stopped: that stop. The bytes
     /// aren't one frame: `Wire`, `Behind`. Then the batch is taken, or the resolver stops for good. Nothing was taken after any

@@ -30,7 +30,7 @@ pub record CoreState : Type 0 where
   -- why it takes no more
   pub stop : Option Stop
 
--- the first list is a beginning of the second, which may be all of it
+-- the first list is a prefix of the second, which may be all of it
 abbrev pub IsBeginning : {T : Type 0} → List T → List T → Type 0
 IsBeginning {T} xs ys = (rest : List T) × (ys ≡ xs ++ rest)
 
@@ -103,7 +103,7 @@ pub record StopsIn (limit : ℕ) (window : ℤ) (now : State) (proxy : ℕ) (bat
 
 -- While the batches held in this state leave, one that leaves is processed and exceeds the limit.
 pub record StopsAsTheyLeave (limit : ℕ) (window : ℤ) (first : State) (given : Given) (core : CoreState) : Type 0 where
-  -- so many have left before it
+  -- how many have left before it
   pub turns : ℕ
   pub batch : Held
   pub others : List Held

@@ -36,7 +36,7 @@ pub record OwedView : Type 0 where
   -- how many more are owed to each proxy without taking memory
   pub room : List ℕ
 
--- The answers owed are so many. With one more for each of the most proxies, they are still counted.
+-- The answers owed are this many. With one more for each of the most proxies, they are still counted.
 pub record AreCounted (owed : List (List Answer)) (count : ℕ) : Type 0 where
   pub counted : count ≡ owed_count owed
   pub few : owed_count owed + MAX_PROXIES < 2 ^ 64

@@ -82,7 +82,7 @@ pub record TakesFromProxy (batch : Option Batch) (old new : ProxyLanesView) : Ty
 abbrev pub made_over : ProxyLanesView → List Answer → List Answer
 made_over l owed = l.lanes.replies.sent ++ (option_to_list l.waiting ++ owed)
 
--- answers go from what is owed to what is sent
+-- answers move from the owed ones to the sent ones
 pub record HandsOut (old new : ProxyLanesView) (owed_before owed_after : List Answer) : Type 0 where
   pub made : made_over new owed_after ≡ made_over old owed_before
   pub sent : IsBeginning old.lanes.replies.sent new.lanes.replies.sent
@@ -94,7 +94,7 @@ pub record HandsOut (old new : ProxyLanesView) (owed_before owed_after : List An
   pub replies : PortGoesOn old.lanes.replies new.lanes.replies
   pub closed : new.lanes.replies.closed ≡ old.lanes.replies.closed
 
--- the core is the same but for what it owes
+-- the core is the same except for the answers that it owes
 pub record OwesOnly (old new : CoreState) : Type 0 where
   pub count : length new.owed ≡ length old.owed
   pub same : new ≡ record old { owed = new.owed }
@@ -127,7 +127,7 @@ pub record AreNewLanes (l : ProxyLanesView) : Type 0 where
   pub ended : l.lanes.ended ≡ false
   pub waiting : l.waiting ≡ None
 
--- so many pairs of lanes and clients, all new, those of the same lanes at the same index
+-- n pairs of lanes and clients, all new, those of the same lanes at the same index
 pub record AreConnected (capacity count : ℕ) (all_lanes : List ProxyLanesView) (clients : List Client) : Type 0 where
   pub proxy_lanes_count : length all_lanes ≡ count
   pub client_count : length clients ≡ count
@@ -135,7 +135,7 @@ pub record AreConnected (capacity count : ℕ) (all_lanes : List ProxyLanesView)
   pub new_clients : All (IsNewClient capacity) clients
   pub same : AreClients (lanes_of all_lanes) clients
 
--- *Lane* of both lanes of the pair, with its client, before and after, where no list has changed
+-- *Lane* of both lanes of the pair, with its client, before and after, if no list has changed
 pub record SettlesLanes (old : ProxyLanesView) (client_before : Client) (new : ProxyLanesView) (client_after : Client) : Type 0 where
   pub requests : Lane client_before.requests old.lanes.requests
   pub replies : Lane old.lanes.replies client_before.replies

@@ -1,4 +1,4 @@
--- What a resolver over lanes promises: it stands for a log of the reference resolver. This project's own.
+-- What a resolver over lanes promises: it represents a log of the reference resolver. This project's own.
 use Rattle.std.specs.Prelude.{◌≡◌, ℕ, ◌<◌, ◌⊎◌, Bool, true, false, List, [], ◌∷◌, ◌++◌, length, Some, None, IsSome, slice_get}
 use Rattle.keyspace.specs.declared.batch.Batch.{Batch}
 use Rattle.keyspace.specs.Run.{Step, Take, Finish, part}
@@ -35,13 +35,13 @@ abbrev pub FinishesBy : Bool → List Step → Type 0
 FinishesBy true log = FinishesLast log
 FinishesBy false log = HasNoFinish log
 
--- each batch is taken from one of so many proxies
+-- each batch is taken from one of n proxies
 abbrev pub TakesOnlyFrom : ℕ → List Step → Type 0
 TakesOnlyFrom proxies [] = Unit {0}
 TakesOnlyFrom proxies (Take proxy batch ∷ log) = (proxy < proxies) × TakesOnlyFrom proxies log
 TakesOnlyFrom proxies (Finish ∷ log) = TakesOnlyFrom proxies log
 
--- The resolver stands for the log. Its core does, where each proxy was given what was sent to it; the log takes from each
+-- The resolver represents the log. Its core does, if each proxy was given the answers sent to it; the log takes from each
 -- proxy what was taken from its request lane, and nothing from a proxy that has none; and without a stop it finishes, last
 -- and once, exactly if all request lanes have ended, and only then are reply lanes closed.
 pub record StandsOver (r : ResolverState) (log : List Step) : Type 0 where
@@ -57,7 +57,7 @@ pub record IsResolving (r : ResolverState) : Type 0 where
   pub log : List Step
   pub stands : StandsOver r log
 
--- for every log for which the one stands, the other stands for it with these steps more
+-- for every log that the one represents, the other represents it with these steps added
 abbrev pub Adds : List Step → ResolverState → ResolverState → Type 0
 Adds steps old new = (log : List Step) → StandsOver old log → StandsOver new (log ++ steps)
 

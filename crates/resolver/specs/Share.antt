@@ -6,15 +6,15 @@ use Rattle.resolver.specs.Core.{made_to}
 use Rattle.resolver.specs.Lanes.{taken_from, sent_to}
 use Rattle.resolver.specs.Resolver.{ResolverState}
 
--- what falls to each of so many proxies of the batches that are held at most, rounded down
+-- the share of each of n proxies in the most batches that are held, rounded down
 abbrev pub share_of : ℕ → ℕ
 share_of proxies = MAX_HELD / proxies
 
--- more than so many batches of the proxy were taken for which no answer was made
+-- more than this number of batches of the proxy were taken for which no answer was made
 abbrev pub HasMoreUnanswered : ℕ → ℕ → ResolverState → Type 0
 HasMoreUnanswered share proxy r =
     length (made_to proxy (sent_to r.lanes) r.core) + share < length (taken_from r.lanes proxy)
 
--- the client has at most so many batches sent for which it has received no answer
+-- the client has at most this number of batches sent for which it has received no answer
 abbrev pub KeepsShare : ℕ → Client → Type 0
 KeepsShare share c = length c.requests.sent ≤ length c.replies.taken + share

@@ -1,4 +1,4 @@
--- What a core promises: it stands for a log of the reference resolver. This project's own.
+-- What a core promises: it represents a log of the reference resolver. This project's own.
 use Rattle.std.specs.Prelude.{
   ◌≡◌,
   ℕ,
@@ -31,7 +31,7 @@ abbrev pub StandsBy : Option Stop → List Step → Given → CoreState → Type
 StandsBy None log given core = IsIn (run core.set.window log) given core
 StandsBy (Some stop) log given core = StoppedIn log given core
 
--- The core stands for the log, where each proxy was given these answers. Without a stop it is in the state of the
+-- The core represents the log, if each proxy was given these answers. Without a stop it is in the state of the
 -- reference resolver after the log.
 abbrev pub Stands : CoreState → List Step → Given → Type 0
 Stands core log given = StandsBy core.stop log given core

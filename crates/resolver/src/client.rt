@@ -3,7 +3,7 @@
 use keyspace::{Answer, Batch};
 use lane::{Intake, Port};
 
-/// A commit proxy's ends of its two lanes. It may go to a thread of its own.
+/// A commit proxy's ends of its two lanes. It may move to another thread.
 #[derive(Drop)]
 pub struct Client {
     /// Sends the proxy's batches, and closes the lane after the last one.

@@ -1,4 +1,5 @@
-//! Laws about the definitions of the headline and of shares. Each is the contract of a function with an empty body.
+//! Laws about the definitions of the headline and of shares. Each is the contract of a function
+//! with an empty body.
 
 ghost use Rattle.std.specs.Prelude.{◌≡◌, ◌≤◌, ◌↔◌, ℕ, ℤ, List, [], Some, length, slice_get};
 ghost use Rattle.keyspace.specs.Run.{Step, part};
@@ -11,25 +12,29 @@ ghost use Rattle.resolver.specs.Share.{HasMoreUnanswered, KeepsShare};
 ghost use Rattle.resolver.specs.Settled.{Settled};
 ghost use Rattle.resolver.specs.OpeningLog.{OpeningsStart};
 
-/// The logs of the headline hold no batch of a proxy without a client: of no other is a batch taken, judged or answered.
+/// The logs of the headline hold no batch of a proxy without a client: of no other is a batch
+/// taken, judged or answered.
 pub fn no_other_proxy()
     ensures takes_only { (proxies : ℕ) (log : List Step) → TakesOnlyFrom proxies log
         ↔ ((proxy : ℕ) → proxies ≤ proxy → part log proxy ≡ []) }
     ensures stands { (r : ResolverState) (log : List Step) → StandsOver r log
         → (proxy : ℕ) → length r.lanes ≤ proxy → part log proxy ≡ [] }
-    ensures settled { (window : ℤ) (log : List Step) (lanes : List Lanes) (clients : List Client) (account : Account)
+    ensures settled { (window : ℤ) (log : List Step) (lanes : List Lanes) (clients : List Client)
+        (account : Account)
         → Settled window log lanes clients account
         → (proxy : ℕ) → length clients ≤ proxy → part log proxy ≡ [] }
 {}
 
 /// A client that keeps its share is never one that a full gate shows to have more unanswered.
 pub fn within_share()
-    ensures within { (share proxy : ℕ) (r : ResolverState) (c : Client) (l : Lanes) → slice_get r.lanes proxy ≡ Some l
-        → Lane c.requests l.requests → Lane l.replies c.replies → KeepsShare share c → ¬ HasMoreUnanswered share proxy r }
+    ensures within { (share proxy : ℕ) (r : ResolverState) (c : Client) (l : Lanes)
+        → slice_get r.lanes proxy ≡ Some l
+        → Lane c.requests l.requests → Lane l.replies c.replies → KeepsShare share c
+        → ¬ HasMoreUnanswered share proxy r }
 {}
 
-/// A core that starts at a version is one whose reference resolver is at that version, knows nothing of what was written up
-/// to it, and has neither a batch nor an answer of any proxy.
+/// A core that starts at a version is one whose reference resolver is at that version, knows
+/// nothing of what was written up to it, and has neither a batch nor an answer of any proxy.
 pub fn openings()
     ensures start { OpeningsStart }
 {}

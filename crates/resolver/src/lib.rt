@@ -1,17 +1,20 @@
 //! The resolver: takes batches along the chain of versions, and owes each proxy its answers.
 //!
-//! [`Core`] is the resolver over values. Its contracts say that it stands for a log of steps: what it has answered is what
-//! the reference resolver answers to that log. The definition is `Stands`, in `specs/Stands.antt`.
+//! [`Core`] is the resolver over values. Its contracts say that it represents a log of steps: its
+//! answers are those that the reference resolver answers to that log. The definition is `Stands`,
+//! in `specs/Stands.antt`.
 //!
-//! [`open`] makes a [`Resolver`] over lanes, and a [`Client`] for each proxy. Each turn takes a batch of some proxy and hands out
-//! answers. With all clients back in one hand, [`Resolver::settle`] says what each of them has sent and received, beside the
-//! reference resolver. The definitions are `StandsOver`, in `specs/Resolver.antt`, and `Settled`, in `specs/Settled.antt`.
+//! [`open`] makes a [`Resolver`] over lanes, and a [`Client`] for each proxy. Each turn takes a
+//! batch of some proxy and sends answers. Once all clients have been returned, [`Resolver::settle`]
+//! says what each of them has sent and received, beside the reference resolver. The definitions are
+//! `StandsOver`, in `specs/Resolver.antt`, and `Settled`, in `specs/Settled.antt`.
 //!
-//! [`share`] is the share of each proxy in what the resolver holds. While no client has more batches sent without an answer, no turn
-//! answers `GateFull`. The definitions are in `specs/Share.antt`.
+//! [`share`] is the share of each proxy in what the resolver holds. While no client has more
+//! batches sent without an answer, no turn answers `GateFull`. The definitions are in
+//! `specs/Share.antt`.
 //!
-//! The laws of [`laws`] say that in none of these is there a batch of a proxy without a client, and that a client which keeps its share
-//! isn't one that has more unanswered.
+//! The laws of [`laws`] say that in none of these is there a batch of a proxy without a client, and
+//! that a client which keeps its share isn't one that has more unanswered.
 #![tactic(auto)]
 
 mod all_lanes;

@@ -18,8 +18,9 @@ use crate::stop::OpenError;
 use lane::{LaneError, MAX_CAPACITY, lane};
 use std::alloc::Global;
 
-/// Opens a resolver for so many proxies, and a client for each, at its number. A lane holds at most `capacity` batches or answers.
-/// `window` is how far back writes are remembered, in versions; the conflict set never keeps more boundaries than `limit`.
+/// Opens a resolver for this number of proxies, and a client for each, at its number. A lane holds
+/// at most `capacity` batches or answers. `window` is how far back writes are remembered, in
+/// versions; the conflict set never keeps more boundaries than `limit`.
 pub fn open(
     alloc: Global,
     proxies: usize,
@@ -50,7 +51,7 @@ pub fn open(
     Ok((Resolver::new(core, all_lanes), clients))
 }
 
-// Makes the lanes of so many proxies.
+// Makes the lanes of this number of proxies.
 fn connect_all(
     alloc: Global,
     proxies: usize,
@@ -58,7 +59,8 @@ fn connect_all(
 ) -> Result<(Vec<ProxyLanes>, Vec<Client>), OpenError>
     requires least_capacity { 1 ≤ capacity }
     requires most_capacity { capacity ≤ MAX_CAPACITY }
-    ensures connected { IfOk result (λ ends. AreConnected capacity proxies ends.0.items ends.1.items) }
+    ensures connected { IfOk result
+        (λ ends. AreConnected capacity proxies ends.0.items ends.1.items) }
 {
     let mut all_lanes = Vec::with_capacity(alloc, proxies)?;
     let mut clients = Vec::with_capacity(alloc, proxies)?;

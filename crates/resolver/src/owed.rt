@@ -1,6 +1,7 @@
 //! The answers owed to each proxy, in the order in which they were made.
 
-ghost use Rattle.std.specs.Prelude.{◌≡◌, ◌+◌, ◌^◌, ◌<◌, ◌↔◌, [], ◌∷◌, ◌++◌, length, replicate, IfOk, OnOk, IfNone, IfSome};
+ghost use Rattle.std.specs.Prelude.{◌≡◌, ◌+◌, ◌^◌, ◌<◌, ◌↔◌, [], ◌∷◌, ◌++◌, length, replicate};
+ghost use Rattle.std.specs.Prelude.{IfOk, OnOk, IfNone, IfSome};
 ghost use Rattle.std.specs.Prelude.{IsTrue, option_to_list};
 ghost use Rattle.resolver.specs.Owed.{owed_to, owed_also, given_oldest, owed_count, HasRoomFor};
 ghost use Rattle.resolver.specs.declared.resolver_core.TheConstants.{MAX_PROXIES};
@@ -11,7 +12,7 @@ use std::alloc::{AllocError, Global};
 use std::collections::VecDeque;
 use std::marker::Model;
 
-/// The answers owed to each proxy, in a queue of its own.
+/// The answers owed to each proxy, in one queue per proxy.
 #[derive(Debug, Drop)]
 pub struct Owed {
     queues: Vec<VecDeque<Answer>>,
@@ -24,13 +25,16 @@ impl Model for Owed {
 
     ghost Value = { OwedView };
 
-    ghost view = { λ o. record { answers = map items_of o.queues.items; room = map room_of o.queues.items } };
+    ghost view = { λ o. record {
+      answers = map items_of o.queues.items;
+      room = map room_of o.queues.items;
+    } };
 
     ghost invariant = { λ o. AreCounted (map items_of o.queues.items) o.count };
 }
 
 impl Owed {
-    /// Owes nothing to any of so many proxies.
+    /// Owes nothing to any of n proxies.
     pub fn new(alloc: Global, proxies: usize) -> Result<Self, AllocError>
         ensures empty { IfOk result (λ owed. owed.answers ≡ replicate proxies []) }
     {
@@ -48,7 +52,8 @@ impl Owed {
         self.queues.len()
     }
 
-    /// Takes memory for one answer more to the proxy. It refuses one with which `MAX_PROXIES` more couldn't be counted.
+    /// Takes memory for one answer more to the proxy. It refuses one with which `MAX_PROXIES` more
+    /// couldn't be counted.
     pub fn reserve(&mut self, proxy: usize) -> Result<(), AllocError>
         requires known { proxy < length self.old.answers }
         ensures room { OnOk result (HasRoomFor proxy self.new) }

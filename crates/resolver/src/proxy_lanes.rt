@@ -1,6 +1,7 @@
 //! The resolver's side of a proxy: takes its batches and sends it the answers.
 
-ghost use Rattle.std.specs.Prelude.{◌≡◌, ◌≢◌, ◌↔◌, ◌⊎◌, ◌<◌, ℕ, false, true, [], ◌∷◌, ◌++◌, length, None, Some, IsSome, IsTrue, IsFalse, IfNone, option_to_list};
+ghost use Rattle.std.specs.Prelude.{◌≡◌, ◌≢◌, ◌↔◌, ◌⊎◌, ◌<◌, ℕ, false, true, [], ◌∷◌, ◌++◌, length};
+ghost use Rattle.std.specs.Prelude.{None, Some, IsSome, IsTrue, IsFalse, IfNone, option_to_list};
 ghost use Rattle.lane.specs.Lane.{SameLane, PortGoesOn};
 ghost use Rattle.resolver.specs.Owed.{owed_to};
 ghost use Rattle.resolver.specs.Lanes.{IsFull};
@@ -12,7 +13,8 @@ use keyspace::{Answer, Batch};
 use lane::{Intake, Port, Refused, Taken, agree};
 use std::marker::Model;
 
-/// The resolver's ends of the two lanes of a proxy, and a place for the answer that a full reply lane hands back.
+/// The resolver's ends of the two lanes of a proxy, and a place for the answer that a full reply
+/// lane returns.
 #[derive(Drop)]
 pub struct ProxyLanes {
     requests: Intake<Batch>,
@@ -39,7 +41,11 @@ impl Model for ProxyLanes {
 impl ProxyLanes {
     /// Puts the resolver's ends of a proxy's lanes together.
     pub fn new(requests: Intake<Batch>, replies: Port<Answer>) -> Self
-        ensures proxy_lanes { result ≡ record { lanes = record { requests = requests; replies = replies; ended = false }; waiting = None } }
+        ensures proxy_lanes { result ≡ record {
+          lanes
+              = record { requests = requests; replies = replies; ended = false };
+          waiting = None;
+        } }
     {
         ProxyLanes {
             requests,
@@ -87,7 +93,8 @@ impl ProxyLanes {
         self.waiting.is_some()
     }
 
-    /// Sends the proxy the answers owed to it, oldest first, while the reply lane accepts them. One that it hands back waits here.
+    /// Sends the proxy the answers owed to it, oldest first, while the reply lane accepts them. One
+    /// that it returns waits here.
     pub fn hand_out(&mut self, core: &mut Core, proxy: usize)
         requires known { proxy < length core.old.owed }
         ensures hands_out { HandsOut self.old self.new
@@ -103,12 +110,14 @@ impl ProxyLanes {
         }
     }
 
-    /// Looks at both lanes with the client's ends at hand, and returns whether the client has taken every answer sent.
+    /// Looks at both lanes together with the client's ends, and returns whether the client has
+    /// taken every answer sent.
     pub fn settle(&mut self, client: &mut Client) -> bool
         requires requests { SameLane client.old.requests self.old.lanes.requests }
         requires replies { SameLane self.old.lanes.replies client.old.replies }
         ensures settles { SettlesLanes self.old client.old self.new client.new }
-        ensures all_taken { IsTrue result ↔ (client.old.replies.taken ≡ self.old.lanes.replies.sent) }
+        ensures all_taken { IsTrue result
+            ↔ (client.old.replies.taken ≡ self.old.lanes.replies.sent) }
     {
         agree(&mut client.requests, &mut self.requests);
         agree(&mut self.replies, &mut client.replies)
@@ -116,7 +125,10 @@ impl ProxyLanes {
 
     /// Closes the reply lane.
     pub fn close(&mut self)
-        ensures closed { self.new ≡ record self.old { lanes = record self.old.lanes { replies = record self.old.lanes.replies { closed = true } } } }
+        ensures closed { self.new ≡ record self.old {
+          lanes = record self.old.lanes
+              { replies = record self.old.lanes.replies { closed = true } };
+        } }
     {
         self.replies.close();
     }
@@ -138,17 +150,21 @@ impl ProxyLanes {
         }
     }
 
-    // Sends an answer, and returns whether the reply lane has accepted it. If not, the answer waits.
+    // Sends an answer, and returns whether the reply lane has accepted it. If not, the answer
+    // waits.
     fn send(&mut self, answer: Answer) -> bool
         requires nothing_waits { self.old.waiting ≡ None }
-        ensures sent { IsTrue result → (self.new.lanes.replies.sent ≡ self.old.lanes.replies.sent ++ answer ∷ [])
+        ensures sent { IsTrue result → (self.new.lanes.replies.sent
+            ≡ self.old.lanes.replies.sent ++ answer ∷ [])
             × (self.new.waiting ≡ None) }
         ensures waits { IsFalse result → (self.new.lanes.replies.sent ≡ self.old.lanes.replies.sent)
             × (self.new.waiting ≡ Some answer) }
-        ensures full { IsFalse result → (self.new.lanes.replies.closed ≡ true) ⊎ IsFull self.old.lanes self.new.lanes }
+        ensures full { IsFalse result → (self.new.lanes.replies.closed ≡ true)
+            ⊎ IsFull self.old.lanes self.new.lanes }
         ensures replies { PortGoesOn self.old.lanes.replies self.new.lanes.replies }
         ensures closed { self.new.lanes.replies.closed ≡ self.old.lanes.replies.closed }
-        ensures requests { self.new.lanes ≡ record self.old.lanes { replies = self.new.lanes.replies } }
+        ensures requests { self.new.lanes
+            ≡ record self.old.lanes { replies = self.new.lanes.replies } }
     {
         match self.replies.send(answer) {
             Ok(()) => true,

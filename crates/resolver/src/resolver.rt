@@ -1,6 +1,9 @@
-//! The resolver over lanes: each turn takes a batch of some proxy, and hands out answers.
+//! The resolver over lanes: each turn takes a batch of some proxy, and sends answers.
 
-ghost use Rattle.std.specs.Prelude.{◌≡◌, ℕ, ◌<◌, ◌≤◌, ◌+◌, ◌⊎◌, ◌↔◌, ◌≢◌, ◌<ℤ◌, ◌≤ℤ◌, pos, true, false, List, [], ◌∷◌, ◌++◌, length, map, All, Option, Some, None, Ok, Err, IsOk, IfOk, IfErr, OnOk, IfSome, IsSome, slice_get, IsTrue};
+ghost use Rattle.std.specs.Prelude.{◌≡◌, ℕ, ◌<◌, ◌≤◌, ◌+◌, ◌⊎◌, ◌↔◌, ◌≢◌, ◌<ℤ◌, ◌≤ℤ◌, pos, true};
+ghost use Rattle.std.specs.Prelude.{false, List, [], ◌∷◌, ◌++◌, length, map, All, Option, Some};
+ghost use Rattle.std.specs.Prelude.{None, Ok, Err, IsOk, IfOk, IfErr, OnOk, IfSome, IsSome};
+ghost use Rattle.std.specs.Prelude.{slice_get, IsTrue};
 ghost use Rattle.keyspace.specs.Run.{Step, Take, Finish, run};
 ghost use Rattle.stepmap.specs.declared.step_map.TheConstants.{MAX_LIMIT};
 ghost use Rattle.conflict.specs.declared.conflict_set.TheConstants.{MAX_WINDOW};
@@ -12,8 +15,11 @@ ghost use Rattle.resolver.specs.Core.{GoesOn, StopsAtLimit, made_to};
 ghost use Rattle.resolver.specs.Stands.{Stands};
 ghost use Rattle.resolver.specs.Parts.{AreNewLanes, lanes_of};
 ghost use Rattle.resolver.specs.declared.resolver_core.TheConstants.{MAX_PROXIES};
-ghost use Rattle.resolver.specs.Lanes.{Lanes, all_ended, Each, LanesGoOn, IsLookedThrough, ComesBefore, IsFull, TakesNone, AreSameLists, sent_to};
-ghost use Rattle.resolver.specs.Resolver.{ResolverState, StandsOver, IsResolving, TakesFrom, Finishes, TakesNoStep, StepsBy, IfNotTaken, IsThrough, SameBut, AreClients, SameClients};
+ghost use Rattle.resolver.specs.Lanes.{Lanes, all_ended, Each, LanesGoOn, IsLookedThrough};
+ghost use Rattle.resolver.specs.Lanes.{ComesBefore, IsFull, TakesNone, AreSameLists, sent_to};
+ghost use Rattle.resolver.specs.Resolver.{ResolverState, StandsOver, IsResolving, TakesFrom};
+ghost use Rattle.resolver.specs.Resolver.{Finishes, TakesNoStep, StepsBy, IfNotTaken, IsThrough};
+ghost use Rattle.resolver.specs.Resolver.{SameBut, AreClients, SameClients};
 ghost use Rattle.resolver.specs.Share.{share_of, HasMoreUnanswered};
 ghost use Rattle.resolver.specs.Settled.{Settled, IsComplete};
 
@@ -26,7 +32,8 @@ use crate::turn::{Account, Turn};
 use keyspace::laws;
 use std::marker::Model;
 
-/// The resolver over lanes: takes the batches of its clients, and sends them the answers of the reference resolver.
+/// The resolver over lanes: takes the batches of its clients, and sends them the answers of the
+/// reference resolver.
 #[derive(Drop)]
 pub struct Resolver {
     core: Core,
@@ -89,18 +96,21 @@ impl Resolver {
         }
     }
 
-    /// Takes a batch of some proxy, if there is one to be seen, and hands out answers.
+    /// Takes a batch of some proxy, if it sees one, and sends answers.
     ///
-    /// It looks at each request lane that hasn't ended at most once, from the one after the lane last taken from on. Once all
-    /// have ended, it answers what is still held. Then it sends owed answers, while the reply lanes accept them. Where nothing is
-    /// owed and no answer is still to come, it closes the reply lanes.
+    /// It looks at each request lane that hasn't ended at most once, from the one after the lane
+    /// last taken from on. Once all have ended, it answers what is still held. Then it sends owed
+    /// answers, while the reply lanes accept them. If nothing is owed and no answer is still to
+    /// come, it closes the reply lanes.
     ///
-    /// An error is final: this and every later turn take no more, hand out what the reply lanes accept, and return the same one.
+    /// An error is final: this and every later turn take no more, send the answers that the reply
+    /// lanes accept, and return the same one.
     ///
-    /// `GateFull` first comes only where more batches of some proxy than its [`share`](crate::share) were taken for which no answer was
-    /// made. So it never comes where each client never has more than the share of batches sent for which it has no answer.
+    /// `GateFull` first comes only where more batches of some proxy than its
+    /// [`share`](crate::share) were taken for which no answer was made. So it never comes where
+    /// each client never has more than the share of batches sent for which it has no answer.
     pub fn turn(&mut self) -> Result<Turn, Stop>
-        // What the resolver stands for afterwards.
+        // The log that the resolver represents afterwards.
         ensures step { IfOk result (λ turn. StepsBy turn self.old self.new) }
         ensures stop_met { IfErr result (λ _. self.old.core.stop ≡ None
             → ((proxy : ℕ) × TakesFrom proxy self.old self.new) ⊎ Finishes self.old self.new) }
@@ -114,25 +124,30 @@ impl Resolver {
         ensures looked_through { IfOk result (λ turn. IfNotTaken turn
             (Each (λ _ l m. IsLookedThrough l m) self.old.lanes self.new.lanes)) }
         ensures passed { (proxy : ℕ) → result ≡ Ok (Turn.Took proxy)
-            → Each (λ passed l m. ComesBefore self.old.next passed proxy → IsLookedThrough l m) self.old.lanes self.new.lanes }
+            → Each (λ passed l m. ComesBefore self.old.next passed proxy
+            → IsLookedThrough l m) self.old.lanes self.new.lanes }
         ensures next { (proxy : ℕ) → result ≡ Ok (Turn.Took proxy) → self.new.next ≡ proxy + 1 }
         ensures next_stays { IfOk result (λ turn. IfNotTaken turn (self.new.next ≡ self.old.next)) }
 
         // What it has handed out.
-        ensures owed { Each (λ proxy l m. owed_to proxy self.new.core.owed ≢ [] → IsFull l m) self.old.lanes self.new.lanes }
+        ensures owed { Each (λ proxy l m. owed_to proxy self.new.core.owed ≢ []
+            → IsFull l m) self.old.lanes self.new.lanes }
         ensures closed { (proxy : ℕ) (l : Lanes) → slice_get self.new.lanes proxy ≡ Some l
             → (l.replies.closed ≡ true) ↔ IsThrough self.new }
         ensures done { (result ≡ Ok Turn.Done) ↔ (IsOk result × (all_ended self.new.lanes ≡ true)
             × (owed_count self.new.core.owed ≡ 0)) }
 
-        // Where the stops come.
+        // When each stop comes.
         ensures gate_full { self.old.core.stop ≡ None → result ≡ Err Stop.GateFull
             → (proxy : ℕ) × (took : TakesFrom proxy self.old self.new)
-            × (self.old.core.version <ℤ took.batch.previous) × (length self.old.core.held ≡ MAX_HELD) }
-        ensures beyond_share { self.old.core.stop ≡ None → result ≡ Err Stop.GateFull → IsResolving self.old
+            × (self.old.core.version <ℤ took.batch.previous)
+            × (length self.old.core.held ≡ MAX_HELD) }
+        ensures beyond_share { self.old.core.stop ≡ None → result ≡ Err Stop.GateFull
+            → IsResolving self.old
             → (proxy : ℕ) × (proxy < length self.new.lanes)
             × HasMoreUnanswered (share_of (length self.new.lanes)) proxy self.new }
-        ensures arena_full { self.old.core.stop ≡ None → result ≡ Err Stop.ArenaFull → (log : List Step) → StandsOver self.old log
+        ensures arena_full { self.old.core.stop ≡ None → result ≡ Err Stop.ArenaFull
+            → (log : List Step) → StandsOver self.old log
             → (proxy : ℕ) × (took : TakesFrom proxy self.old self.new)
             × StopsAtLimit self.old.core.set.map.limit self.old.core.set.window proxy took.batch
             (run self.old.core.set.window log) (sent_to self.new.lanes) self.new.core }
@@ -150,8 +165,8 @@ impl Resolver {
         })
     }
 
-    /// Finds what was reached, with all clients of this resolver back in one hand, each at its number. It takes no memory, and no
-    /// batch or answer moves.
+    /// Finds what was reached, once all clients of this resolver have been returned, each at its
+    /// number. It takes no memory, and no batch or answer moves.
     pub fn settle(&mut self, clients: &mut [Client]) -> Account
         requires clients { AreClients self.old.lanes clients.old }
         ensures settled { (log : List Step) → StandsOver self.old log
@@ -162,12 +177,14 @@ impl Resolver {
         ensures resolving { IsResolving self.old → IsResolving self.new }
         ensures complete { (result.complete ≡ true) ↔ IsComplete self.old clients.old }
         // A client that has taken answers to their end has taken all that were sent.
-        ensures ended { (proxy : ℕ) (client : ClientEnds) → slice_get clients.old proxy ≡ Some client
+        ensures ended { (proxy : ℕ) (client : ClientEnds)
+            → slice_get clients.old proxy ≡ Some client
             → HasEnded client.replies → client.replies.taken ≡ sent_to self.old.lanes proxy }
         ensures stop { result.stop ≡ self.old.core.stop }
         ensures core { self.new.core ≡ self.old.core }
         ensures next { self.new.next ≡ self.old.next }
-        ensures lanes { Each (λ _ l m. LanesGoOn l m × AreSameLists l m) self.old.lanes self.new.lanes }
+        ensures lanes { Each (λ _ l m. LanesGoOn l m
+            × AreSameLists l m) self.old.lanes self.new.lanes }
         ensures clients { SameClients clients.old clients.new }
     {
         laws::runs_are_chains();
@@ -195,25 +212,33 @@ impl Resolver {
         }
     }
 
-    // Takes a batch of the next proxy that has one and admits it, and returns the proxy; or finishes the core, once all have ended.
+    // Takes a batch of the next proxy that has one and admits it, and returns the proxy; or
+    // finishes the core, once all have ended.
     fn step(&mut self) -> Result<Option<usize>, Stop>
         ensures took { (proxy : ℕ) → result ≡ Ok (Some proxy) → TakesFrom proxy self.old self.new }
-        ensures still_open { (proxy : ℕ) → result ≡ Ok (Some proxy) → all_ended self.new.lanes ≡ false }
-        ensures none { result ≡ Ok None → Finishes self.old self.new ⊎ TakesNoStep self.old self.new }
+        ensures still_open { (proxy : ℕ) → result ≡ Ok (Some proxy)
+            → all_ended self.new.lanes ≡ false }
+        ensures none { result ≡ Ok None → Finishes self.old self.new
+            ⊎ TakesNoStep self.old self.new }
         ensures stop_met { IfErr result (λ _. self.old.core.stop ≡ None
             → ((proxy : ℕ) × TakesFrom proxy self.old self.new) ⊎ Finishes self.old self.new) }
-        ensures stopped { IfSome self.old.core.stop (λ stop. (result ≡ Err stop) × (self.new ≡ self.old)) }
+        ensures stopped { IfSome self.old.core.stop (λ stop. (result ≡ Err stop)
+            × (self.new ≡ self.old)) }
         ensures stop { IfErr result (λ stop. self.new.core.stop ≡ Some stop) }
         ensures no_stop { OnOk result (self.new.core.stop ≡ None) }
-        ensures looked_through { result ≡ Ok None → Each (λ _ l m. IsLookedThrough l m) self.old.lanes self.new.lanes }
+        ensures looked_through { result ≡ Ok None
+            → Each (λ _ l m. IsLookedThrough l m) self.old.lanes self.new.lanes }
         ensures passed { (proxy : ℕ) → result ≡ Ok (Some proxy)
-            → Each (λ passed l m. ComesBefore self.old.next passed proxy → IsLookedThrough l m) self.old.lanes self.new.lanes }
+            → Each (λ passed l m. ComesBefore self.old.next passed proxy
+            → IsLookedThrough l m) self.old.lanes self.new.lanes }
         ensures next { (proxy : ℕ) → result ≡ Ok (Some proxy) → self.new.next ≡ proxy + 1 }
         ensures next_stays { result ≡ Ok None → self.new.next ≡ self.old.next }
         ensures gate_full { self.old.core.stop ≡ None → result ≡ Err Stop.GateFull
             → (proxy : ℕ) × (took : TakesFrom proxy self.old self.new)
-            × (self.old.core.version <ℤ took.batch.previous) × (length self.old.core.held ≡ MAX_HELD) }
-        ensures arena_full { self.old.core.stop ≡ None → result ≡ Err Stop.ArenaFull → (log : List Step) → StandsOver self.old log
+            × (self.old.core.version <ℤ took.batch.previous)
+            × (length self.old.core.held ≡ MAX_HELD) }
+        ensures arena_full { self.old.core.stop ≡ None → result ≡ Err Stop.ArenaFull
+            → (log : List Step) → StandsOver self.old log
             → (proxy : ℕ) × (took : TakesFrom proxy self.old self.new)
             × StopsAtLimit self.old.core.set.map.limit self.old.core.set.window proxy took.batch
             (run self.old.core.set.window log) (sent_to self.new.lanes) self.new.core }
@@ -248,8 +273,10 @@ impl Resolver {
         ensures stands { (log : List Step) → StandsOver self.old log → StandsOver self.new log }
         ensures made { (proxy : ℕ) → made_to proxy (sent_to self.new.lanes) self.new.core
             ≡ made_to proxy (sent_to self.old.lanes) self.old.core }
-        ensures owed { Each (λ proxy l m. owed_to proxy self.new.core.owed ≢ [] → IsFull l m) self.old.lanes self.new.lanes }
-        ensures lanes { Each (λ _ l m. (m ≡ record l { replies = m.replies }) × PortGoesOn l.replies m.replies) self.old.lanes self.new.lanes }
+        ensures owed { Each (λ proxy l m. owed_to proxy self.new.core.owed ≢ []
+            → IsFull l m) self.old.lanes self.new.lanes }
+        ensures lanes { Each (λ _ l m. (m ≡ record l { replies = m.replies })
+            × PortGoesOn l.replies m.replies) self.old.lanes self.new.lanes }
         ensures same { SameBut self.old self.new }
     {
         all_lanes::hand_out(&mut self.all_lanes, &mut self.core);
@@ -261,7 +288,9 @@ impl Resolver {
         ensures closed { (proxy : ℕ) (l : Lanes) → slice_get self.new.lanes proxy ≡ Some l
             → (l.replies.closed ≡ true) ↔ IsThrough self.new }
         ensures core { self.new.core ≡ self.old.core }
-        ensures lanes { Each (λ _ l m. m ≡ record l { replies = record l.replies { closed = m.replies.closed } }) self.old.lanes self.new.lanes }
+        ensures lanes { Each (λ _ l m. m
+            ≡ record l { replies = record l.replies { closed = m.replies.closed } }) self.old.lanes
+            self.new.lanes }
         ensures count { length self.new.core.owed ≡ length self.new.lanes }
         ensures next { self.new.next ≡ self.old.next }
     {

@@ -1,6 +1,7 @@
 //! The resolver over values, which stops for good at the first refusal.
 
-ghost use Rattle.std.specs.Prelude.{◌≡◌, ◌≢◌, ◌<◌, ◌≤◌, ◌≤ℤ◌, ◌<ℤ◌, ◌↔◌, pos, negsuc, List, [], ◌∷◌, ◌++◌, length};
+ghost use Rattle.std.specs.Prelude.{◌≡◌, ◌≢◌, ◌<◌, ◌≤◌, ◌≤ℤ◌, ◌<ℤ◌, ◌↔◌, pos, negsuc, List, []};
+ghost use Rattle.std.specs.Prelude.{◌∷◌, ◌++◌, length};
 ghost use Rattle.std.specs.Prelude.{Some, None, Err};
 ghost use Rattle.std.specs.Prelude.{◌+◌, ◌^◌, OnOk, IfOk, IfErr, IfSome, IsTrue, option_to_list};
 ghost use Rattle.keyspace.specs.Run.{Step, Take, Finish, run};
@@ -29,8 +30,8 @@ pub const MAX_PROXIES: usize = 64;
 
 const _: () = prove!(MAX_PROXIES == 64);
 
-/// The resolver over values: `Resolver` of FoundationDB 7.1, without its network. It takes batches one after another, and
-/// owes each proxy the answers of the reference resolver.
+/// The resolver over values: `Resolver` of FoundationDB 7.1, without its network. It takes batches
+/// one after another, and owes each proxy the answers of the reference resolver.
 #[derive(Debug, Drop)]
 pub struct Core {
     alloc: Global,
@@ -61,8 +62,9 @@ impl Model for Core {
 }
 
 impl Core {
-    /// Creates a resolver for so many proxies, which has taken nothing. `window` is how far back it remembers writes, in
-    /// versions; its conflict set never keeps more boundaries than `limit`.
+    /// Creates a resolver for this number of proxies, which has taken nothing. `window` is how far
+    /// back it remembers writes, in versions; its conflict set never keeps more boundaries than
+    /// `limit`.
     pub fn new(alloc: Global, proxies: usize, window: i64, limit: usize) -> Result<Self, OpenError>
         requires least_proxies { 1 ≤ proxies }
         requires most_proxies { proxies ≤ MAX_PROXIES }
@@ -90,13 +92,14 @@ impl Core {
         })
     }
 
-    /// Creates a resolver that starts at a version, from -1 on: the first batch that it processes follows that version, and
-    /// what was written up to it isn't known. Each read range with a snapshot below the version is in conflict, unless it is
-    /// empty. The resolver answers `Never` to batches whose previous version is below it. At -1 this is [`Core::new`].
+    /// Creates a resolver that starts at a version, from -1 on: the first batch that it processes
+    /// follows that version, and what was written up to it isn't known. Each read range with a
+    /// snapshot below the version is in conflict, unless it is empty. The resolver answers `Never`
+    /// to batches whose previous version is below it. At -1 this is [`Core::new`].
     ///
-    /// Contracts see it as a resolver that has processed one batch already, which wrote every key at the version and which
-    /// none of the proxies sent. Returns `ArenaFull` if the limit is below 3 and the version isn't -1, or `Memory` if memory is
-    /// refused.
+    /// Contracts see it as a resolver that has processed one batch already, which wrote every key
+    /// at the version and which none of the proxies sent. Returns `ArenaFull` if the limit is below
+    /// 3 and the version isn't -1, or `Memory` if memory is refused.
     pub fn new_at(
         alloc: Global,
         proxies: usize,
@@ -137,21 +140,26 @@ impl Core {
         })
     }
 
-    /// Takes a batch of a proxy. The batch is held, or it and what it frees are answered.
+    /// Takes a batch of a proxy. The batch is held, or it and the batches that it frees are
+    /// answered.
     ///
-    /// An error is final: every later call of this and of [`finish`](Self::finish) returns the same one and changes nothing.
-    /// The batch that met it counts as taken, and the answers made before it are still handed out.
+    /// An error is final: every later call of this and of [`finish`](Self::finish) returns the same
+    /// one and changes nothing. The batch that met it counts as taken, and the answers made before
+    /// it are still handed out.
     pub fn admit(&mut self, proxy: usize, batch: Batch) -> Result<(), Stop>
         requires known { proxy < length self.old.owed }
-        ensures stands { self.old.stop ≡ None → (log : List Step) (given : Given) → Stands self.old log given
+        ensures stands { self.old.stop ≡ None → (log : List Step) (given : Given)
+            → Stands self.old log given
             → Stands self.new (log ++ Take proxy batch ∷ []) given }
         ensures open { OnOk result ((self.old.stop ≡ None) × (self.new.stop ≡ None)) }
         ensures stops { IfErr result (λ stop. self.new.stop ≡ Some stop) }
-        ensures stopped { IfSome self.old.stop (λ stop. (result ≡ Err stop) × (self.new ≡ self.old)) }
+        ensures stopped { IfSome self.old.stop (λ stop. (result ≡ Err stop)
+            × (self.new ≡ self.old)) }
         ensures goes_on { GoesOn self.old self.new }
         ensures gate_full { self.old.stop ≡ None → (result ≡ Err Stop.GateFull)
             ↔ (self.old.version <ℤ batch.previous) × (length self.old.held ≡ MAX_HELD) }
-        ensures arena_full { self.old.stop ≡ None → result ≡ Err Stop.ArenaFull → (log : List Step) (given : Given)
+        ensures arena_full { self.old.stop ≡ None → result ≡ Err Stop.ArenaFull
+            → (log : List Step) (given : Given)
             → Stands self.old log given
             → StopsAtLimit self.old.set.map.limit self.old.set.window proxy batch
             (run self.old.set.window log) given self.new }
@@ -170,11 +178,13 @@ impl Core {
     ///
     /// An error is final, as that of [`admit`](Self::admit) is.
     pub fn finish(&mut self) -> Result<(), Stop>
-        ensures stands { self.old.stop ≡ None → (log : List Step) (given : Given) → Stands self.old log given
+        ensures stands { self.old.stop ≡ None → (log : List Step) (given : Given)
+            → Stands self.old log given
             → Stands self.new (log ++ Finish ∷ []) given }
         ensures open { OnOk result ((self.old.stop ≡ None) × (self.new.stop ≡ None)) }
         ensures stops { IfErr result (λ stop. self.new.stop ≡ Some stop) }
-        ensures stopped { IfSome self.old.stop (λ stop. (result ≡ Err stop) × (self.new ≡ self.old)) }
+        ensures stopped { IfSome self.old.stop (λ stop. (result ≡ Err stop)
+            × (self.new ≡ self.old)) }
         ensures memory { self.old.stop ≡ None → IfErr result (λ stop. stop ≡ Stop.Memory) }
         ensures goes_on { GoesOn self.old self.new }
     {
@@ -188,7 +198,8 @@ impl Core {
         finished
     }
 
-    /// Removes and returns the oldest answer owed to the proxy, or returns `None` if none is owed. After an error too.
+    /// Removes and returns the oldest answer owed to the proxy, or returns `None` if none is owed.
+    /// After an error too.
     pub fn give(&mut self, proxy: usize) -> Option<Answer>
         requires known { proxy < length self.old.owed }
         ensures oldest { owed_to proxy self.old.owed

@@ -5,10 +5,10 @@ ghost use Rattle.resolver.specs.Share.{share_of};
 
 use chain::MAX_HELD;
 
-/// Returns the share of each of so many proxies in the batches that a resolver holds: [`MAX_HELD`] divided by their number, rounded
-/// down.
+/// Returns the share of each of n proxies in the batches that a resolver holds: [`MAX_HELD`]
+/// divided by their number, rounded down.
 ///
-/// Where none of them ever has more batches sent for which it has no answer, no turn answers `GateFull`.
+/// If none of them ever has more batches sent without an answer, no turn answers `GateFull`.
 pub fn share(proxies: usize) -> u64
     requires some { 1 ≤ proxies }
     ensures share { result ≡ share_of proxies }

@@ -12,7 +12,8 @@ use thiserror::Error;
 /// Why a resolver takes no more batches.
 #[derive(Clone, Copy, Debug, PartialEq, Eq, Hash, Error)]
 pub enum Stop {
-    /// Memory was refused, or a count came to its end: 8,388,608 chunks of an arena, or 2^64 - 65 answers owed.
+    /// Memory was refused, or a count came to its end: 8,388,608 chunks of an arena, or 2^64 - 65
+    /// answers owed.
     #[error("1 Memory")]
     Memory = 1,
     /// A batch had to be held, and [`MAX_HELD`](chain::MAX_HELD) were held already.

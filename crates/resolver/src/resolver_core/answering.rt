@@ -1,12 +1,15 @@
-//! How a core answers: it holds a batch, judges it or finds the reply of a repeat, and so for all that leave.
+//! How a core answers: it holds a batch, judges it or finds the reply of a repeat, and so for all
+//! that leave.
 
-ghost use Rattle.std.specs.Prelude.{◌≡◌, ◌≢◌, ℕ, ℤ, ◌<◌, ◌≤ℤ◌, ◌<ℤ◌, ◌↔◌, length, Some, None, Err, OnOk, OnErr, IfOk, IfErr};
+ghost use Rattle.std.specs.Prelude.{◌≡◌, ◌≢◌, ℕ, ℤ, ◌<◌, ◌≤ℤ◌, ◌<ℤ◌, ◌↔◌, length, Some, None, Err};
+ghost use Rattle.std.specs.Prelude.{OnOk, OnErr, IfOk, IfErr};
 ghost use Rattle.keyspace.specs.Found.{found, reply_or_never};
 ghost use Rattle.keyspace.specs.Run.{State, Take, Finish, answer, process, leave_all, step};
 ghost use Rattle.keyspace.specs.Run as reference;
 ghost use Rattle.chain.specs.declared.gate.TheConstants.{MAX_HELD};
 ghost use Rattle.chain.specs.Replies.{reply_of};
-ghost use Rattle.resolver.specs.Core.{Given, IsIn, GoesOn, MadeBetween, StopsIn, StopsAsTheyLeave, StopsAtLimit};
+ghost use Rattle.resolver.specs.Core.{Given, IsIn, GoesOn, MadeBetween, StopsIn, StopsAsTheyLeave};
+ghost use Rattle.resolver.specs.Core.{StopsAtLimit};
 ghost use Rattle.resolver.specs.Core.{kept_also};
 
 use super::Core;
@@ -16,20 +19,24 @@ use keyspace::{Answer, Batch, Reply, laws};
 use std::alloc::Global;
 
 impl Core {
-    /// Takes a batch of a proxy: holds it or answers it, and then answers all held batches that leave.
+    /// Takes a batch of a proxy: holds it or answers it, and then answers all held batches that
+    /// leave.
     pub(super) fn take(&mut self, proxy: usize, batch: Batch) -> Result<(), Stop>
         requires known { proxy < length self.old.owed }
         requires open { self.old.stop ≡ None }
         ensures ok { OnOk result ((state : State) (given : Given) → IsIn state given self.old
             → IsIn (step self.old.set.window (Take proxy batch) state) given self.new) }
         ensures err { OnErr result ((state : State) (given : Given) → IsIn state given self.old
-            → MadeBetween state (step self.old.set.window (Take proxy batch) state) given self.new) }
+            → MadeBetween state (step self.old.set.window (Take proxy batch) state) given
+            self.new) }
         ensures open { OnOk result (self.new.stop ≡ None) }
         ensures goes_on { GoesOn self.old self.new }
         ensures gate_full { (result ≡ Err Stop.GateFull)
             ↔ (self.old.version <ℤ batch.previous) × (length self.old.held ≡ MAX_HELD) }
-        ensures arena_full { result ≡ Err Stop.ArenaFull → (state : State) (given : Given) → IsIn state given self.old
-            → StopsAtLimit self.old.set.map.limit self.old.set.window proxy batch state given self.new }
+        ensures arena_full { result ≡ Err Stop.ArenaFull → (state : State) (given : Given)
+            → IsIn state given self.old
+            → StopsAtLimit self.old.set.map.limit self.old.set.window proxy batch state given
+            self.new }
     {
         if batch.previous > self.version {
             self.hold(proxy, batch)?;
@@ -88,8 +95,10 @@ impl Core {
         ensures held { self.new.held ≡ self.old.held }
         ensures goes_on { GoesOn self.old self.new }
         ensures not_gate { result ≢ Err Stop.GateFull }
-        ensures arena_full { result ≡ Err Stop.ArenaFull → (state : State) (given : Given) → IsIn state given self.old
-            → StopsIn self.old.set.map.limit self.old.set.window state proxy batch.now given self.new }
+        ensures arena_full { result ≡ Err Stop.ArenaFull → (state : State) (given : Given)
+            → IsIn state given self.old
+            → StopsIn self.old.set.map.limit self.old.set.window state proxy batch.now given
+            self.new }
     {
         if batch.previous < self.version {
             self.repeat(proxy, batch.version)
@@ -114,8 +123,8 @@ impl Core {
         Ok(())
     }
 
-    // Judges a batch whose previous version is the version, keeps its reply for a repeat, and answers with it. The core stops where its
-    // conflict set does.
+    // Judges a batch whose previous version is the version, keeps its reply for a repeat, and
+    // answers with it. The core stops where its conflict set does.
     fn process(&mut self, proxy: usize, batch: &Batch) -> Result<(), Stop>
         requires known { proxy < length self.old.owed }
         requires open { self.old.stop ≡ None }
@@ -127,8 +136,10 @@ impl Core {
         ensures held { self.new.held ≡ self.old.held }
         ensures goes_on { GoesOn self.old self.new }
         ensures not_gate { result ≢ Err Stop.GateFull }
-        ensures arena_full { result ≡ Err Stop.ArenaFull → (state : State) (given : Given) → IsIn state given self.old
-            → StopsIn self.old.set.map.limit self.old.set.window state proxy batch.now given self.new }
+        ensures arena_full { result ≡ Err Stop.ArenaFull → (state : State) (given : Given)
+            → IsIn state given self.old
+            → StopsIn self.old.set.map.limit self.old.set.window state proxy batch.now given
+            self.new }
     {
         laws::one_reply();
         self.owed.reserve(proxy)?;
@@ -146,7 +157,8 @@ impl Core {
         Ok(())
     }
 
-    // Answers the held batches that leave at the version, one at a time, and so on as the version rises.
+    // Answers the held batches that leave at the version, one at a time, and so on as the version
+    // rises.
     fn release(&mut self) -> Result<(), Stop>
         requires open { self.old.stop ≡ None }
         ensures ok { OnOk result ((state : State) (given : Given) → IsIn state given self.old
@@ -156,7 +168,8 @@ impl Core {
         ensures open { OnOk result (self.new.stop ≡ None) }
         ensures goes_on { GoesOn self.old self.new }
         ensures not_gate { result ≢ Err Stop.GateFull }
-        ensures arena_full { result ≡ Err Stop.ArenaFull → (state : State) (given : Given) → IsIn state given self.old
+        ensures arena_full { result ≡ Err Stop.ArenaFull → (state : State) (given : Given)
+            → IsIn state given self.old
             → StopsAsTheyLeave self.old.set.map.limit self.old.set.window state given self.new }
     {
         laws::leaving();
@@ -169,7 +182,8 @@ impl Core {
 
 // Returns the answer to a repeat of the proxy's batch of this version.
 fn find(alloc: Global, replies: &Replies, proxy: usize, version: i64) -> Result<Answer, Stop>
-    ensures found { IfOk result (λ answer. answer ≡ reply_or_never version (reply_of replies.now proxy version)) }
+    ensures found { IfOk result (λ answer. answer
+        ≡ reply_or_never version (reply_of replies.now proxy version)) }
     ensures memory { IfErr result (λ stop. stop ≡ Stop.Memory) }
 {
     match replies.find(proxy, version) {
@@ -178,7 +192,8 @@ fn find(alloc: Global, replies: &Replies, proxy: usize, version: i64) -> Result<
     }
 }
 
-// Gives up the proxy's replies up to the version that it has received, and keeps a copy of this one.
+// Gives up the proxy's replies up to the version that it has received, and keeps a copy of this
+// one.
 fn keep(
     alloc: Global,
     replies: &mut Replies,
@@ -189,7 +204,8 @@ fn keep(
     requires absent { reply_of replies.old proxy reply.now.version ≡ None }
     ensures ok { OnOk result ((p : ℕ) (v : ℤ) → reply_of replies.new p v
         ≡ kept_also proxy received reply.now (reply_of replies.old) p v) }
-    ensures err { OnErr result ((p : ℕ) (v : ℤ) (kept : Reply) → reply_of replies.new p v ≡ Some kept
+    ensures err { OnErr result ((p : ℕ) (v : ℤ) (kept : Reply)
+        → reply_of replies.new p v ≡ Some kept
         → reply_of replies.old p v ≡ Some kept) }
     ensures memory { IfErr result (λ stop. stop ≡ Stop.Memory) }
 {

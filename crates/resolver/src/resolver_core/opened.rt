@@ -1,4 +1,5 @@
-//! What a core that starts at a version keeps: the reply to the batch that stands for what was written before.
+//! What a core that starts at a version keeps: the reply to the batch that stands for what was
+//! written before.
 
 ghost use Rattle.std.specs.Prelude.{◌≡◌, ◌≤ℤ◌, ℕ, ℤ, pos, negsuc, [], ◌∷◌, IfOk, IfErr};
 ghost use Rattle.keyspace.specs.declared.reply.Verdict.TheVariants.{Committed};
@@ -13,8 +14,8 @@ use chain::Replies;
 use keyspace::{Entry, Places, Reply, Sequence, Verdict};
 use std::alloc::{AllocError, Global};
 
-/// Returns the replies that a resolver with so many proxies keeps when it starts at the version: that to the opening batch,
-/// which no proxy can ask for, or none at -1.
+/// Returns the replies that a resolver with so many proxies keeps when it starts at the version:
+/// that to the opening batch, which no proxy can ask for, or none at -1.
 pub(super) fn replies_at(alloc: Global, proxies: usize, version: i64) -> Result<Replies, Stop>
     requires least_version { negsuc 0 ≤ℤ version }
     ensures kept { IfOk result (λ replies. (window : ℤ) (p : ℕ) (v : ℤ) → reply_of replies p v
