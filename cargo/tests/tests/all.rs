@@ -3,6 +3,7 @@
 
 mod arena;
 mod conflict_set;
+mod failures;
 mod frames;
 mod keys;
 mod lane;
@@ -12,4 +13,5 @@ mod resolver;
 mod retries;
 mod serving;
 mod shards;
+mod sizes;
 mod step_map;
