@@ -11,7 +11,7 @@ from typing import BinaryIO
 
 from .case import Case, Outcome, Run, Text
 
-LIMIT = 20  # seconds
+LIMIT = 45  # seconds
 ENDLESS = -1_000  # the status of a program that was ended after them
 SHOWN = 600  # bytes of a text
 CLAP_SPEAKS = ("replay", "batches")
@@ -25,6 +25,10 @@ class Difference:
     run: Run
     # What each side printed, by its name.
     outcomes: dict[str, Outcome]
+
+    def is_endless(self) -> bool:
+        """Whether a program didn't end."""
+        return any(outcome.status == ENDLESS for outcome in self.outcomes.values())
 
 
 def played(programs: Programs, run: Run, folder: Path) -> Outcome:
@@ -80,8 +84,8 @@ def compared(case: Case, sides: dict[str, Programs], room: Path) -> list[Differe
                 outcomes["expected"] = run.expected
             if differs(run, outcomes):
                 found.append(Difference(run, outcomes))
-            if any(outcome.status == ENDLESS for outcome in outcomes.values()):
-                break
+                if found[-1].is_endless():
+                    break
     return found
 
 
