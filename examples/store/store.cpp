@@ -25,20 +25,6 @@ bool fits(const Request& request) {
            headBytes + frameBytes(request) <= ARCHCARAWAY_MAX_FRAME;
 }
 
-// Opens a set that knows nothing of the history up to `version`. It must not commit a read whose
-// snapshot is below: a write that it never saw may have come since. So it begins with a batch that
-// writes all keys at that version.
-Set openSet(Version window, std::uint64_t limit, Version version) {
-    Set set(window, limit);
-    archcaraway::BatchWriter writer;
-    std::vector<std::uint8_t> reply;
-    writer.begin(-1, version, -1);
-    writer.transaction(version);
-    writer.write("", std::string(ARCHCARAWAY_MAX_KEY, '\xff'));
-    set.resolve(writer.end(), reply);
-    return set;
-}
-
 } // namespace
 
 Store::Store(const std::string& folder, const Options& options)
@@ -58,10 +44,12 @@ Store::~Store() {
     committer_.join();
 }
 
-// Opens the first set, or one instead of a set that has met its limit.
+// Opens the first set, or one instead of a set that has met its limit. It knows nothing of the
+// history up to the version of the last batch, so it must not commit a read whose snapshot is below:
+// a write that it never saw may have come since.
 void Store::open() {
     if (options_.startsAtVersion) {
-        set_.emplace(openSet(options_.window, options_.limit, version_));
+        set_.emplace(Set::at(version_, options_.window, options_.limit));
     } else {
         set_.emplace(options_.window, options_.limit);
     }

@@ -3,7 +3,6 @@
 
 mod arena;
 mod conflict_set;
-mod failures;
 mod frames;
 mod keys;
 mod lane;
