@@ -50,8 +50,9 @@ std::size_t mostReply(const Batch& batch) {
 // A set beside a scan.
 class Set {
 public:
-    Set(Version window, std::uint64_t limit) : limit_(limit), scan_(window) {
-        DEMAND(archcaraway_set_new(window, limit, &set_) == ARCHCARAWAY_OK);
+    Set(Version window, std::uint64_t limit, Version start)
+      : limit_(limit), scan_(window, start), version_(start) {
+        DEMAND(archcaraway_set_new_at(window, limit, start, &set_) == ARCHCARAWAY_OK);
     }
     ~Set() { archcaraway_set_free(&set_); }
     Set(const Set&) = delete;
@@ -92,16 +93,17 @@ private:
     archcaraway_set set_ = ARCHCARAWAY_NONE;
     std::uint64_t limit_;
     plain::Scan scan_;
-    Version version_ = -1;
+    Version version_; // of the last batch
     int stop_ = 0;
 };
 
 // A core beside the rules.
 class Core {
 public:
-    Core(unsigned proxies, Version window, std::uint64_t limit)
-      : limit_(limit), proxies_(proxies), rules_(proxies, window) {
-        DEMAND(archcaraway_core_new(proxies, window, limit, &core_) == ARCHCARAWAY_OK);
+    Core(unsigned proxies, Version window, std::uint64_t limit, Version start)
+      : limit_(limit), proxies_(proxies), rules_(proxies, window, start) {
+        const int status = archcaraway_core_new_at(proxies, window, limit, start, &core_);
+        DEMAND(status == ARCHCARAWAY_OK);
     }
     ~Core() { archcaraway_core_free(&core_); }
     Core(const Core&) = delete;
@@ -172,8 +174,8 @@ private:
 
 // A stream of frames, each given alone, and with all bytes after it.
 void runFrames(const std::uint8_t* bytes, std::size_t length) {
-    Set set(ARCHCARAWAY_WINDOW, ARCHCARAWAY_LIMIT);
-    Core core(1, ARCHCARAWAY_WINDOW, ARCHCARAWAY_LIMIT);
+    Set set(ARCHCARAWAY_WINDOW, ARCHCARAWAY_LIMIT, -1);
+    Core core(1, ARCHCARAWAY_WINDOW, ARCHCARAWAY_LIMIT, -1);
     while (length > 0) {
         std::size_t frame = 0, found = 1;
         int fault = 0;
@@ -294,14 +296,17 @@ void runChoices(Choices choices) {
     const unsigned limited = choices.next(12);
     const std::uint64_t limit = limited < 6 ? limits[limited] : ARCHCARAWAY_LIMIT;
     const unsigned proxies = 1 + choices.next(3);
-    Set set(window, limit);
-    Core core(proxies, window, limit);
+    // Two boundaries of three are taken by a start.
+    Version start = -1;
+    if (limit >= 3 && choices.next(3) == 0) start = 10 * Version(choices.next(200));
+    Set set(window, limit, start);
+    Core core(proxies, window, limit, start);
     std::vector<Batch> chain;
     std::vector<std::size_t> late;
     const auto admit = [&](std::size_t index, unsigned proxy) {
         core.admit(proxy, frameOf(chain[index]), chain[index]);
     };
-    for (Version previous = -1; choices.more() && chain.size() < 100;) {
+    for (Version previous = start; choices.more() && chain.size() < 100;) {
         chain.push_back(chosenBatch(choices, previous));
         previous = chain.back().version;
         set.resolve(frameOf(chain.back()), chain.back());

@@ -59,10 +59,13 @@ struct Reply {
     }
 };
 
-// All committed writes with the versions of their batches.
+// All committed writes with the versions of their batches. What was written up to the version
+// `start` isn't known, unless that is -1: as if all keys were written then.
 class Scan {
 public:
-    explicit Scan(Version window) : window_(window) {}
+    Scan(Version window, Version start) : window_(window) {
+        if (start >= 0) writes_.emplace_back(start, Range{"", Key(10'001, '\xff')});
+    }
 
     // Judges a batch whose version is above those before, and keeps what it commits.
     Reply resolve(const Batch& batch) {
@@ -118,10 +121,11 @@ struct Answer {
     Reply reply;
 };
 
-// A resolver that keeps everything and looks through it.
+// A resolver that keeps everything and looks through it. Its first batch follows `start`.
 class Resolver {
 public:
-    Resolver(std::size_t proxies, Version window) : answers(proxies), scan_(window) {}
+    Resolver(std::size_t proxies, Version window, Version start)
+      : answers(proxies), scan_(window, start), version_(start) {}
 
     void take(std::size_t proxy, const Batch& batch) {
         if (batch.previous > version_) {
@@ -177,7 +181,7 @@ private:
     }
 
     Scan scan_;
-    Version version_ = -1;
+    Version version_;
     Held held_;
     std::map<std::pair<std::size_t, Version>, Reply> kept_;
 };
