@@ -45,8 +45,8 @@ Store::~Store() {
 }
 
 // Opens the first set, or one instead of a set that has met its limit. It knows nothing of the
-// history up to the version of the last batch, so it must not commit a read whose snapshot is below:
-// a write that it never saw may have come since.
+// history up to the version of the last batch. So it must not commit a read whose snapshot is
+// below: a write that it never saw may have come since.
 void Store::open() {
     if (options_.startsAtVersion) {
         set_.emplace(Set::at(version_, options_.window, options_.limit));

@@ -80,7 +80,8 @@ class Appends(unittest.TestCase):
             append("3", 0, 10, {"c": [], "a": [1]}, {"c": 3}),
             all_lists(a=[1], b=[2], c=[3]),
         )
-        expected = "cycle: 1 misses the write of 2 misses the write of 3 misses the write of the first"
+        misses = "misses the write of"
+        expected = f"cycle: 1 {misses} 2 {misses} 3 {misses} the first"
         self.assertEqual(found, [])
         found = anomalies(
             "appends",
@@ -191,18 +192,25 @@ class Parts(unittest.TestCase):
         self.assertEqual(graph.cycle([2, 0, 1]), [0, 1, 2, 0])
 
     def test_lines_that_are_cut(self) -> None:
-        lines = ['{"id": "1", "begin": 1}', "", '{"id": "2", "be', '{"id":"1","end":3,"outcome":"conflict"}']
+        lines = [
+            '{"id": "1", "begin": 1}',
+            "",
+            '{"id": "2", "be',
+            '{"id": "1", "end": 3, "outcome": "conflict"}',
+        ]
         history = read_history(lines)
         self.assertEqual([(each.id, each.outcome) for each in history], [("1", "conflict")])
 
     def test_command(self) -> None:
         with tempfile.NamedTemporaryFile("w") as file:
-            file.write(json.dumps({"id": "1", "begin": 1, "switches": {"p/x": "off", "p/y": "off"}}))
+            switches = {"p/x": "off", "p/y": "off"}
+            file.write(json.dumps({"id": "1", "begin": 1, "switches": switches}))
             file.flush()
             command = [sys.executable, str(Path(__file__).parent / "check.py"), "skew", file.name]
             done = subprocess.run(command, capture_output=True, text=True)
         self.assertEqual(done.returncode, 1)
-        self.assertIn("skew: 0 committed, 0 conflict, 0 too old, 1 unknown; 2 anomalies", done.stdout)
+        counts = "skew: 0 committed, 0 conflict, 0 too old, 1 unknown; 2 anomalies"
+        self.assertIn(counts, done.stdout)
 
 
 if __name__ == "__main__":
