@@ -6,14 +6,18 @@ use archcaraway::{
 
 const START: i64 = 1_000_000_000;
 
-fn batch(previous: i64, version: i64, txns: impl IntoIterator<Item = Txn>) -> Batch {
+fn batch<'a>(previous: i64, version: i64, txns: impl IntoIterator<Item = Txn<'a>>) -> Batch {
     let builder = txns
         .into_iter()
         .fold(BatchBuilder::new(previous, version), BatchBuilder::txn);
     builder.build().expect("it is within the limits")
 }
 
-fn verdicts(set: &mut ConflictSet, version: i64, txns: impl IntoIterator<Item = Txn>) -> Vec<Verdict> {
+fn verdicts<'a>(
+    set: &mut ConflictSet,
+    version: i64,
+    txns: impl IntoIterator<Item = Txn<'a>>,
+) -> Vec<Verdict> {
     let reply = set.resolve(&batch(-1, version, txns));
     reply.expect("it is within the limit").verdicts().collect()
 }
@@ -26,10 +30,10 @@ fn reads_below_the_first_version_conflict() {
     let txns = [
         Txn::at(900).read_key("k"),
         Txn::at(999).read(("", "\u{0}")),
-        Txn::at(999).read_key(longest.clone()),
+        Txn::at(999).read_key(&longest),
         Txn::at(900).read(("k", "k")),
         Txn::at(1_000).read_key("k"),
-        Txn::at(1_000).read_key(longest),
+        Txn::at(1_000).read_key(&longest),
         Txn::at(900).write_key("k"),
     ];
     use Verdict::{Committed, Conflict};
@@ -123,14 +127,14 @@ fn a_start_commits_nothing_that_the_history_would_not() {
         let mut known = ConflictSet::new(WINDOW, MAX_LIMIT).expect("the numbers are right");
         for version in 0..100 {
             let key = vec![below(16) as u8];
-            verdicts(&mut known, version, [Txn::at(0).write_key(key)]);
+            verdicts(&mut known, version, [Txn::at(0).write_key(&key)]);
         }
         let mut started = ConflictSet::new_at(WINDOW, MAX_LIMIT, 99).expect("the numbers are right");
         // Each transaction alone, so that both sets remember the same later writes.
         for version in 100..150 {
             let read = vec![below(16) as u8];
             let snapshot = 90 + below(version as u64 - 90) as i64;
-            let txn = || Txn::at(snapshot).read_key(read.clone());
+            let txn = || Txn::at(snapshot).read_key(&read);
             let by_start = verdicts(&mut started, version, [txn()])[0];
             let by_history = verdicts(&mut known, version, [txn()])[0];
             let expected = if snapshot < 99 { Verdict::Conflict } else { by_history };
