@@ -11,7 +11,7 @@ from typing import BinaryIO
 
 from .case import Case, Outcome, Run, Text
 
-LIMIT = 45  # seconds
+LIMIT = 55  # seconds
 ENDLESS = -1_000  # the status of a program that was ended after them
 SHOWN = 600  # bytes of a text
 CLAP_SPEAKS = ("replay", "batches")
