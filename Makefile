@@ -1,7 +1,7 @@
 .PHONY: quick demo rust rust-packages rust-crate-test rust-doc rust-package library-unproved quick-test rust-test \
 	rust-test-long replay batches check test more-edits \
 	refused-memory json-examples stalled-pipes readme-runs manual-page program-runs library install uninstall library-test \
-	languages-test plant bench profile
+	languages-test store-test fuzz rust-plant plant bench profile
 
 # The Cargo edition: the same sources, clauses erased, built by rustc. It needs Rust 1.85, cc, make and python3, and no network.
 
@@ -59,6 +59,10 @@ rust-test-long:
 	cargo/compare --runs 20000
 	ARCHCARAWAY_LONG=1 cargo/test
 
+# Inverts a comparison of an erased crate, 15 times, and shows that `make rust-test` finds it within a minute.
+rust-plant: quick
+	cargo/plant
+
 # The proved edition: everything below needs the Rattle toolchain with its command `rt`.
 
 # Proves and builds the program, and runs it once.
@@ -86,6 +90,14 @@ library-test: library
 # Tests the library of BUILT in each language: C, C++, Python, Go, Rust; their examples, and the snippets of docs/EMBEDDING.md.
 languages-test:
 	.ci/languages-test
+
+# Tests the store of examples/store over the library in BUILT (out/quick): each workload for SECONDS_EACH (10) seconds, kills, controls.
+store-test:
+	.ci/store-test
+
+# Fuzzes the library that cargo builds, and the proved one if it is in out/, for SECONDS (30) each. Needs clang with its runtime.
+fuzz:
+	SECONDS_EACH=$(or $(SECONDS),30) .ci/fuzz-test
 
 # Proves and builds the program that turns lines of JSON into batches, and shows that the examples and their JSON are the other.
 batches:

@@ -11,7 +11,8 @@ from typing import BinaryIO
 
 from .case import Case, Outcome, Run, Text
 
-LIMIT = 60  # seconds
+LIMIT = 55  # seconds
+ENDLESS = -1_000  # the status of a program that was ended after them
 SHOWN = 600  # bytes of a text
 CLAP_SPEAKS = ("replay", "batches")
 FAULT = re.compile(rb"^replay: proxy \d+: wire .*\n", re.MULTILINE)
@@ -25,6 +26,10 @@ class Difference:
     # What each side printed, by its name.
     outcomes: dict[str, Outcome]
 
+    def is_endless(self) -> bool:
+        """Whether a program didn't end."""
+        return any(outcome.status == ENDLESS for outcome in self.outcomes.values())
+
 
 def played(programs: Programs, run: Run, folder: Path) -> Outcome:
     """Runs a command line."""
@@ -34,7 +39,7 @@ def played(programs: Programs, run: Run, folder: Path) -> Outcome:
         try:
             done = subprocess.run(command, input=run.stdin, stdout=out, stderr=subprocess.PIPE, cwd=folder, timeout=LIMIT)
         except subprocess.TimeoutExpired:
-            return Outcome(-1, b"", f"no end after {LIMIT} seconds".encode())
+            return Outcome(ENDLESS, b"", f"no end after {LIMIT} seconds".encode())
     return Outcome(done.returncode, done.stdout or b"", done.stderr)
 
 
@@ -67,7 +72,8 @@ def write_files(case: Case, folder: Path) -> None:
 
 
 def compared(case: Case, sides: dict[str, Programs], room: Path) -> list[Difference]:
-    """Runs a case on each side, and returns the runs that differ from each other or from what is expected."""
+    """Runs a case on each side, and returns the runs that differ from each other or from what is expected. A program that doesn't end
+    ends the case."""
     found = []
     with tempfile.TemporaryDirectory(dir=room) as name:
         folder = Path(name)
@@ -78,6 +84,8 @@ def compared(case: Case, sides: dict[str, Programs], room: Path) -> list[Differe
                 outcomes["expected"] = run.expected
             if differs(run, outcomes):
                 found.append(Difference(run, outcomes))
+                if found[-1].is_endless():
+                    break
     return found
 
 

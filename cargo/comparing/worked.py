@@ -190,7 +190,7 @@ FULL_RUNS: tuple[tuple[str, tuple[str, ...], bytes, bytes], ...] = (
     ("replay", ("--version",), b"", b""),
     ("batches", ("decode",), rows.FIRST_RUN, b"the output can't be written\n"),
     ("batches", ("show",), rows.FIRST_RUN, b"the output can't be written\n"),
-    ("batches", ("--help",), b"", b""),
+    ("batches", ("--help",), b"", b"the output can't be written\n"),
     ("workload", ("points", "1", "1"), b"", b"workload: a write failed\n"),
     ("workload", (), b"", b"workload: a write failed\n"),
 )

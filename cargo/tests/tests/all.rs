@@ -12,4 +12,5 @@ mod resolver;
 mod retries;
 mod serving;
 mod shards;
+mod sizes;
 mod step_map;

@@ -6,7 +6,7 @@ use keyspace::{Batch, LimitError, Txn, Verdict};
 use rattle_std::alloc::Global;
 use resolver::{Core, Stop};
 use stepmap::{KeyLengths, MAX_LIMIT, StepMap};
-use tests::cases::{count, is_long};
+use tests::cases::is_long;
 use tests::plain::{PlainAnswer, PlainBatch, PlainRange, PlainReply, PlainTxn, key};
 use tests::random::Random;
 use tests::scan::Scan;
@@ -26,7 +26,7 @@ fn number(number: u64) -> Vec<u8> {
 /// A step map with 2,000,000 boundaries beside the one at the empty key: the writes come in no order, and each stays apart.
 #[test]
 fn step_map_of_two_million_boundaries() {
-    let writes = count(1_000_000, 50_000);
+    let writes: u64 = 1_000_000;
     let mut map = StepMap::new(Global, MAX_LIMIT).expect("memory is ample");
     // An odd step goes through all numbers below a power of two, each once.
     let power = writes.next_power_of_two();
