@@ -10,7 +10,7 @@ pub returns-clause-refused : goal.returns-clause-refused
 returns-clause-refused c =
     let s = c.in-Err-reply.ensures.stops in
     subst (λ (r : Refusal). SetRefuses c.args.self.now c.reply.new.self c.args.frame.now (length c.args.answer.now) r)
-    (sym s.1.0)
+    (sym s.1)
     (inr (
       search rules,
       record {
@@ -20,7 +20,7 @@ returns-clause-refused c =
         fits = omega (arith, c.if-answer-most.false, c.most_reply_length-most.ensures.most);
         met = s.0;
         stop_is = refl;
-        at_batch = s.1.1;
+        at_batch = s.2;
       },
     ))
 
