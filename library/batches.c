@@ -184,9 +184,8 @@ int archcaraway_set_judge(archcaraway_set *set, int64_t version, const archcaraw
     if (bad != NULL) *bad = count;
     if (set == NULL || set->at == NULL) return ARCHCARAWAY_ARGUMENT;
     if ((txns == NULL || verdicts == NULL) && count != 0) return ARCHCARAWAY_ARGUMENT;
-    status = archcaraway_batch_new(&batch);
-    if (status == ARCHCARAWAY_MEMORY) return ARCHCARAWAY_FRAME_MEMORY;
-    if (status != ARCHCARAWAY_OK) return status;
+    /* There is a set, so the processor fits. */
+    if (archcaraway_export_batch_new(&batch.at) != ARCHCARAWAY_OK) return ARCHCARAWAY_FRAME_MEMORY;
     status = add_all(&batch, txns, count, &first_bad);
     if (status == ARCHCARAWAY_OK) {
         status = archcaraway_set_judge_batch(set, version, &batch, verdicts, count);

@@ -103,13 +103,13 @@ module _ (buffer : List ℕ) (spans : List Span) (bytes : List ℕ) (others : Li
       let low : length spans + row.end - row.writes ≡ length spans + middle = omega (arith, are.0) in
       let reads = part_moved from middle (length spans + row.end - row.writes) low in
       let writes :
-        map (range_told (buffer ++ bytes)) (slice_range (spans ++ map (span_moved (length buffer)) others)
-        (length spans + row.end - row.writes) (length spans + row.end))
-        ≡ map (range_told bytes) (slice_range others middle row.end) =
+      map (range_told (buffer ++ bytes)) (slice_range (spans ++ map (span_moved (length buffer)) others)
+      (length spans + row.end - row.writes) (length spans + row.end))
+      ≡ map (range_told bytes) (slice_range others middle row.end) =
       ap (λ n. map (range_told (buffer ++ bytes)) (slice_range (spans ++ map (span_moved (length buffer)) others)
       n (length spans + row.end))) low ∙ part_moved middle row.end (length spans + row.end) refl in
       let txn : txn_told (buffer ++ bytes) (spans ++ map (span_moved (length buffer)) others) (length spans + from)
-        (row_moved (length spans) row) ≡ txn_told bytes others from row =
+      (row_moved (length spans) row) ≡ txn_told bytes others from row =
       λ i. record { snapshot = row.snapshot; marked = row.marked; reads = reads i; writes = writes i } in
       ap₂ ◌∷◌ txn (told_moved row.end rows to are.1)
 

@@ -12,7 +12,7 @@ returns-in-Err c =
         c.in-Err.refusal,
         search rules,
         subst₂ (λ (txns : List TxnFields) (snapshot : ℤ). AddRefuses txns snapshot c.args.keys.now c.args.reads.now
-        c.args.writes.now c.in-Err.refusal) (c.deref_mut.ensures.value ∙ c.into_box-batch.ensures)
+            c.args.writes.now c.in-Err.refusal) (c.deref_mut.ensures.value ∙ c.into_box-batch.ensures)
             (to_z-of_z w64 c.args.snapshot fits) c.in-Err.ensures.refused,
       );
     }

@@ -14,10 +14,10 @@ returns-in-Err-clause-refused c = λ _.
     let received : FitsSigned w64 c.args.received = search rules in
     let txns = c.args.batch.value in
     let refused = subst₂ (λ (parts : CoreParts) (txns : List TxnFields). AdmitRefuses parts after c.args.proxy
-        (to_z w64 (of_z w64 c.args.previous)) (to_z w64 (of_z w64 c.args.version)) (to_z w64 (of_z w64 c.args.received)) txns
-        refusal)
-        (c.deref_mut.ensures.value ∙ c.into_box-core.ensures) (c.deref.ensures ∙ c.into_box-batch.ensures)
-        c.in-Err.ensures.refused in (
+    (to_z w64 (of_z w64 c.args.previous)) (to_z w64 (of_z w64 c.args.version)) (to_z w64 (of_z w64 c.args.received)) txns
+    refusal)
+    (c.deref_mut.ensures.value ∙ c.into_box-core.ensures) (c.deref.ensures ∙ c.into_box-batch.ensures)
+    c.in-Err.ensures.refused in (
       refusal,
       search rules,
       (

@@ -12,7 +12,7 @@ returns-in-Some-clause-tables c =
     let last = c.in-Some.last in
     let middle = c.first_span-spans.result in
     let front = subst (λ (rows : List Row). AreRows 0 (take last rows) middle) c.deref.ensures.value
-        c.first_span-spans.ensures.first in
+    c.first_span-spans.ensures.first in
     tables_same _ _ _ _ _ _ refl c.truncate-in-Some.ensures.items c.truncate.ensures.items
     (tables_front old.buffer.items old.spans.items old.rows.items last middle c.requires.tables front)
 
@@ -22,7 +22,7 @@ returns-in-Some-clause-told c =
     let last = c.in-Some.last in
     let middle = c.first_span-spans.result in
     let front = subst (λ (rows : List Row). AreRows 0 (take last rows) middle) c.deref.ensures.value
-        c.first_span-spans.ensures.first in
+    c.first_span-spans.ensures.first in
     let same : last ≡ length old.rows.items - 1 = grind (arith, common_steps) in
     told_same _ _ _ _ _ _ refl c.truncate-in-Some.ensures.items c.truncate.ensures.items
     ∙ told_front old.buffer.items old.spans.items old.rows.items last middle c.requires.tables front

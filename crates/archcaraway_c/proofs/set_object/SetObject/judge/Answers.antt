@@ -29,7 +29,7 @@ returns-in-Ok-judge_batch-clause-judged c =
       batch = batch;
       asked = is_batch at.In-Ok;
       judges = subst (λ (n : ℕ). JudgesBatch c.args.self.now c.judge_batch.new.self batch
-      (take n c.judge_batch.new.verdicts)) count c.in-Ok-judge_batch.ensures.judges;
+          (take n c.judge_batch.new.verdicts)) count c.in-Ok-judge_batch.ensures.judges;
     }
 
 pub returns-clause-refused : goal.returns-clause-refused

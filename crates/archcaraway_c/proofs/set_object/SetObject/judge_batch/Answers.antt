@@ -34,7 +34,7 @@ returns-in-Ok-clause-judges c =
     let verdicts = c.put_verdicts.new.verdicts in
     let written : take (length reply.entries) verdicts ≡ verdict_numbers reply.entries =
     subst (λ (entries : List Entry). take (length entries) verdicts ≡ verdict_numbers entries) c.as_slice.ensures.items
-        c.put_verdicts.ensures.written in
+    c.put_verdicts.ensures.written in
     subst (λ (set : SetState). JudgesBatch set (record c.resolve.new.self { stop = c.self.inside.stop }) batch
     (take (length batch.txns) verdicts)) c.self.view_is
     (record {
