@@ -341,6 +341,79 @@ struct CommitTransactionRef {
     bool report_conflicting_keys = false;
 };
 
+// Transactions that sets and cores take without a frame. They have copies of the keys. A refused
+// call leaves the batch as it was, so a transaction that is bad or doesn't fit spoils nothing.
+class Batch {
+public:
+    Batch() { check(archcaraway_batch_new(&batch_)); }
+    ~Batch() { archcaraway_batch_free(&batch_); }
+    Batch(const Batch&) = delete;
+    Batch& operator=(const Batch&) = delete;
+    Batch(Batch&& other) noexcept
+      : batch_(std::exchange(other.batch_, ARCHCARAWAY_NONE)), ranges_(std::move(other.ranges_)) {}
+    Batch& operator=(Batch&& other) noexcept {
+        std::swap(batch_, other.batch_);
+        std::swap(ranges_, other.ranges_);
+        return *this;
+    }
+
+    void add(const CommitTransactionRef& transaction) {
+        ranges_.clear();
+        for (const KeyRangeRef& range : transaction.read_conflict_ranges) push(range);
+        for (const KeyRangeRef& range : transaction.write_conflict_ranges) push(range);
+        archcaraway_txn txn{};
+        txn.snapshot = transaction.read_snapshot;
+        txn.report = transaction.report_conflicting_keys;
+        txn.read_count = transaction.read_conflict_ranges.size();
+        txn.write_count = transaction.write_conflict_ranges.size();
+        txn.reads = ranges_.data();
+        txn.writes = ranges_.data() + txn.read_count;
+        check(archcaraway_batch_add(&batch_, &txn));
+    }
+    // Appends what another batch has, which keeps it.
+    void append(Batch& other) { check(archcaraway_batch_append(&batch_, &other.batch_)); }
+    void dropLast() { archcaraway_batch_drop_last(&batch_); }
+    void clear() { archcaraway_batch_clear(&batch_); }
+    std::size_t room() const { return archcaraway_batch_room(&batch_); }
+    std::size_t size() const {
+        return batch_.at == nullptr ? 0 : ARCHCARAWAY_MAX_TRANSACTIONS - room();
+    }
+
+    // Judges the transactions by a set, and returns their verdicts. The batch may be used again.
+    std::vector<Verdict> judge(Set& set, Version version) {
+        std::vector<std::uint8_t> numbers(size());
+        check(archcaraway_set_judge_batch(set.handle(), version, &batch_, numbers.data(),
+                                          numbers.size()));
+        std::vector<Verdict> verdicts;
+        verdicts.reserve(numbers.size());
+        for (std::uint8_t number : numbers) verdicts.push_back(static_cast<Verdict>(number));
+        return verdicts;
+    }
+    // Gives the transactions to a core, as a batch of a proxy. The batch may be used again.
+    void admit(Core& core, std::uint32_t proxy, Version previous, Version version,
+               Version received) {
+        check(archcaraway_core_admit_batch(core.handle(), proxy, &batch_, previous, version,
+                                           received));
+    }
+    // The handle, for the C functions. It stays this object's.
+    archcaraway_batch* handle() { return &batch_; }
+
+private:
+    void push(const KeyRangeRef& range) {
+        archcaraway_range pushed{};
+        pushed.begin = bytesOf(range.begin);
+        pushed.end = bytesOf(range.end);
+        pushed.single = range.isSingle();
+        ranges_.push_back(pushed);
+    }
+    static archcaraway_bytes bytesOf(KeyRef key) {
+        return {reinterpret_cast<const std::uint8_t*>(key.data()), key.size()};
+    }
+
+    archcaraway_batch batch_ = ARCHCARAWAY_NONE;
+    std::vector<archcaraway_range> ranges_;
+};
+
 // The committed writes of the batches so far, as far back as the window.
 class ConflictSet {
 public:

@@ -52,12 +52,6 @@ extern "C" {
 
 /* The greatest length of the body of a frame, in bytes. */
 #define ARCHCARAWAY_MAX_BODY ((size_t)4194304)
-/* The greatest number of transactions in a batch. */
-#define ARCHCARAWAY_MAX_TRANSACTIONS 4096
-/* The greatest number of read ranges, and of write ranges, in a transaction. */
-#define ARCHCARAWAY_MAX_RANGES 1024
-/* The greatest length of a begin or an end, in bytes. A single key is one byte shorter. */
-#define ARCHCARAWAY_MAX_KEY 10001
 
 /*
  * Reallocates. `bytes` is what the function returned last, or null, and its first `length` bytes
@@ -401,13 +395,6 @@ ARCHCARAWAY_FRAMES int archcaraway_frame_length(const uint8_t *bytes, size_t len
     *frame_length = (size_t)(4 + body);
     return ARCHCARAWAY_OK;
 }
-
-/* Verdicts, as the form numbers them. */
-enum archcaraway_verdict {
-    ARCHCARAWAY_CONFLICT = 0,
-    ARCHCARAWAY_TOO_OLD = 1,
-    ARCHCARAWAY_COMMITTED = 2
-};
 
 /* Reads a reply. The bytes stay the caller's and must outlive it. */
 typedef struct archcaraway_reply {

@@ -8,12 +8,14 @@
 #define ARCHCARAWAY_FRAMES /* the functions of the header are symbols here */
 #include "archcaraway_frames.h"
 
+#include "processor.h"
+
 #if defined(__x86_64__) && !defined(ARCHCARAWAY_BASELINE)
 #include <cpuid.h>
 #include <stdio.h>
 
-/* Whether the processor has the instructions of x86-64-v2, with which the library is compiled. */
-static bool processor_fits(void) {
+/* Those of x86-64-v2. */
+bool processor_fits(void) {
     const unsigned needed = bit_SSE3 | bit_SSSE3 | bit_CMPXCHG16B | bit_SSE4_1 | bit_SSE4_2 |
                             bit_POPCNT;
     unsigned a, b, features, d, more;
@@ -22,13 +24,13 @@ static bool processor_fits(void) {
     return (features & needed) == needed && (more & bit_LAHF_LM) != 0;
 }
 
-/* Says at load what archcaraway_set_new and archcaraway_core_new will refuse. */
+/* Says at load what every archcaraway_.._new will refuse. */
 __attribute__((constructor)) static void report_processor(void) {
     if (processor_fits()) return;
     fprintf(stderr, "archcaraway: %s\n", archcaraway_status_text(ARCHCARAWAY_PROCESSOR));
 }
 #else
-static bool processor_fits(void) { return true; }
+bool processor_fits(void) { return true; }
 #endif
 
 /* Whether there are `length` bytes at a pointer, which may be null for none. */

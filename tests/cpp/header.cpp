@@ -110,6 +110,31 @@ static void moves() {
     DEMAND(taken.give(1, bytes).kind == ARCHCARAWAY_REPLY && Reply(View(bytes.data(), 15)).empty());
 }
 
+static void batches() {
+    Set set;
+    Core core(1);
+    CommitTransactionRef write, late;
+    write.write_conflict_ranges = {KeyRangeRef::single("k"), {"x", "z"}};
+    late.read_conflict_ranges = {{"a", "b"}, KeyRangeRef("j", "l")};
+    Batch batch, other;
+    batch.add(write);
+    batch.add(late);
+    batch.dropLast();
+    DEMAND(batch.size() == 1 && batch.room() == ARCHCARAWAY_MAX_TRANSACTIONS - 1);
+    DEMAND(batch.judge(set, 10) == std::vector<Verdict>{Verdict::committed});
+    other.add(late);
+    batch.append(other);
+    DEMAND((batch.judge(set, 20) == std::vector<Verdict>{Verdict::committed, Verdict::conflict}));
+    batch.admit(core, 0, -1, 10, -1);
+    std::vector<std::uint8_t> bytes;
+    const Answer answer = core.give(0, bytes);
+    DEMAND(answer.kind == ARCHCARAWAY_REPLY && Reply(answer.reply).size() == 2);
+    Batch moved = std::move(batch);
+    DEMAND(batch.size() == 0 && moved.size() == 2);
+    moved.clear();
+    DEMAND(moved.size() == 0 && moved.judge(set, 30).empty());
+}
+
 #if defined(__cpp_exceptions)
 template <typename Call>
 static int refusal(Call call) {
@@ -133,6 +158,10 @@ static void refusals() {
     DEMAND(refusal([&] { set.resolve("", bytes); }) == ARCHCARAWAY_FRAME_SHORT);
     DEMAND(refusal([&] { Set taken = std::move(set); set.resolve("", bytes); }) == ARCHCARAWAY_ARGUMENT);
     DEMAND(refusal([] { Reply none(View("abc")); }) == ARCHCARAWAY_FRAME_SHORT);
+    Batch batch;
+    CommitTransactionRef inverted;
+    inverted.read_conflict_ranges = {{"b", "a"}};
+    DEMAND(refusal([&] { batch.add(inverted); }) == ARCHCARAWAY_FRAME_INVERTED && batch.size() == 0);
     DEMAND(Error(ARCHCARAWAY_ARENA_FULL).isStop() && !Error(ARCHCARAWAY_BUFFER).isStop());
 }
 #else
@@ -144,6 +173,7 @@ int main() {
     single_keys();
     iterators();
     moves();
+    batches();
     refusals();
-    std::puts("header: views, single keys, iterators, moves and refusals are as the header says");
+    std::puts("header: views, single keys, iterators, moves, batches and refusals are as the header says");
 }

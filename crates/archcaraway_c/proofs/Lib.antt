@@ -1,2 +1,5 @@
 pub mod Few
 pub mod ReplyLength
+pub mod Joining
+pub mod Appending
+pub mod Dropping

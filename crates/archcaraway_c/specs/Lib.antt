@@ -5,3 +5,6 @@ pub mod Bound
 pub mod SetObject
 pub mod Given
 pub mod CoreObject
+pub mod BatchObject
+pub mod Judging
+pub mod Moving

@@ -1,12 +1,14 @@
 -- What a conflict set behind a handle answers. This project's own.
-use Rattle.std.specs.Prelude.{◌≡◌, ◌<◌, ◌≤ℤ◌, ℕ, ℤ, List, ◌++◌, Option, Some, None, IfSome}
+use Rattle.std.specs.Prelude.{◌≡◌, ◌<◌, ◌≤◌, ◌≤ℤ◌, ◌<ℤ◌, ◌⊎◌, ℕ, ℤ, List, ◌++◌, Option, Some, None}
 use Rattle.keyspace.specs.declared.batch.Batch.{Batch}
 use Rattle.keyspace.specs.declared.reply.Reply.{Reply}
-use Rattle.keyspace.specs.Writes.{Write, writes_of}
-use Rattle.keyspace.specs.Judged.{Judged}
+use Rattle.keyspace.specs.Writes.{Write, committed, writes_of}
+use Rattle.keyspace.specs.Judged.{edge, Judged}
 use Rattle.stepmap.specs.Covers.{MapCovers}
 use Rattle.conflict.specs.declared.error.SetStop.{SetStop}
-use Rattle.conflict.specs.ConflictSet.{SetState, Remembers}
+use Rattle.conflict.specs.declared.error.SetStop.TheVariants.{Memory, ArenaFull}
+use Rattle.conflict.specs.ConflictSet.{SetState, Remembers, IsOverLimit, raised, HasRoomToWrite, HasNoRoomToWrite}
+use Rattle.resolver.specs.declared.stop.Stop.{Stop as StopValue}
 use Rattle.resolver.specs.Stop.{stop_at_set}
 use Rattle.wire.specs.Spelling.{SpellsReply}
 use Rattle.archcaraway_c.specs.declared.refusal.Refusal.{Refusal}
@@ -14,14 +16,14 @@ use Rattle.archcaraway_c.specs.declared.refusal.Refusal.TheVariants.{Stop, Wire,
 use Rattle.archcaraway_c.specs.BatchFrame.{IsFrame, IsNoFrame}
 use Rattle.archcaraway_c.specs.Bound.{most_reply_length}
 
--- What holds of the parts of a set behind a handle: it knows the version resolved last, continues as long as there is no stop, and
+-- What holds of the parts of a set behind a handle: it knows the version resolved last, goes on as long as there is no stop, and
 -- remembers some list of writes.
 pub record AreSetParts (set : SetState) (last : ℤ) (stop : Option SetStop) : Type 0 where
   pub resolved : stop ≡ None → set.resolved ≡ last
   pub goes_on : stop ≡ None → set.stop ≡ None
   pub remembers : (ws : List Write) × Remembers set ws
 
--- The set continues after the batch, and covers also the writes that the reply commits.
+-- The set goes on behind the batch, and covers also what the reply commits.
 pub record GoesOn (old new : SetState) (batch : Batch) (reply : Reply) : Type 0 where
   pub resolved : new.resolved ≡ batch.version
   pub window : new.window ≡ old.window
@@ -29,7 +31,7 @@ pub record GoesOn (old new : SetState) (batch : Batch) (reply : Reply) : Type 0 
   pub stop : new.stop ≡ None
   pub covers : (ws : List Write) → MapCovers old.map ws → MapCovers new.map (ws ++ writes_of batch reply)
 
--- The bytes are the frame of the right reply to the batch, whatever writes the set covers, and the set continues after it.
+-- The bytes are the frame of the right reply to the batch, whatever writes the set covers, and the set goes on behind it.
 pub record Replies (old new : SetState) (batch : Batch) (answer : List ℕ) : Type 0 where
   pub reply : Reply
   pub answered : SpellsReply answer reply
@@ -50,17 +52,48 @@ pub record IsReplied (set : SetState) (frame answer : List ℕ) : Type 0 where
   pub answered : SpellsReply answer reply
   pub judged : (ws : List Write) → MapCovers set.map ws → Judged set.window ws batch reply
 
--- Why a set refuses a frame, given the number of bytes for the reply.
-abbrev pub SetRefuses : SetState → List ℕ → ℕ → Refusal → Type 0
-SetRefuses set frame capacity (Stop stop) = IfSome set.stop (λ met. stop ≡ stop_at_set met)
-SetRefuses set frame capacity (Wire fault) = (set.stop ≡ None) × IsNoFrame frame (Wire fault)
-SetRefuses set frame capacity Behind = (set.stop ≡ None) × IsNoFrame frame Behind
-SetRefuses set frame capacity Version =
-    (set.stop ≡ None) × ((batch : Batch) × IsFrame frame batch × (batch.version ≤ℤ set.resolved))
-SetRefuses set frame capacity (Buffer needed) =
-    (set.stop ≡ None)
+-- The set meets this stop at the batch. It is `ArenaFull` only if what the batch commits can't be written within the limit: the
+-- live writes, these included, have too many boundaries, and a whole round of the sweep makes too little room. It is `Memory`
+-- before such a round, or if there is room.
+pub record StopsAt (old new : SetState) (batch : Batch) (met : SetStop) : Type 0 where
+  pub met_now : new.stop ≡ Some met
+  pub window : new.window ≡ old.window
+  pub limit : new.map.limit ≡ old.map.limit
+  pub full :
+      met ≡ ArenaFull → (ws : List Write) (reply : Reply) → Remembers old ws → Judged old.window ws batch reply →
+      IsOverLimit old.map.limit (edge old.window batch) (ws ++ writes_of batch reply)
+  pub no_room :
+      met ≡ ArenaFull → (ws : List Write) (reply : Reply) → Remembers old ws → Judged old.window ws batch reply →
+      HasNoRoomToWrite (raised (edge old.window batch) old.map) (committed batch.txns reply.entries)
+  pub memory :
+      met ≡ Memory → (ws : List Write) (reply : Reply) → Remembers old ws → Judged old.window ws batch reply →
+      (new.map.boundaries ≡ old.map.boundaries)
+      ⊎ HasRoomToWrite (raised (edge old.window batch) old.map) (committed batch.txns reply.entries)
+
+-- The set meets this stop at the batch of the frame, which is above that resolved last and whose reply would have fitted.
+pub record StopsNow (old new : SetState) (frame : List ℕ) (capacity : ℕ) (stop : StopValue) : Type 0 where
+  pub batch : Batch
+  pub asked : IsFrame frame batch
+  pub rising : old.resolved <ℤ batch.version
+  pub fits : most_reply_length batch ≤ capacity
+  pub met : SetStop
+  pub stop_is : stop ≡ stop_at_set met
+  pub at_batch : StopsAt old new batch met
+
+-- Why a set refuses a frame, given so many bytes for the reply, and what it is then: as before, unless it meets a stop now.
+abbrev pub SetRefuses : SetState → SetState → List ℕ → ℕ → Refusal → Type 0
+SetRefuses old new frame capacity (Stop stop) =
+    ((met : SetStop) × (old.stop ≡ Some met) × (stop ≡ stop_at_set met) × (new ≡ old))
+    ⊎ ((old.stop ≡ None) × StopsNow old new frame capacity stop)
+SetRefuses old new frame capacity (Wire fault) = (old.stop ≡ None) × IsNoFrame frame (Wire fault) × (new ≡ old)
+SetRefuses old new frame capacity Behind = (old.stop ≡ None) × IsNoFrame frame Behind × (new ≡ old)
+SetRefuses old new frame capacity Version =
+    (old.stop ≡ None) × ((batch : Batch) × IsFrame frame batch × (batch.version ≤ℤ old.resolved)) × (new ≡ old)
+SetRefuses old new frame capacity (Buffer needed) =
+    (old.stop ≡ None)
     × ((batch : Batch) × IsFrame frame batch × (needed ≡ most_reply_length batch) × (capacity < needed))
-SetRefuses set frame capacity Argument = ⊥
+    × (new ≡ old)
+SetRefuses old new frame capacity Argument = ⊥
 
 -- the set stops, and refuses by that stop
 abbrev pub Stops : SetState → Refusal → Type 0

@@ -7,7 +7,7 @@ ghost use Rattle.archcaraway_c.specs.BatchFrame.{IsFrame};
 ghost use Rattle.archcaraway_c.specs.Numbers.{AreCoreNumbers};
 ghost use Rattle.archcaraway_c.specs.Status.{stop_status, refusal_status, bytes_needed};
 ghost use Rattle.archcaraway_c.specs.Given.{Tells, given_kind, given_version, given_length};
-ghost use Rattle.archcaraway_c.specs.CoreObject.{CoreRefuses, GiveRefuses, next_owed, still_owed_count, maybe_stop_status};
+ghost use Rattle.archcaraway_c.specs.CoreObject.{CoreParts, CoreRefuses, GiveRefuses, next_owed, still_owed_count, maybe_stop_status};
 ghost use Rattle.archcaraway_c.specs.declared.given.Given.{Given};
 ghost use Rattle.archcaraway_c.specs.declared.refusal.Refusal.{Refusal};
 
@@ -52,7 +52,7 @@ pub extern "C" fn archcaraway_export_core_admit(
 ) -> i32
     ensures admitted { result ≡ pos 0 → (batch : Batch) × IsFrame frame.now batch }
     ensures refused { result ≢ pos 0 → (refusal : Refusal) × (result ≡ refusal_status refusal)
-        × CoreRefuses core.value proxy frame.now refusal }
+        × ((after : CoreParts) × CoreRefuses core.value after proxy frame.now refusal) }
     ensures stopped { proxy < length core.value.waiting
         → IfSome core.value.core.stop (λ stop. result ≡ stop_status stop) }
 {

@@ -1,14 +1,16 @@
 //! A resolver over values that takes and gives frames.
 
-ghost use Rattle.std.specs.Prelude.{◌≡◌, ◌≢◌, IfSome, Err, drop, slice_get, ◌<◌, ◌≤◌, ◌⊎◌, ◌∷◌, ◌++◌, ℕ, List, [], length, replicate, None, Some, Ok, IfOk, IfErr};
+ghost use Rattle.std.specs.Prelude.{◌≡◌, ◌≢◌, IfSome, Err, drop, slice_get, ◌<◌, ◌≤◌, ◌⊎◌, ◌∷◌, ◌++◌, ℕ, List, [], length, replicate, None, Some, Ok, OnOk, IfOk, IfErr};
 ghost use Rattle.keyspace.specs.Run.{Step, Finish};
-ghost use Rattle.resolver.specs.Core.{Given as GivenSoFar};
+ghost use Rattle.resolver.specs.Core.{Given as GivenSoFar, GoesOn};
 ghost use Rattle.resolver.specs.declared.stop.Stop.{Stop as StopValue};
 ghost use Rattle.resolver.specs.Stands.{Stands};
 ghost use Rattle.archcaraway_c.specs.BatchFrame.{IsFrame, IsNoFrame};
 ghost use Rattle.archcaraway_c.specs.Numbers.{AreCoreNumbers};
 ghost use Rattle.archcaraway_c.specs.Given.{Tells};
-ghost use Rattle.archcaraway_c.specs.CoreObject.{Admits, CoreRefuses, GiveRefuses, still_owed, next_owed, still_owed_count};
+ghost use Rattle.archcaraway_c.specs.CoreObject.{Admits, IsGateFull, StopsAt, CoreRefuses, GiveRefuses, still_owed, next_owed, still_owed_count};
+
+mod admitting;
 
 use crate::batch_frame::decode_frame;
 use crate::given::Given;
@@ -43,13 +45,16 @@ impl Model for CoreObject {
 }
 
 impl CoreObject {
-    /// Creates a resolver for this number of proxies, which has taken nothing. `window` is how far back it remembers writes, in
+    /// Creates a resolver for so many proxies, which has taken nothing. `window` is how far back it remembers writes, in
     /// versions; it never keeps more boundaries than `limit`. Returns `Argument` if one of them is outside its range, and the
     /// stop `Memory` if memory is refused.
     pub fn new(alloc: Global, proxies: u32, window: i64, limit: u64) -> Result<Self, Refusal>
         ensures stands { IfOk result (λ object. Stands object.core [] (λ _. [])) }
         ensures goes_on { IfOk result (λ object. object.core.stop ≡ None) }
         ensures waiting { IfOk result (λ object. object.waiting ≡ replicate proxies None) }
+        ensures proxies { IfOk result (λ object. length object.core.owed ≡ proxies) }
+        ensures window { IfOk result (λ object. object.core.set.window ≡ window) }
+        ensures limit { IfOk result (λ object. object.core.set.map.limit ≡ limit) }
         ensures within { IfOk result (λ _. AreCoreNumbers proxies window limit) }
         ensures refused { IfErr result (λ refusal.
             (AreCoreNumbers proxies window limit × (refusal ≡ Refusal.Stop Stop.Memory))
@@ -72,17 +77,19 @@ impl CoreObject {
         })
     }
 
-    /// Takes the batch of a frame from a proxy. The batch is held, or it and the batches that it frees are answered.
+    /// Takes the batch of a frame from a proxy. The batch is held, or it and what it frees are answered.
     ///
     /// The first of these that holds decides. There is no such proxy: `Argument`. The resolver has stopped: that stop. The bytes
-    /// aren't one frame: `Wire`, `Behind`. Then the batch is taken, or the resolver stops for good. Nothing was taken after any
-    /// refusal but a stop.
+    /// aren't one frame: `Wire`, `Behind`. Then the batch is taken, or the resolver stops for good: with `GateFull` exactly if the
+    /// batch would have to be held and as many are held as may be. After any refusal but a stop that is met now, the object is as
+    /// before.
     pub fn admit(&mut self, proxy: u32, frame: &[u8]) -> Result<(), Refusal>
         ensures admitted { IfOk result (λ _. (batch : Batch) × IsFrame frame.now batch
-            × Admits self.old.core proxy batch self.new.core) }
+            × Admits self.old.core proxy batch self.new.core × (¬ IsGateFull self.old.core batch)) }
         ensures goes_on { IfOk result (λ _. (self.old.core.stop ≡ None) × (self.new.core.stop ≡ None)) }
-        ensures refused { IfErr result (λ refusal. CoreRefuses self.old proxy frame.now refusal) }
+        ensures refused { IfErr result (λ refusal. CoreRefuses self.old self.new proxy frame.now refusal) }
         ensures waiting { self.new.waiting ≡ self.old.waiting }
+        ensures same { GoesOn self.old.core self.new.core }
     {
         let number = match self.known(proxy) {
             Ok(number) => number,
@@ -103,14 +110,15 @@ impl CoreObject {
 
     /// Answers every batch that is still held, in order of arrival. Returns the stop that was met before or is met now.
     pub fn finish(&mut self) -> Result<(), Refusal>
-        ensures finished { IfOk result (λ _. (log : List Step) (given : GivenSoFar) → Stands self.old.core log given
-            → Stands self.new.core (log ++ Finish ∷ []) given) }
+        ensures finished { self.old.core.stop ≡ None → (log : List Step) (given : GivenSoFar) → Stands self.old.core log given
+            → Stands self.new.core (log ++ Finish ∷ []) given }
         ensures goes_on { IfOk result (λ _. (self.old.core.stop ≡ None) × (self.new.core.stop ≡ None)) }
         ensures refused { IfErr result (λ refusal. (stop : StopValue) × (refusal ≡ Refusal.Stop stop)
             × (self.new.core.stop ≡ Some stop)) }
-        ensures stopped { IfSome self.old.core.stop (λ stop. result ≡ Err (Refusal.Stop stop)) }
+        ensures stopped { IfSome self.old.core.stop (λ stop. (result ≡ Err (Refusal.Stop stop)) × (self.new ≡ self.old)) }
         ensures memory { self.old.core.stop ≡ None → IfErr result (λ refusal. refusal ≡ Refusal.Stop Stop.Memory) }
         ensures waiting { self.new.waiting ≡ self.old.waiting }
+        ensures same { GoesOn self.old.core self.new.core }
     {
         if let Err(stop) = self.core.finish() {
             return Err(Refusal::Stop(stop));
@@ -118,8 +126,8 @@ impl CoreObject {
         Ok(())
     }
 
-    /// Gives the proxy the oldest answer owed to it, and writes the frame of a reply to the front of the buffer. After a refusal
-    /// all answers are still owed. `Wire` is `Memory` here, or `Long` for a reply that exceeds a frame; the reply to a batch that
+    /// Gives the proxy the oldest answer owed to it, and writes the frame of a reply to the front of the buffer. The core is as
+    /// before but for the answers that it owes, and after a refusal all of these are still owed. `Wire` is `Memory` here, or `Long` for a reply that exceeds a frame; the reply to a batch that
     /// has a frame doesn't exceed one.
     pub fn give(&mut self, proxy: u32, buffer: &mut [u8]) -> Result<Given, Refusal>
         ensures told { IfOk result (λ given. Tells given buffer.new (next_owed proxy self.old)) }
@@ -127,6 +135,8 @@ impl CoreObject {
         ensures refused { IfErr result (λ refusal. GiveRefuses self.old proxy (length buffer.old) refusal) }
         ensures kept { IfErr result (λ _. still_owed proxy self.new ≡ still_owed proxy self.old) }
         ensures others { (other : ℕ) → other ≢ proxy → still_owed other self.new ≡ still_owed other self.old }
+        ensures same { self.new.core ≡ record self.old.core { owed = self.new.core.owed } }
+        ensures proxies { length self.new.waiting ≡ length self.old.waiting }
     {
         let proxy = self.known(proxy)?;
         self.look(proxy);
@@ -176,8 +186,10 @@ impl CoreObject {
         requires goes_on { self.old.core.stop ≡ None }
         ensures admitted { IfOk result (λ _. Admits self.old.core proxy batch self.new.core) }
         ensures goes_on { IfOk result (λ _. self.new.core.stop ≡ None) }
-        ensures stops { IfErr result (λ stop. self.new.core.stop ≡ Some stop) }
+        ensures room { OnOk result (¬ IsGateFull self.old.core batch) }
+        ensures stops { IfErr result (λ stop. StopsAt self.old.core self.new.core proxy batch stop) }
         ensures waiting { self.new.waiting ≡ self.old.waiting }
+        ensures same { GoesOn self.old.core self.new.core }
     {
         self.core.admit(proxy, batch)
     }
@@ -188,6 +200,7 @@ impl CoreObject {
         ensures owed { (other : ℕ) → still_owed other self.new ≡ still_owed other self.old }
         ensures next { slice_get self.new.waiting proxy ≡ Some (next_owed proxy self.old) }
         ensures count { length self.new.waiting ≡ length self.old.waiting }
+        ensures same { self.new.core ≡ record self.old.core { owed = self.new.core.owed } }
     {
         if self.waiting[proxy].is_none() {
             self.waiting[proxy] = self.core.give(proxy);

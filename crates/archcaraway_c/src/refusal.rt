@@ -17,9 +17,9 @@ pub enum Refusal {
     Version,
     /// A number is outside its limits, or there is no such proxy.
     Argument,
-    /// The buffer is too small: it needs this number of bytes.
+    /// The buffer is too small: it needs so many bytes.
     Buffer(usize),
-    /// There are bytes after the frame.
+    /// Bytes stand behind the frame.
     Behind,
 }
 

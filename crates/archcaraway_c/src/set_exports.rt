@@ -2,6 +2,7 @@
 //! clause can say; that is said of [`SetObject`].
 
 ghost use Rattle.std.specs.Prelude.{◌≡◌, ◌≢◌, ◌⊎◌, ◌↔◌, pos, length, take, IfSome};
+ghost use Rattle.conflict.specs.ConflictSet.{SetState};
 ghost use Rattle.resolver.specs.Stop.{stop_at_set};
 ghost use Rattle.archcaraway_c.specs.Numbers.{AreSetNumbers};
 ghost use Rattle.archcaraway_c.specs.Status.{stop_status, refusal_status, bytes_needed};
@@ -49,7 +50,8 @@ pub extern "C" fn archcaraway_export_set_resolve(
 ) -> i32
     ensures replied { result ≡ pos 0 → IsReplied set.value frame.now (take answer_length.new answer.new) }
     ensures refused { result ≢ pos 0 → (refusal : Refusal) × (result ≡ refusal_status refusal)
-        × (answer_length.new ≡ bytes_needed refusal) × SetRefuses set.value frame.now (length answer.old) refusal }
+        × (answer_length.new ≡ bytes_needed refusal)
+        × ((after : SetState) × SetRefuses set.value after frame.now (length answer.old) refusal) }
     ensures stopped { IfSome set.value.stop (λ stop. result ≡ stop_status (stop_at_set stop)) }
 {
     let mut set = set.into_box();

@@ -1,13 +1,16 @@
 //! A conflict set that takes and gives frames.
 
-ghost use Rattle.std.specs.Prelude.{◌≡◌, ◌≤◌, ◌⊎◌, ◌↔◌, ◌≤ℤ◌, ◌<ℤ◌, List, length, take, Err, None, IsTrue, IfOk, IfErr, IfSome};
+ghost use Rattle.std.specs.Prelude.{◌≡◌, ◌≤◌, ◌⊎◌, ◌↔◌, ◌≤ℤ◌, ◌<ℤ◌, List, length, take, Err, None, Some, IsTrue, IfOk, IfErr, IfSome};
 ghost use Rattle.keyspace.specs.Writes.{Write};
+ghost use Rattle.conflict.specs.declared.error.SetStop.{SetStop as SetStopValue};
 ghost use Rattle.conflict.specs.ConflictSet.{new_set, Remembers};
 ghost use Rattle.resolver.specs.Stop.{stop_at_set};
 ghost use Rattle.archcaraway_c.specs.BatchFrame.{IsFrame, IsNoFrame};
 ghost use Rattle.archcaraway_c.specs.Bound.{most_reply_length};
 ghost use Rattle.archcaraway_c.specs.Numbers.{AreSetNumbers};
-ghost use Rattle.archcaraway_c.specs.SetObject.{Replies, Resolves, SetRefuses, Stops};
+ghost use Rattle.archcaraway_c.specs.SetObject.{Replies, Resolves, StopsAt, SetRefuses, Stops};
+
+mod judging;
 
 use crate::batch_frame::decode_frame;
 use crate::bound::most_reply_length;
@@ -69,12 +72,12 @@ impl SetObject {
     ///
     /// The first of these that holds decides. The set has stopped: that stop. The bytes aren't one frame: `Wire`, `Behind`. The
     /// version of the batch isn't above that of the batch resolved last: `Version`. The buffer is shorter than the longest
-    /// reply to the batch: `Buffer`. Then the batch is resolved, or the set stops for good. After any refusal but a stop the set
-    /// is as before.
+    /// reply to the batch: `Buffer`. Then the batch is resolved, or the set stops for good: with `ArenaFull` only if what the
+    /// batch commits can't be written within the limit. After any refusal but a stop that is met now, the set is as before.
     pub fn resolve(&mut self, frame: &[u8], answer: &mut [u8]) -> Result<usize, Refusal>
         ensures resolved { IfOk result (λ count. Resolves self.old self.new frame.now (take count answer.new)) }
         ensures within { IfOk result (λ count. count ≤ length answer.new) }
-        ensures refused { IfErr result (λ refusal. SetRefuses self.old frame.now (length answer.old) refusal) }
+        ensures refused { IfErr result (λ refusal. SetRefuses self.old self.new frame.now (length answer.old) refusal) }
         ensures kept { IfErr result (λ refusal. (self.new ≡ self.old) ⊎ Stops self.new refusal) }
         ensures stopped { IfSome self.old.stop (λ stop. (result ≡ Err (Refusal.Stop (stop_at_set stop)))
             × (self.new ≡ self.old)) }
@@ -136,7 +139,8 @@ impl SetObject {
         requires rising { self.old.resolved <ℤ batch.now.version }
         ensures replies { IfOk result (λ reply. Replies self.old self.new batch.now reply.items) }
         ensures short { IfOk result (λ reply. length reply.items ≤ most_reply_length batch.now) }
-        ensures stops { IfErr result (λ refusal. Stops self.new refusal) }
+        ensures stops { IfErr result (λ refusal. (met : SetStopValue) × (refusal ≡ Refusal.Stop (stop_at_set met))
+            × StopsAt self.old self.new batch.now met) }
     {
         match reply_to(self.alloc, &mut self.set, batch) {
             Ok(reply) => {
@@ -153,10 +157,12 @@ impl SetObject {
 
 // Resolves a batch, and returns the frame of its reply.
 fn reply_to(alloc: Global, set: &mut ConflictSet, batch: &Batch) -> Result<Vec<u8>, SetStop>
+    requires goes_on { set.old.stop ≡ None }
     requires rising { set.old.resolved <ℤ batch.now.version }
     requires remembers { (ws : List Write) × Remembers set.old ws }
     ensures replies { IfOk result (λ reply. Replies set.old set.new batch.now reply.items) }
     ensures short { IfOk result (λ reply. length reply.items ≤ most_reply_length batch.now) }
+    ensures stops { IfErr result (λ stop. StopsAt set.old (record set.new { stop = Some stop }) batch.now stop) }
     ensures remembers { (ws : List Write) × Remembers set.new ws }
 {
     let reply = match set.resolve(batch) {

@@ -11,7 +11,7 @@ use keyspace::{Answer, Reply};
 use std::alloc::{AllocError, Global};
 use wire::encode_reply;
 
-/// Has no answer waiting for any of n proxies.
+/// Has no answer waiting for any of so many proxies.
 pub fn nothing_waits(alloc: Global, proxies: usize) -> Result<Vec<Option<Answer>>, AllocError>
     ensures none { IfOk result (λ waiting. waiting.items ≡ replicate proxies None) }
 {

@@ -22,6 +22,9 @@ returns-in-Err-clause-refused c = λ _.
       refusal,
       search rules,
       search rules,
-      subst (λ (set : SetState). SetRefuses set c.args.frame.now (length c.args.answer.now) refusal)
-          (c.deref_mut.ensures.value ∙ c.into_box-set.ensures) c.in-Err.ensures.refused,
+      (
+        c.resolve-resolved.new.self,
+        subst (λ (set : SetState). SetRefuses set c.resolve-resolved.new.self c.args.frame.now (length c.args.answer.now) refusal)
+            (c.deref_mut.ensures.value ∙ c.into_box-set.ensures) c.in-Err.ensures.refused,
+      ),
     )

@@ -1,5 +1,9 @@
-use Rattle.std.proofs.Common.{◌++◌}
-use Rattle.keyspace.specs.Writes.{writes_of}
+use Rattle.std.proofs.Common.{◌≡◌, ◌++◌, refl, sym, ◌∙◌, inr, subst}
+use Rattle.keyspace.specs.declared.reply.Reply.{Reply}
+use Rattle.keyspace.specs.Writes.{committed, writes_of}
+use Rattle.keyspace.specs.Judged.{edge}
+use Rattle.keyspace.proofs.callers.Judging.{only_judge}
+use Rattle.conflict.specs.ConflictSet.{raised, HasRoomToWrite}
 use Rattle.archcaraway_c.proofs.ReplyLength.{reply_within}
 use Rattle.archcaraway_c.proofs.set_object.reply_to.Goals as goal
 
@@ -31,3 +35,22 @@ returns-clause-remembers c =
         rooted = c.in-Ok.ensures.rooted ws before.rooted;
       },
     )
+
+-- There was room, since the batch was judged and written.
+pub returns-clause-stops : goal.returns-clause-stops
+returns-clause-stops c =
+    let old = c.args.set.now in
+    let batch = c.args.batch.now in
+    record {
+      met_now = refl;
+      window = c.in-Ok.ensures.window;
+      limit = c.in-Ok.ensures.limit;
+      full = λ is. absurd cc;
+      no_room = λ is. absurd cc;
+      memory = λ is ws reply before judged.
+          let same : c.in-Ok.reply ≡ reply =
+          only_judge old.window ws batch c.in-Ok.reply (c.in-Ok.ensures.judged ws before.covers)
+          ∙ sym (only_judge old.window ws batch reply judged) in
+          inr (subst (λ (r : Reply). HasRoomToWrite (raised (edge old.window batch) old.map) (committed batch.txns r.entries))
+          same c.in-Ok.ensures.room);
+    }

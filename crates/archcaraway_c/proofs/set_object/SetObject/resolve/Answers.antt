@@ -1,9 +1,28 @@
-use Rattle.std.proofs.Common.{rules, ◌∙◌, ℕ, List, sym, subst}
-use Rattle.archcaraway_c.specs.SetObject.{Replies}
+use Rattle.std.proofs.Common.{rules, arith, ◌∙◌, ℕ, List, length, inr, refl, sym, subst}
+use Rattle.archcaraway_c.specs.SetObject.{Replies, SetRefuses}
+use Rattle.archcaraway_c.specs.declared.refusal.Refusal.{Refusal}
 use Rattle.archcaraway_c.proofs.set_object.SetObject.resolve.Goals as goal
 
 pub returns-then-is_late-clause-refused : goal.returns-then-is_late-clause-refused
-returns-then-is_late-clause-refused c = (search rules, (c.in-Ok.batch, c.in-Ok.ensures.frame, search rules))
+returns-then-is_late-clause-refused c = (search rules, (c.in-Ok.batch, c.in-Ok.ensures.frame, search rules), refl)
+
+pub returns-clause-refused : goal.returns-clause-refused
+returns-clause-refused c =
+    let s = c.in-Err-reply.ensures.stops in
+    subst (λ (r : Refusal). SetRefuses c.args.self.now c.reply.new.self c.args.frame.now (length c.args.answer.now) r)
+    (sym s.1)
+    (inr (
+      search rules,
+      record {
+        batch = c.in-Ok.batch;
+        asked = c.in-Ok.ensures.frame;
+        rising = search rules;
+        fits = omega (arith, c.if-answer-most.false, c.most_reply_length-most.ensures.most);
+        met = s.0;
+        stop_is = refl;
+        at_batch = s.2;
+      },
+    ))
 
 pub returns-in-Ok-reply-clause-resolved : goal.returns-in-Ok-reply-clause-resolved
 returns-in-Ok-reply-clause-resolved c = record {

@@ -1,0 +1,139 @@
+// SPDX-License-Identifier: Apache-2.0
+// Times a set on batches of small transactions: by frames, which it writes and whose replies it reads, and by values.
+//
+//     judging [TRANSACTIONS [BATCHES [ROUNDS [KEYS]]]]
+//
+// A transaction reads two of KEYS keys and writes two, of 16 bytes each. Both ways judge the same chain, each by its own set, in turn;
+// of ROUNDS rounds the fastest counts. It prints the microseconds per transaction of both, and their quotient; and of frames the part
+// for writing them, decoding them and reading the replies, without which there would be no less to do by values.
+//     cc -O2 -Iinclude bench/judging.c out/quick/libarchcaraway.a -o judging
+#include <inttypes.h>
+#include <stdio.h>
+#include <stdlib.h>
+#include <time.h>
+
+#include "archcaraway_frames.h"
+
+enum { KEY = 16, READS = 2, WRITES = 2, RANGES = READS + WRITES };
+
+static void demand(bool holds, const char *what) {
+    if (holds) return;
+    fprintf(stderr, "judging: %s\n", what);
+    exit(1);
+}
+
+static double now(void) {
+    struct timespec time;
+    clock_gettime(CLOCK_MONOTONIC, &time);
+    return (double)time.tv_sec + (double)time.tv_nsec / 1e9;
+}
+
+static uint64_t random_below(uint64_t *state, uint64_t limit) {
+    *state = *state * UINT64_C(6364136223846793005) + UINT64_C(1442695040888963407);
+    return (*state >> 33) % limit;
+}
+
+// The keys of a batch, drawn anew for each.
+typedef struct {
+    uint8_t (*keys)[KEY];
+    int64_t version, snapshot;
+    size_t count, choice;
+} Drawn;
+
+static void draw(Drawn *drawn, uint64_t *state) {
+    drawn->version += 1000;
+    drawn->snapshot = drawn->version > 5000 ? drawn->version - 5000 : 0;
+    for (size_t i = 0; i < drawn->count * RANGES; i++) {
+        char text[KEY + 1];
+        snprintf(text, sizeof text, "key/%012" PRIu64, random_below(state, drawn->choice));
+        memcpy(drawn->keys[i], text, KEY);
+    }
+}
+
+// The seconds of the parts that only frames have.
+static double writing, decoding, reading;
+
+static void by_frame(archcaraway_set *set, archcaraway_writer *writer, uint8_t *buffer, const Drawn *drawn, uint8_t *verdicts) {
+    archcaraway_reply reply;
+    archcaraway_entry entry;
+    size_t length, i = 0;
+    double start = now();
+    archcaraway_batch_begin(writer, -1, drawn->version, -1);
+    for (size_t t = 0; t < drawn->count; t++) {
+        archcaraway_batch_transaction(writer, drawn->snapshot, false);
+        for (int r = 0; r < READS; r++) archcaraway_batch_read_key(writer, drawn->keys[RANGES * t + r], KEY);
+        for (int w = READS; w < RANGES; w++) archcaraway_batch_write_key(writer, drawn->keys[RANGES * t + w], KEY);
+    }
+    demand(archcaraway_batch_end(writer) == 0, "a frame");
+    double written = now();
+    writing += written - start;
+    demand(archcaraway_set_resolve(set, writer->bytes, writer->length, buffer, ARCHCARAWAY_MAX_REPLY, &length) == 0, "a reply");
+    double resolved = now();
+    demand(archcaraway_reply_read(&reply, buffer, length) == 0, "a reply that is read");
+    while (archcaraway_reply_next(&reply, &entry)) verdicts[i++] = (uint8_t)entry.verdict;
+    reading += now() - resolved;
+}
+
+static void by_value(archcaraway_set *set, archcaraway_range *ranges, archcaraway_txn *txns, const Drawn *drawn, uint8_t *verdicts) {
+    for (size_t i = 0; i < drawn->count * RANGES; i++) {
+        ranges[i].begin.bytes = drawn->keys[i];
+        ranges[i].begin.length = KEY;
+        ranges[i].single = true;
+    }
+    for (size_t t = 0; t < drawn->count; t++) {
+        archcaraway_txn txn = {drawn->snapshot, &ranges[RANGES * t], READS, &ranges[RANGES * t + READS], WRITES, false};
+        txns[t] = txn;
+    }
+    demand(archcaraway_set_judge(set, drawn->version, txns, drawn->count, verdicts, NULL) == 0, "verdicts");
+}
+
+int main(int words, char **word) {
+    const size_t count = words > 1 ? strtoull(word[1], NULL, 10) : 64, batches = words > 2 ? strtoull(word[2], NULL, 10) : 2000;
+    const int rounds = words > 3 ? atoi(word[3]) : 5;
+    const size_t choice = words > 4 ? strtoull(word[4], NULL, 10) : 100000;
+    uint8_t *buffer = malloc(ARCHCARAWAY_MAX_REPLY), *one = malloc(count), *two = malloc(count);
+    archcaraway_range *ranges = calloc(count * RANGES, sizeof *ranges);
+    archcaraway_txn *txns = calloc(count, sizeof *txns);
+    Drawn drawn = {malloc(count * RANGES * KEY), 0, 0, count, choice};
+    demand(buffer && one && two && ranges && txns && drawn.keys, "memory");
+    double least_frames = 1e9, least_values = 1e9;
+    for (int round = 0; round < rounds; round++) {
+        archcaraway_set a = ARCHCARAWAY_NONE, b = ARCHCARAWAY_NONE;
+        archcaraway_writer writer = archcaraway_writer_new(archcaraway_grow_malloc, NULL);
+        uint64_t state = 1;
+        double frames = 0, values = 0;
+        demand(archcaraway_set_new(ARCHCARAWAY_WINDOW, ARCHCARAWAY_LIMIT, &a) == 0, "a set");
+        demand(archcaraway_set_new(ARCHCARAWAY_WINDOW, ARCHCARAWAY_LIMIT, &b) == 0, "a set");
+        drawn.version = 0;
+        for (size_t i = 0; i < batches; i++) {
+            draw(&drawn, &state);
+            double start = now();
+            by_frame(&a, &writer, buffer, &drawn, one);
+            double middle = now();
+            // What a frame costs that is decoded and then refused, since its version is late.
+            size_t none;
+            demand(archcaraway_set_resolve(&a, writer.bytes, writer.length, buffer, ARCHCARAWAY_MAX_REPLY, &none) ==
+                       ARCHCARAWAY_VERSION_LATE, "a late frame");
+            double decoded = now();
+            decoding += decoded - middle;
+            by_value(&b, ranges, txns, &drawn, two);
+            double end = now();
+            frames += middle - start;
+            values += end - decoded;
+            demand(memcmp(one, two, count) == 0, "the same verdicts");
+        }
+        if (frames < least_frames) least_frames = frames;
+        if (values < least_values) least_values = values;
+        archcaraway_writer_free(&writer);
+        archcaraway_set_free(&a);
+        archcaraway_set_free(&b);
+    }
+    const double each = 1e6 / (double)(count * batches);
+    printf("%zu transactions a batch: %.3f us each by frames, %.3f by values, quotient %.2f\n", count, each * least_frames,
+           each * least_values, least_values / least_frames);
+    const double part = each / rounds;
+    printf("of frames, on average: %.3f us for writing, %.3f for decoding and ranking, %.3f for reading replies\n",
+           part * writing, part * decoding, part * reading);
+    free(buffer), free(one), free(two), free(ranges), free(txns), free(drawn.keys);
+    return 0;
+}

@@ -1,0 +1,72 @@
+-- Tables without their last rows.
+use Rattle.std.proofs.Common.{◌≡◌, ◌<◌, ◌≤◌, ◌+◌, ◌-◌, ℕ, zero, suc, List, [], ◌∷◌, length, map, refl, sym, ap, ap₂, ◌∙◌, subst, All, slice_range, take, drop, get_or, arith}
+use Rattle.std.proofs.lemmas.List.{take-take, length-take-le}
+use Rattle.std.proofs.lemmas.List.Elements.{All-take}
+use Rattle.std.proofs.lemmas.Slice.{between_is}
+use Rattle.keyspace.specs.declared.span.Span.{Span}
+use Rattle.keyspace.specs.declared.row.Row.{Row}
+use Rattle.keyspace.specs.Fields.{TxnFields, TxnLimits}
+use Rattle.keyspace.specs.Tables.{range_told, txn_told, txns_from, txns_told, LiesWithin, AreRows, AreTables}
+use Rattle.keyspace.proofs.callers.Rows.{rows_rise}
+
+-- the rows before an index lie one after the other too, and end where the last of them ends
+pub rows_up_to : (from : ℕ) (rows : List Row) (to index : ℕ) (none : Row) → AreRows from rows to → index < length rows
+    → AreRows from (take (index + 1) rows) (get_or rows index none).end
+rows_up_to from [] to index none are within = absurd (omega (arith, within))
+rows_up_to from (first ∷ rows) to zero none are within = (are.0, refl)
+rows_up_to from (first ∷ rows) to (suc index) none are within =
+    let more : suc (index + 1) ≡ suc index + 1 = omega arith in
+    subst (λ (n : ℕ). AreRows from (take n (first ∷ rows)) (get_or rows index none).end) more
+    (are.0, rows_up_to first.end rows to index none are.1 (omega (arith, within)))
+
+front_within : (from : ℕ) (rows : List Row) (count middle to : ℕ) → AreRows from (take count rows) middle
+    → AreRows from rows to → middle ≤ to
+front_within from [] zero middle to front all = omega (arith, front, all)
+front_within from [] (suc count) middle to front all = omega (arith, front, all)
+front_within from (row ∷ rows) zero middle to front all =
+    omega (arith, front, all.0, rows_rise row.end rows to all.1)
+front_within from (row ∷ rows) (suc count) middle to front all = front_within row.end rows count middle to front.1 all.1
+
+part_of_front : (spans : List Span) (n from to : ℕ) → to ≤ n → slice_range (take n spans) from to ≡ slice_range spans from to
+part_of_front spans n from to within =
+    between_is (take n spans) from to ∙ ap (drop from) (take-take to n spans within) ∙ sym (between_is spans from to)
+
+module _ (buffer : List ℕ) (spans : List Span) where
+  told_of_front : (n from : ℕ) (rows : List Row) (to : ℕ) → AreRows from rows to → to ≤ n
+      → txns_from buffer (take n spans) from rows ≡ txns_from buffer spans from rows
+  told_of_front n from [] to are within = refl
+  told_of_front n from (row ∷ rows) to are within =
+      let middle = row.end - row.writes in
+      let ends : row.end ≤ n = omega (arith, rows_rise row.end rows to are.1, within) in
+      let reads = ap (map (range_told buffer)) (part_of_front spans n from middle (omega (arith, ends))) in
+      let writes = ap (map (range_told buffer)) (part_of_front spans n middle row.end ends) in
+      let txn : txn_told buffer (take n spans) from row ≡ txn_told buffer spans from row =
+      λ i. record { snapshot = row.snapshot; marked = row.marked; reads = reads i; writes = writes i } in
+      ap₂ ◌∷◌ txn (told_of_front n row.end rows to are.1 within)
+
+  told_before : (from : ℕ) (rows : List Row) (count : ℕ)
+      → txns_from buffer spans from (take count rows) ≡ take count (txns_from buffer spans from rows)
+  told_before from [] zero = refl
+  told_before from [] (suc count) = refl
+  told_before from (row ∷ rows) zero = refl
+  told_before from (row ∷ rows) (suc count) =
+      ap (λ (txns : List TxnFields). txn_told buffer spans from row ∷ txns) (told_before row.end rows count)
+
+  -- what the tables of the first rows tell
+  pub told_front : (rows : List Row) (count middle : ℕ) → AreTables buffer spans rows → AreRows 0 (take count rows) middle
+      → txns_told buffer (take middle spans) (take count rows) ≡ take count (txns_told buffer spans rows)
+  told_front rows count middle tables front =
+      told_of_front middle 0 (take count rows) middle front (omega arith) ∙ told_before 0 rows count
+
+  -- they are tables
+  pub tables_front : (rows : List Row) (count middle : ℕ) → AreTables buffer spans rows → AreRows 0 (take count rows) middle
+      → AreTables buffer (take middle spans) (take count rows)
+  tables_front rows count middle tables front =
+      let within = front_within 0 rows count middle (length spans) front tables.rows_fit in
+      let exact : middle ≡ length (take middle spans) = sym (length-take-le middle spans within) in
+      record {
+        spans_within = All-take (LiesWithin (length buffer)) middle spans tables.spans_within;
+        rows_fit = subst (AreRows 0 (take count rows)) exact front;
+        holds = subst (All TxnLimits) (sym (told_front rows count middle tables front))
+            (All-take TxnLimits count (txns_told buffer spans rows) tables.holds);
+      }

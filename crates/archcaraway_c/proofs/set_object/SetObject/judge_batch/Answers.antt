@@ -1,0 +1,51 @@
+use Rattle.std.proofs.Common.{rules, ◌≡◌, ◌++◌, List, length, take, FitsSigned, w64, sym, ap, subst, ◌∙◌}
+use Rattle.std.proofs.lemmas.Int.{to_z-of_z}
+use Rattle.keyspace.specs.declared.reply.Entry.{Entry}
+use Rattle.keyspace.specs.Writes.{writes_of}
+use Rattle.conflict.specs.ConflictSet.{SetState}
+use Rattle.archcaraway_c.specs.Judging.{JudgesBatch, verdict_numbers}
+use Rattle.archcaraway_c.proofs.set_object.SetObject.judge_batch.Goals as goal
+
+pub invariant_of-self : goal.invariant_of-self
+invariant_of-self c =
+    let batch = c.args.batch.now in
+    let fits : FitsSigned w64 batch.version = search rules in
+    let ws = c.self.invariant.remembers.0 in
+    let before = c.self.invariant.remembers.1 in
+    record {
+      resolved = λ _. c.in-Ok.ensures.resolved ∙ sym (to_z-of_z w64 batch.version fits);
+      goes_on = λ _. c.in-Ok.ensures.goes_on.1;
+      remembers = (
+        ws ++ writes_of batch c.in-Ok.reply,
+        record {
+          covers = c.in-Ok.ensures.covers ws before.covers;
+          rooted = c.in-Ok.ensures.rooted ws before.rooted;
+        },
+      );
+    }
+
+pub returns-in-Ok-clause-judges : goal.returns-in-Ok-clause-judges
+returns-in-Ok-clause-judges c =
+    let batch = c.args.batch.now in
+    let reply = c.in-Ok.reply in
+    let ws = c.self.invariant.remembers.0 in
+    let before = c.self.invariant.remembers.1 in
+    let count : length reply.entries ≡ length batch.txns = (c.in-Ok.ensures.judged ws before.covers).count in
+    let verdicts = c.put_verdicts.new.verdicts in
+    let written : take (length reply.entries) verdicts ≡ verdict_numbers reply.entries =
+    subst (λ (entries : List Entry). take (length entries) verdicts ≡ verdict_numbers entries) c.as_slice.ensures.items
+    c.put_verdicts.ensures.written in
+    subst (λ (set : SetState). JudgesBatch set (record c.resolve.new.self { stop = c.self.inside.stop }) batch
+    (take (length batch.txns) verdicts)) c.self.view_is
+    (record {
+      reply = reply;
+      answered = ap (λ n. take n verdicts) (sym count) ∙ written;
+      judged = c.in-Ok.ensures.judged;
+      goes_on = record {
+        resolved = c.in-Ok.ensures.resolved;
+        window = c.in-Ok.ensures.window;
+        limit = c.in-Ok.ensures.limit;
+        stop = ap (λ (set : SetState). set.stop) c.self.view_is ∙ c.requires.goes_on;
+        covers = c.in-Ok.ensures.covers;
+      };
+    })

@@ -1,0 +1,13 @@
+//! Where the keys of a range lie among the bytes that C gives.
+
+/// Where the keys of a range lie among bytes. The two may share bytes. `archcaraway_span` of `library/archcaraway.c`.
+#[repr(C)]
+#[derive(Clone, Copy, Debug, PartialEq, Eq)]
+pub struct KeySpan {
+    /// The index of the first byte of the begin.
+    pub begin: usize,
+    pub begin_length: usize,
+    /// The index of the first byte of the end.
+    pub end: usize,
+    pub end_length: usize,
+}
