@@ -11,8 +11,8 @@ use Rattle.archcaraway_c.specs.declared.refusal.Refusal.TheVariants.{Stop, Wire,
 abbrev pub IsFrame : List ℕ → Batch → Type 0
 IsFrame bytes batch = SpellsBatch (version_told bytes) bytes batch
 
--- Why the bytes aren't one frame of a batch: by the first fault that reading meets, or a frame stands at the front and bytes behind
--- it. Memory may be refused in place of that.
+-- Why the bytes aren't one frame of a batch: by the first fault that reading meets, or a frame is at the front and bytes follow
+-- it. Memory may be refused instead.
 abbrev pub IsNoFrame : List ℕ → Refusal → Type 0
 IsNoFrame bytes (Wire fault) = (fault ≡ wire.Memory) ⊎ (batch_fault bytes ≡ Some fault)
 IsNoFrame bytes Behind =

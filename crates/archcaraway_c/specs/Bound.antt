@@ -1,4 +1,4 @@
--- The greatest length of a reply, as far as the batch tells it. This project's own.
+-- The greatest length of a reply, as far as the batch determines it. This project's own.
 use Rattle.std.specs.Prelude.{ℕ, ◌+◌, ◌*◌, if◌then◌else◌, length}
 use Rattle.std.specs.List.{sum_by}
 use Rattle.keyspace.specs.declared.txn.Txn.{Txn}

@@ -17,12 +17,12 @@ use Rattle.archcaraway_c.specs.BatchFrame.{IsFrame, IsNoFrame}
 use Rattle.archcaraway_c.specs.Given.{WriteRefuses}
 use Rattle.archcaraway_c.specs.Status.{stop_status}
 
--- a core, and the next answer of each proxy, where it was taken from the core and isn't given yet
+-- a core, and the next answer of each proxy, if it was taken from the core and isn't given yet
 pub record CoreParts : Type 0 where
   pub core : CoreState
   pub waiting : List (Option Answer)
 
--- there is a place for an answer a proxy
+-- there is a place for one answer per proxy
 pub record AreCoreParts (parts : CoreParts) : Type 0 where
   pub count : length parts.waiting ≡ length parts.core.owed
   pub few : length parts.waiting ≤ MAX_PROXIES
@@ -41,7 +41,7 @@ abbrev pub still_owed_count : CoreParts → ℕ
 still_owed_count parts =
     owed_count parts.core.owed + sum_by (λ answer. length (option_to_list answer)) parts.waiting
 
--- the batch is taken from the proxy, as the last step of each log that the core stands for
+-- the batch is taken from the proxy, as the last step of each log that the core represents
 abbrev pub Admits : CoreState → ℕ → Batch → CoreState → Type 0
 Admits old proxy batch new =
     (log : List Step) (given : Given) → Stands old log given → Stands new (log ++ Take proxy batch ∷ []) given
@@ -74,7 +74,7 @@ CoreRefuses old new proxy frame Behind =
 CoreRefuses old new proxy frame Version = ⊥
 CoreRefuses old new proxy frame (Buffer needed) = ⊥
 
--- why a core gives a proxy nothing, given so many bytes for the frame of a reply
+-- why a core gives a proxy nothing, given the number of bytes for the frame of a reply
 abbrev pub GiveRefuses : CoreParts → ℕ → ℕ → Refusal → Type 0
 GiveRefuses parts proxy capacity refusal =
     ((length parts.waiting ≤ proxy) × (refusal ≡ Argument))

@@ -37,7 +37,7 @@ Tells (Reply version count) buffer told =
 Tells (Never version) buffer told = told ≡ Some (answer.Never version)
 Tells (Held version) buffer told = told ≡ Some (answer.Held version)
 
--- Why an answer isn't written to a buffer of so many bytes: the frame needs more, or memory is refused. A reply that exceeds a frame
+-- Why an answer isn't written to a buffer of this size: the frame needs more, or memory is refused. A reply that exceeds a frame
 -- is refused too.
 abbrev pub WriteRefuses : Option Answer → ℕ → Refusal → Type 0
 WriteRefuses told capacity (Buffer needed) =

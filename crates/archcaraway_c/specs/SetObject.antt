@@ -16,14 +16,14 @@ use Rattle.archcaraway_c.specs.declared.refusal.Refusal.TheVariants.{Stop, Wire,
 use Rattle.archcaraway_c.specs.BatchFrame.{IsFrame, IsNoFrame}
 use Rattle.archcaraway_c.specs.Bound.{most_reply_length}
 
--- What holds of the parts of a set behind a handle: it knows the version resolved last, goes on as long as there is no stop, and
+-- What holds of the parts of a set behind a handle: it knows the version resolved last, continues as long as there is no stop, and
 -- remembers some list of writes.
 pub record AreSetParts (set : SetState) (last : ℤ) (stop : Option SetStop) : Type 0 where
   pub resolved : stop ≡ None → set.resolved ≡ last
   pub goes_on : stop ≡ None → set.stop ≡ None
   pub remembers : (ws : List Write) × Remembers set ws
 
--- The set goes on behind the batch, and covers also what the reply commits.
+-- The set continues after the batch, and covers also the writes that the reply commits.
 pub record GoesOn (old new : SetState) (batch : Batch) (reply : Reply) : Type 0 where
   pub resolved : new.resolved ≡ batch.version
   pub window : new.window ≡ old.window
@@ -31,7 +31,7 @@ pub record GoesOn (old new : SetState) (batch : Batch) (reply : Reply) : Type 0 
   pub stop : new.stop ≡ None
   pub covers : (ws : List Write) → MapCovers old.map ws → MapCovers new.map (ws ++ writes_of batch reply)
 
--- The bytes are the frame of the right reply to the batch, whatever writes the set covers, and the set goes on behind it.
+-- The bytes are the frame of the right reply to the batch, whatever writes the set covers, and the set continues after it.
 pub record Replies (old new : SetState) (batch : Batch) (answer : List ℕ) : Type 0 where
   pub reply : Reply
   pub answered : SpellsReply answer reply

@@ -1,5 +1,5 @@
-//! The exports over a batch. Each writes back the pointer of the handle that it takes. What lies behind that pointer then, no clause
-//! can say; that is said of [`BatchObject`].
+//! The exports over a batch. Each writes back the pointer of the handle that it takes. What lies
+//! behind that pointer then, no clause can say; that is said of [`BatchObject`].
 
 ghost use Rattle.std.specs.Prelude.{◌≡◌, ◌≢◌, ◌⊎◌, ◌+◌, pos, length};
 ghost use Rattle.keyspace.specs.declared.batch.TheConstants.{MAX_TXNS};
@@ -29,8 +29,8 @@ pub extern "C" fn archcaraway_export_batch_new(alloc: Global, at: &mut *mut u8) 
 }
 
 /// Adds a transaction, whose ranges lie among the bytes of its keys.
-// Two words come before the slices: then no slice is half in a register and half on the stack, whether a compiler passes it as two
-// words or as a struct.
+// Two words come before the slices: then no slice is half in a register and half on the stack,
+// whether a compiler passes it as two words or as a struct.
 #[unsafe(no_mangle)]
 pub extern "C" fn archcaraway_export_batch_add(
     batch: BatchHandle,

@@ -1,4 +1,4 @@
-//! A batch as one frame, with nothing behind it.
+//! A batch as one frame, with nothing after it.
 
 ghost use Rattle.std.specs.Prelude.{IfOk, IfErr};
 ghost use Rattle.archcaraway_c.specs.BatchFrame.{IsFrame, IsNoFrame};
@@ -8,7 +8,8 @@ use keyspace::Batch;
 use std::alloc::Global;
 use wire::decode_batch;
 
-/// Decodes a frame of either wire version, and returns its batch. Bytes behind the frame are refused, `Behind`.
+/// Decodes a frame of either wire version, and returns its batch. Bytes after the frame are
+/// refused, `Behind`.
 pub fn decode_frame(alloc: Global, frame: &[u8]) -> Result<Batch, Refusal>
     ensures frame { IfOk result (λ batch. IsFrame frame.now batch) }
     ensures refused { IfErr result (λ refusal. IsNoFrame frame.now refusal) }

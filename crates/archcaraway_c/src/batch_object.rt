@@ -1,6 +1,7 @@
 //! A batch of transactions that C gives by their keys.
 
-ghost use Rattle.std.specs.Prelude.{◌≡◌, ◌+◌, ◌-◌, ◌≤◌, [], ◌∷◌, ◌++◌, length, map, take, OnOk, OnErr, IfOk, IfErr};
+ghost use Rattle.std.specs.Prelude.{◌≡◌, ◌+◌, ◌-◌, ◌≤◌, [], ◌∷◌, ◌++◌, length, map, take, OnOk};
+ghost use Rattle.std.specs.Prelude.{OnErr, IfOk, IfErr};
 ghost use Rattle.keyspace.specs.Fields.{txn_fields};
 ghost use Rattle.keyspace.specs.Versions.{AreVersions};
 ghost use Rattle.keyspace.specs.declared.batch.TheConstants.{MAX_TXNS};
@@ -15,7 +16,8 @@ use std::alloc::{AllocError, Global};
 use std::marker::Model;
 use wire::WireError;
 
-/// A batch behind a handle, without versions. Contracts see it as what its transactions say, in order.
+/// A batch behind a handle, without versions. Contracts see it as what its transactions say, in
+/// order.
 #[derive(Drop)]
 pub struct BatchObject {
     alloc: Global,
@@ -32,7 +34,8 @@ impl Model for BatchObject {
 
     ghost view = { λ b. txns_told b.tables.buffer.items b.tables.spans.items b.tables.rows.items };
 
-    ghost invariant = { λ b. AreTables b.tables.buffer.items b.tables.spans.items b.tables.rows.items
+    ghost invariant = { λ b. AreTables b.tables.buffer.items b.tables.spans.items
+        b.tables.rows.items
         × (vec_len b.tables.rows ≤ MAX_TXNS) };
 }
 
@@ -47,11 +50,13 @@ impl BatchObject {
         }
     }
 
-    /// Adds a transaction behind the others. Its read ranges and its write ranges lie among the bytes of its keys.
+    /// Adds a transaction behind the others. Its read ranges and its write ranges lie among the
+    /// bytes of its keys.
     ///
-    /// The first of these that holds decides. The snapshot is negative: `Wire` of `Version`. There are as many transactions as a
-    /// batch may have, or too many ranges: `Count`. A range is none: `KeyLength`, `Inverted`, or `Argument` if a key doesn't
-    /// lie among the bytes. Memory is refused, or all keys would have more than 4 GiB: `Memory`. After a refusal the batch is as
+    /// The first of these that holds decides. The snapshot is negative: `Wire` of `Version`. There
+    /// are as many transactions as a batch may have, or too many ranges: `Count`. A range is none:
+    /// `KeyLength`, `Inverted`, or `Argument` if a key doesn't lie among the bytes. Memory is
+    /// refused, or all keys would have more than 4 GiB: `Memory`. After a refusal the batch is as
     /// before.
     pub fn add(
         &mut self,
@@ -63,7 +68,8 @@ impl BatchObject {
     ) -> Result<(), Refusal>
         ensures added { OnOk result (self.new
             ≡ self.old ++ txn_given snapshot marked keys.now reads.now writes.now ∷ []) }
-        ensures refused { IfErr result (λ refusal. AddRefuses self.old snapshot keys.now reads.now writes.now refusal) }
+        ensures refused { IfErr result
+            (λ refusal. AddRefuses self.old snapshot keys.now reads.now writes.now refusal) }
         ensures kept { OnErr result (self.new ≡ self.old) }
     {
         if snapshot < 0 {
@@ -84,8 +90,9 @@ impl BatchObject {
         }
     }
 
-    /// Appends the transactions of another batch. Returns `Wire` of `Count` if there would be too many, and that of `Memory` if
-    /// memory is refused or all keys would have more than 4 GiB. After a refusal the batch is as before.
+    /// Appends the transactions of another batch. Returns `Wire` of `Count` if there would be too
+    /// many, and that of `Memory` if memory is refused or all keys would have more than 4 GiB.
+    /// After a refusal the batch is as before.
     pub fn append(&mut self, other: &BatchObject) -> Result<(), Refusal>
         ensures appended { OnOk result (self.new ≡ self.old ++ other.now) }
         ensures refused { IfErr result (λ refusal. AppendRefuses self.old other.now refusal) }
@@ -102,7 +109,8 @@ impl BatchObject {
         }
     }
 
-    /// Removes the last transaction, if there is one. Its memory is kept until the batch is cleared.
+    /// Removes the last transaction, if there is one. Its memory is kept until the batch is
+    /// cleared.
     pub fn drop_last(&mut self)
         ensures dropped { self.new ≡ take (length self.old - 1) self.old }
     {
@@ -133,7 +141,8 @@ impl BatchObject {
         MAX_TXNS - self.len()
     }
 
-    /// Copies the transactions into a batch of these versions, or returns an error if memory is refused.
+    /// Copies the transactions into a batch of these versions, or returns an error if memory is
+    /// refused.
     pub fn to_batch(&self, previous: i64, version: i64, received: i64) -> Result<Batch, AllocError>
         requires versions { AreVersions previous version received }
         ensures batch { IfOk result (λ batch. IsBatchOf previous version received self.now batch) }

@@ -1,6 +1,8 @@
-//! The tables in which a batch keeps the transactions that C gives: their keys are copied into one buffer.
+//! The tables in which a batch keeps the transactions that C gives: their keys are copied into one
+//! buffer.
 
-ghost use Rattle.std.specs.Prelude.{◌≡◌, ◌+◌, ◌-◌, ◌<◌, ◌≤◌, ◌≤ℤ◌, ◌^◌, [], ◌∷◌, ◌++◌, ℕ, pos, length, vec_len, map, take, All, OnOk, OnErr};
+ghost use Rattle.std.specs.Prelude.{◌≡◌, ◌+◌, ◌-◌, ◌<◌, ◌≤◌, ◌≤ℤ◌, ◌^◌, [], ◌∷◌, ◌++◌, ℕ, pos};
+ghost use Rattle.std.specs.Prelude.{length, vec_len, map, take, All, OnOk, OnErr};
 ghost use Rattle.keyspace.specs.Tables.{txns_told, AreTables, AreRows};
 ghost use Rattle.keyspace.specs.declared.batch.TheConstants.{MAX_TXNS};
 ghost use Rattle.keyspace.specs.declared.txn.TheConstants.{MAX_RANGES};
@@ -37,8 +39,8 @@ impl BatchTables {
         }
     }
 
-    /// Copies a transaction behind the others. If memory is refused, or the keys would have more than 4 GiB, the tables are as
-    /// before.
+    /// Copies a transaction behind the others. If memory is refused, or the keys would have more
+    /// than 4 GiB, the tables are as before.
     pub fn put(
         &mut self,
         snapshot: i64,
@@ -54,8 +56,10 @@ impl BatchTables {
         requires few_writes { length writes.now ≤ MAX_RANGES }
         requires reads { All (IsRangeOf keys.now) reads.now }
         requires writes { All (IsRangeOf keys.now) writes.now }
-        ensures tables { OnOk result (AreTables self.new.buffer.items self.new.spans.items self.new.rows.items) }
-        ensures told { OnOk result (txns_told self.new.buffer.items self.new.spans.items self.new.rows.items
+        ensures tables { OnOk result (AreTables self.new.buffer.items self.new.spans.items
+            self.new.rows.items) }
+        ensures told { OnOk result (txns_told self.new.buffer.items self.new.spans.items
+            self.new.rows.items
             ≡ txns_told self.old.buffer.items self.old.spans.items self.old.rows.items
             ++ txn_given snapshot marked keys.now reads.now writes.now ∷ []) }
         ensures count { OnOk result (vec_len self.new.rows ≡ vec_len self.old.rows + 1) }
@@ -89,13 +93,17 @@ impl BatchTables {
         requires few_writes { length writes.now ≤ MAX_RANGES }
         requires reads { All (IsRangeOf keys.now) reads.now }
         requires writes { All (IsRangeOf keys.now) writes.now }
-        ensures tables { OnOk result (AreTables self.new.buffer.items self.new.spans.items self.new.rows.items) }
-        ensures told { OnOk result (txns_told self.new.buffer.items self.new.spans.items self.new.rows.items
+        ensures tables { OnOk result (AreTables self.new.buffer.items self.new.spans.items
+            self.new.rows.items) }
+        ensures told { OnOk result (txns_told self.new.buffer.items self.new.spans.items
+            self.new.rows.items
             ≡ txns_told self.old.buffer.items self.old.spans.items self.old.rows.items
             ++ txn_given snapshot marked keys.now reads.now writes.now ∷ []) }
         ensures count { OnOk result (vec_len self.new.rows ≡ vec_len self.old.rows + 1) }
-        ensures buffer { take (length self.old.buffer.items) self.new.buffer.items ≡ self.old.buffer.items }
-        ensures spans { take (length self.old.spans.items) self.new.spans.items ≡ self.old.spans.items }
+        ensures buffer { take (length self.old.buffer.items) self.new.buffer.items
+            ≡ self.old.buffer.items }
+        ensures spans { take (length self.old.spans.items) self.new.spans.items
+            ≡ self.old.spans.items }
         ensures rows { OnErr result (self.new.rows.items ≡ self.old.rows.items) }
     {
         let before = self.buffer.len();
@@ -114,17 +122,21 @@ impl BatchTables {
         Ok(())
     }
 
-    /// Copies the transactions of other tables behind these. If memory is refused, or the keys would have more than 4 GiB, the
-    /// tables are as before.
+    /// Copies the transactions of other tables behind these. If memory is refused, or the keys
+    /// would have more than 4 GiB, the tables are as before.
     pub fn put_all(&mut self, other: &BatchTables) -> Result<(), AllocError>
         requires tables { AreTables self.old.buffer.items self.old.spans.items self.old.rows.items }
-        requires others { AreTables other.now.buffer.items other.now.spans.items other.now.rows.items }
+        requires others { AreTables other.now.buffer.items other.now.spans.items
+            other.now.rows.items }
         requires few { vec_len self.old.rows + vec_len other.now.rows ≤ MAX_TXNS }
-        ensures tables { OnOk result (AreTables self.new.buffer.items self.new.spans.items self.new.rows.items) }
-        ensures told { OnOk result (txns_told self.new.buffer.items self.new.spans.items self.new.rows.items
+        ensures tables { OnOk result (AreTables self.new.buffer.items self.new.spans.items
+            self.new.rows.items) }
+        ensures told { OnOk result (txns_told self.new.buffer.items self.new.spans.items
+            self.new.rows.items
             ≡ txns_told self.old.buffer.items self.old.spans.items self.old.rows.items
             ++ txns_told other.now.buffer.items other.now.spans.items other.now.rows.items) }
-        ensures count { OnOk result (vec_len self.new.rows ≡ vec_len self.old.rows + vec_len other.now.rows) }
+        ensures count { OnOk result (vec_len self.new.rows
+            ≡ vec_len self.old.rows + vec_len other.now.rows) }
         ensures buffer { OnErr result (self.new.buffer.items ≡ self.old.buffer.items) }
         ensures spans { OnErr result (self.new.spans.items ≡ self.old.spans.items) }
         ensures rows { OnErr result (self.new.rows.items ≡ self.old.rows.items) }
@@ -141,18 +153,25 @@ impl BatchTables {
         Ok(())
     }
 
-    // Copies the transactions of other tables behind these. If memory is refused, some of them may be there.
+    // Copies the transactions of other tables behind these. If memory is refused, some of them may
+    // be there.
     fn append_all(&mut self, other: &BatchTables) -> Result<(), AllocError>
         requires tables { AreTables self.old.buffer.items self.old.spans.items self.old.rows.items }
-        requires others { AreTables other.now.buffer.items other.now.spans.items other.now.rows.items }
+        requires others { AreTables other.now.buffer.items other.now.spans.items
+            other.now.rows.items }
         requires few { vec_len self.old.rows + vec_len other.now.rows ≤ MAX_TXNS }
-        ensures tables { OnOk result (AreTables self.new.buffer.items self.new.spans.items self.new.rows.items) }
-        ensures told { OnOk result (txns_told self.new.buffer.items self.new.spans.items self.new.rows.items
+        ensures tables { OnOk result (AreTables self.new.buffer.items self.new.spans.items
+            self.new.rows.items) }
+        ensures told { OnOk result (txns_told self.new.buffer.items self.new.spans.items
+            self.new.rows.items
             ≡ txns_told self.old.buffer.items self.old.spans.items self.old.rows.items
             ++ txns_told other.now.buffer.items other.now.spans.items other.now.rows.items) }
-        ensures count { OnOk result (vec_len self.new.rows ≡ vec_len self.old.rows + vec_len other.now.rows) }
-        ensures buffer { take (length self.old.buffer.items) self.new.buffer.items ≡ self.old.buffer.items }
-        ensures spans { take (length self.old.spans.items) self.new.spans.items ≡ self.old.spans.items }
+        ensures count { OnOk result (vec_len self.new.rows
+            ≡ vec_len self.old.rows + vec_len other.now.rows) }
+        ensures buffer { take (length self.old.buffer.items) self.new.buffer.items
+            ≡ self.old.buffer.items }
+        ensures spans { take (length self.old.spans.items) self.new.spans.items
+            ≡ self.old.spans.items }
         ensures rows { take (length self.old.rows.items) self.new.rows.items ≡ self.old.rows.items }
     {
         let before = self.buffer.len();
@@ -174,7 +193,8 @@ impl BatchTables {
         ensures told { txns_told self.new.buffer.items self.new.spans.items self.new.rows.items
             ≡ take (length self.old.rows.items - 1)
             (txns_told self.old.buffer.items self.old.spans.items self.old.rows.items) }
-        ensures rows { self.new.rows.items ≡ take (length self.old.rows.items - 1) self.old.rows.items }
+        ensures rows { self.new.rows.items
+            ≡ take (length self.old.rows.items - 1) self.old.rows.items }
     {
         if let Some(last) = self.rows.len().checked_sub(1) {
             let spans = first_span(&self.rows, last);
@@ -184,7 +204,8 @@ impl BatchTables {
     }
 }
 
-// Returns the index at which the spans of the row at an index begin: where those of the row before end.
+// Returns the index at which the spans of the row at an index begin: where those of the row before
+// end.
 fn first_span(rows: &[Row], index: usize) -> usize
     requires rows { (count : ℕ) × AreRows 0 rows.now count }
     requires within { index < length rows.now }
@@ -197,7 +218,8 @@ fn first_span(rows: &[Row], index: usize) -> usize
     }
 }
 
-// Appends where the ranges lie in a buffer that has so many bytes before these. If memory is refused, some of them may be there.
+// Appends where the ranges lie in a buffer that has so many bytes before these. If memory is
+// refused, some of them may be there.
 fn push_ranges(
     before: usize,
     bytes: usize,
@@ -206,7 +228,8 @@ fn push_ranges(
 ) -> Result<(), AllocError>
     requires fits { before + bytes < 2 ^ 32 }
     requires within { All (IsWithin bytes) given.now }
-    ensures pushed { OnOk result (spans.new.items ≡ spans.old.items ++ map (span_behind before) given.now) }
+    ensures pushed { OnOk result (spans.new.items
+        ≡ spans.old.items ++ map (span_behind before) given.now) }
     ensures front { take (length spans.old.items) spans.new.items ≡ spans.old.items }
 {
     for span in given {

@@ -1,6 +1,8 @@
 //! A resolver over values that takes and gives frames.
 
-ghost use Rattle.std.specs.Prelude.{◌≡◌, ◌≢◌, IfSome, Err, drop, slice_get, ◌<◌, ◌≤◌, ◌⊎◌, ◌∷◌, ◌++◌, ℕ, List, [], length, replicate, None, Some, Ok, OnOk, IfOk, IfErr};
+ghost use Rattle.std.specs.Prelude.{◌≡◌, ◌≢◌, IfSome, Err, drop, slice_get, ◌<◌, ◌≤◌, ◌⊎◌, ◌∷◌};
+ghost use Rattle.std.specs.Prelude.{◌++◌, ℕ, List, [], length, replicate, None, Some, Ok, OnOk};
+ghost use Rattle.std.specs.Prelude.{IfOk, IfErr};
 ghost use Rattle.keyspace.specs.Run.{Step, Finish};
 ghost use Rattle.resolver.specs.Core.{Given as GivenSoFar, GoesOn};
 ghost use Rattle.resolver.specs.declared.stop.Stop.{Stop as StopValue};
@@ -8,7 +10,9 @@ ghost use Rattle.resolver.specs.Stands.{Stands};
 ghost use Rattle.archcaraway_c.specs.BatchFrame.{IsFrame, IsNoFrame};
 ghost use Rattle.archcaraway_c.specs.Numbers.{AreCoreNumbers};
 ghost use Rattle.archcaraway_c.specs.Given.{Tells};
-ghost use Rattle.archcaraway_c.specs.CoreObject.{Admits, IsGateFull, StopsAt, CoreRefuses, GiveRefuses, still_owed, next_owed, still_owed_count};
+ghost use Rattle.archcaraway_c.specs.CoreObject.{Admits, IsGateFull, StopsAt, CoreRefuses};
+ghost use Rattle.archcaraway_c.specs.CoreObject.{GiveRefuses, still_owed, next_owed};
+ghost use Rattle.archcaraway_c.specs.CoreObject.{still_owed_count};
 
 mod admitting;
 
@@ -22,7 +26,8 @@ use resolver::{Core, MAX_PROXIES, Stop};
 use std::alloc::Global;
 use std::marker::Model;
 
-/// A core behind a handle. An answer that was taken from the core waits here until it fits the buffer that C gives.
+/// A core behind a handle. An answer that was taken from the core waits here until it fits the
+/// buffer that C gives.
 #[derive(Drop)]
 pub struct CoreObject {
     alloc: Global,
@@ -45,9 +50,9 @@ impl Model for CoreObject {
 }
 
 impl CoreObject {
-    /// Creates a resolver for so many proxies, which has taken nothing. `window` is how far back it remembers writes, in
-    /// versions; it never keeps more boundaries than `limit`. Returns `Argument` if one of them is outside its range, and the
-    /// stop `Memory` if memory is refused.
+    /// Creates a resolver for this number of proxies, which has taken nothing. `window` is how far
+    /// back it remembers writes, in versions; it never keeps more boundaries than `limit`. Returns
+    /// `Argument` if one of them is outside its range, and the stop `Memory` if memory is refused.
     pub fn new(alloc: Global, proxies: u32, window: i64, limit: u64) -> Result<Self, Refusal>
         ensures stands { IfOk result (λ object. Stands object.core [] (λ _. [])) }
         ensures goes_on { IfOk result (λ object. object.core.stop ≡ None) }
@@ -77,17 +82,21 @@ impl CoreObject {
         })
     }
 
-    /// Takes the batch of a frame from a proxy. The batch is held, or it and what it frees are answered.
+    /// Takes the batch of a frame from a proxy. The batch is held, or it and the batches that it
+    /// frees are answered.
     ///
-    /// The first of these that holds decides. There is no such proxy: `Argument`. The resolver has stopped: that stop. The bytes
-    /// aren't one frame: `Wire`, `Behind`. Then the batch is taken, or the resolver stops for good: with `GateFull` exactly if the
-    /// batch would have to be held and as many are held as may be. After any refusal but a stop that is met now, the object is as
-    /// before.
+    /// The first of these that holds decides. There is no such proxy: `Argument`. The resolver has
+    /// stopped: that stop. The bytes aren't one frame: `Wire`, `Behind`. Then the batch is taken,
+    /// or the resolver stops for good: with `GateFull` exactly if the batch would have to be held
+    /// and as many are held as may be. After any refusal but a stop that is met now, the object is
+    /// as before.
     pub fn admit(&mut self, proxy: u32, frame: &[u8]) -> Result<(), Refusal>
         ensures admitted { IfOk result (λ _. (batch : Batch) × IsFrame frame.now batch
             × Admits self.old.core proxy batch self.new.core × (¬ IsGateFull self.old.core batch)) }
-        ensures goes_on { IfOk result (λ _. (self.old.core.stop ≡ None) × (self.new.core.stop ≡ None)) }
-        ensures refused { IfErr result (λ refusal. CoreRefuses self.old self.new proxy frame.now refusal) }
+        ensures goes_on { IfOk result (λ _. (self.old.core.stop ≡ None)
+            × (self.new.core.stop ≡ None)) }
+        ensures refused { IfErr result
+            (λ refusal. CoreRefuses self.old self.new proxy frame.now refusal) }
         ensures waiting { self.new.waiting ≡ self.old.waiting }
         ensures same { GoesOn self.old.core self.new.core }
     {
@@ -108,15 +117,21 @@ impl CoreObject {
         }
     }
 
-    /// Answers every batch that is still held, in order of arrival. Returns the stop that was met before or is met now.
+    /// Answers every batch that is still held, in order of arrival. Returns the stop that was met
+    /// before or is met now.
     pub fn finish(&mut self) -> Result<(), Refusal>
-        ensures finished { self.old.core.stop ≡ None → (log : List Step) (given : GivenSoFar) → Stands self.old.core log given
+        ensures finished { self.old.core.stop ≡ None → (log : List Step) (given : GivenSoFar)
+            → Stands self.old.core log given
             → Stands self.new.core (log ++ Finish ∷ []) given }
-        ensures goes_on { IfOk result (λ _. (self.old.core.stop ≡ None) × (self.new.core.stop ≡ None)) }
-        ensures refused { IfErr result (λ refusal. (stop : StopValue) × (refusal ≡ Refusal.Stop stop)
+        ensures goes_on { IfOk result (λ _. (self.old.core.stop ≡ None)
+            × (self.new.core.stop ≡ None)) }
+        ensures refused { IfErr result (λ refusal. (stop : StopValue)
+            × (refusal ≡ Refusal.Stop stop)
             × (self.new.core.stop ≡ Some stop)) }
-        ensures stopped { IfSome self.old.core.stop (λ stop. (result ≡ Err (Refusal.Stop stop)) × (self.new ≡ self.old)) }
-        ensures memory { self.old.core.stop ≡ None → IfErr result (λ refusal. refusal ≡ Refusal.Stop Stop.Memory) }
+        ensures stopped { IfSome self.old.core.stop (λ stop. (result ≡ Err (Refusal.Stop stop))
+            × (self.new ≡ self.old)) }
+        ensures memory { self.old.core.stop ≡ None
+            → IfErr result (λ refusal. refusal ≡ Refusal.Stop Stop.Memory) }
         ensures waiting { self.new.waiting ≡ self.old.waiting }
         ensures same { GoesOn self.old.core self.new.core }
     {
@@ -126,15 +141,19 @@ impl CoreObject {
         Ok(())
     }
 
-    /// Gives the proxy the oldest answer owed to it, and writes the frame of a reply to the front of the buffer. The core is as
-    /// before but for the answers that it owes, and after a refusal all of these are still owed. `Wire` is `Memory` here, or `Long` for a reply that exceeds a frame; the reply to a batch that
-    /// has a frame doesn't exceed one.
+    /// Gives the proxy the oldest answer owed to it, and writes the frame of a reply to the front
+    /// of the buffer. The core is as before but for the answers that it owes, and after a refusal
+    /// all of these are still owed. `Wire` is `Memory` here, or `Long` for a reply that exceeds a
+    /// frame; the reply to a batch that has a frame doesn't exceed one.
     pub fn give(&mut self, proxy: u32, buffer: &mut [u8]) -> Result<Given, Refusal>
         ensures told { IfOk result (λ given. Tells given buffer.new (next_owed proxy self.old)) }
-        ensures taken { IfOk result (λ _. still_owed proxy self.new ≡ drop 1 (still_owed proxy self.old)) }
-        ensures refused { IfErr result (λ refusal. GiveRefuses self.old proxy (length buffer.old) refusal) }
+        ensures taken { IfOk result (λ _. still_owed proxy self.new
+            ≡ drop 1 (still_owed proxy self.old)) }
+        ensures refused { IfErr result
+            (λ refusal. GiveRefuses self.old proxy (length buffer.old) refusal) }
         ensures kept { IfErr result (λ _. still_owed proxy self.new ≡ still_owed proxy self.old) }
-        ensures others { (other : ℕ) → other ≢ proxy → still_owed other self.new ≡ still_owed other self.old }
+        ensures others { (other : ℕ) → other ≢ proxy
+            → still_owed other self.new ≡ still_owed other self.old }
         ensures same { self.new.core ≡ record self.old.core { owed = self.new.core.owed } }
         ensures proxies { length self.new.waiting ≡ length self.old.waiting }
     {
@@ -161,8 +180,10 @@ impl CoreObject {
 
     // Returns the number of the proxy, if there is one of that number.
     fn known(&self, proxy: u32) -> Result<usize, Refusal>
-        ensures known { IfOk result (λ number. (number ≡ proxy) × (number < length self.now.waiting)) }
-        ensures unknown { IfErr result (λ refusal. (refusal ≡ Refusal.Argument) × (length self.now.waiting ≤ proxy)) }
+        ensures known { IfOk result (λ number. (number ≡ proxy)
+            × (number < length self.now.waiting)) }
+        ensures unknown { IfErr result (λ refusal. (refusal ≡ Refusal.Argument)
+            × (length self.now.waiting ≤ proxy)) }
     {
         let number = proxy as usize;
         if number < self.waiting.len() {
@@ -187,7 +208,8 @@ impl CoreObject {
         ensures admitted { IfOk result (λ _. Admits self.old.core proxy batch self.new.core) }
         ensures goes_on { IfOk result (λ _. self.new.core.stop ≡ None) }
         ensures room { OnOk result (¬ IsGateFull self.old.core batch) }
-        ensures stops { IfErr result (λ stop. StopsAt self.old.core self.new.core proxy batch stop) }
+        ensures stops { IfErr result (λ stop. StopsAt self.old.core self.new.core proxy batch
+            stop) }
         ensures waiting { self.new.waiting ≡ self.old.waiting }
         ensures same { GoesOn self.old.core self.new.core }
     {

@@ -1,6 +1,7 @@
 //! The ranges that C gives by their keys.
 
-ghost use Rattle.std.specs.Prelude.{◌≡◌, ◌+◌, ◌<◌, ◌≤◌, ◌^◌, length, slice_range, All, IfErr, IfSome, IfNone, OnOk};
+ghost use Rattle.std.specs.Prelude.{◌≡◌, ◌+◌, ◌<◌, ◌≤◌, ◌^◌, length, slice_range, All, IfErr};
+ghost use Rattle.std.specs.Prelude.{IfSome, IfNone, OnOk};
 ghost use Rattle.std.specs.List.{Contains};
 ghost use Rattle.archcaraway_c.specs.BatchObject.{IsWithin, IsRangeOf, SpanRefuses, span_behind};
 ghost use Rattle.archcaraway_c.specs.declared.key_span.KeySpan.{KeySpan as KeySpanValue};
@@ -10,8 +11,9 @@ use crate::refusal::Refusal;
 use keyspace::{MAX_KEY_LENGTH, Span};
 use wire::WireError;
 
-/// Refuses the first of the ranges that isn't one: with `KeyLength` if a key is too long, else with `Argument` if a key doesn't
-/// lie among the bytes, else with `Inverted` if its end comes before its begin.
+/// Refuses the first of the ranges that isn't one: with `KeyLength` if a key is too long, else with
+/// `Argument` if a key doesn't lie among the bytes, else with `Inverted` if its end comes before
+/// its begin.
 pub fn check_ranges(keys: &[u8], given: &[KeySpan]) -> Result<(), Refusal>
     ensures ranges { OnOk result (All (IsRangeOf keys.now) given.now) }
     ensures refused { IfErr result (λ refusal. (span : KeySpanValue) × Contains given.now span

@@ -1,4 +1,5 @@
-//! The exports that give a batch to a set or a core. Each writes back the pointers of the handles that it takes.
+//! The exports that give a batch to a set or a core. Each writes back the pointers of the handles
+//! that it takes.
 
 ghost use Rattle.std.specs.Prelude.{◌≡◌, ◌≢◌, ◌<◌, pos, length, take, IfSome};
 ghost use Rattle.conflict.specs.ConflictSet.{SetState};
@@ -26,7 +27,8 @@ pub extern "C" fn archcaraway_export_set_judge(
     ensures judged { result ≡ pos 0
         → AreVerdicts set.value version batch.value (take (length batch.value) verdicts.new) }
     ensures refused { result ≢ pos 0 → (refusal : Refusal) × (result ≡ refusal_status refusal)
-        × ((after : SetState) × JudgeRefuses set.value after version batch.value (length verdicts.old) refusal) }
+        × ((after : SetState) × JudgeRefuses set.value after version batch.value
+        (length verdicts.old) refusal) }
     ensures stopped { IfSome set.value.stop (λ stop. result ≡ stop_status (stop_at_set stop)) }
 {
     let mut set = set.into_box();

@@ -1,6 +1,7 @@
 //! Where the keys of a range lie among the bytes that C gives.
 
-/// Where the keys of a range lie among bytes. The two may share bytes. `archcaraway_span` of `library/archcaraway.c`.
+/// Where the keys of a range lie among bytes. The two may share bytes. `archcaraway_span` of
+/// `library/archcaraway.c`.
 #[repr(C)]
 #[derive(Clone, Copy, Debug, PartialEq, Eq)]
 pub struct KeySpan {

@@ -1,12 +1,14 @@
 //! The conflict set and the resolver over values for C.
 //!
-//! C holds an object of this crate by a handle of one pointer, [`SetHandle`], [`CoreHandle`] or [`BatchHandle`]. An export takes the handle by
-//! value, works on the object behind it, and writes its pointer back. `library/archcaraway.c` hides that and tests for null;
-//! `include/archcaraway.h` says what C has to promise.
+//! C holds an object of this crate by a handle of one pointer, [`SetHandle`], [`CoreHandle`] or
+//! [`BatchHandle`]. An export takes the handle by value, works on the object behind it, and writes
+//! its pointer back. `library/archcaraway.c` hides that and tests for null; `include/archcaraway.h`
+//! says what C has to promise.
 //!
-//! The objects are plain values: [`SetObject`] is a conflict set that takes a batch as a frame and writes the reply as a frame;
-//! [`CoreObject`] is a [`resolver::Core`] with the same frames. A [`BatchObject`] has transactions that come without a frame, and
-//! both take it too. Every refusal is a [`Refusal`], and its number is what C sees.
+//! The objects are plain values: [`SetObject`] is a conflict set that takes a batch as a frame and
+//! writes the reply as a frame; [`CoreObject`] is a [`resolver::Core`] with the same frames. A
+//! [`BatchObject`] has transactions that come without a frame, and both take it too. Every refusal
+//! is a [`Refusal`], and its number is what C sees.
 #![tactic(auto)]
 
 mod batch_exports;

@@ -7,7 +7,8 @@ ghost use Rattle.archcaraway_c.specs.Moving.{span_moved, row_moved};
 use keyspace::{Row, Span};
 use std::alloc::AllocError;
 
-/// Appends where spans lie in a buffer that has so many bytes before their own. If memory is refused, some of them may be there.
+/// Appends where spans lie in a buffer that has so many bytes before their own. If memory is
+/// refused, some of them may be there.
 pub fn push_spans(
     before: usize,
     bytes: usize,
@@ -16,7 +17,8 @@ pub fn push_spans(
 ) -> Result<(), AllocError>
     requires fits { before + bytes < 2 ^ 32 }
     requires within { All (LiesWithin bytes) others.now }
-    ensures pushed { OnOk result (spans.new.items ≡ spans.old.items ++ map (span_moved before) others.now) }
+    ensures pushed { OnOk result (spans.new.items
+        ≡ spans.old.items ++ map (span_moved before) others.now) }
     ensures front { take (length spans.old.items) spans.new.items ≡ spans.old.items }
 {
     for span in others {
@@ -38,7 +40,8 @@ fn move_span(before: usize, bytes: usize, span: &Span) -> Span
     }
 }
 
-/// Appends rows to tables that have so many spans before theirs. If memory is refused, some of them may be there.
+/// Appends rows to tables that have so many spans before theirs. If memory is refused, some of them
+/// may be there.
 pub fn push_rows(
     before: usize,
     count: usize,
@@ -47,7 +50,8 @@ pub fn push_rows(
 ) -> Result<(), AllocError>
     requires fits { before + count < 2 ^ 32 }
     requires within { All (λ row. row.end ≤ count) others.now }
-    ensures pushed { OnOk result (rows.new.items ≡ rows.old.items ++ map (row_moved before) others.now) }
+    ensures pushed { OnOk result (rows.new.items
+        ≡ rows.old.items ++ map (row_moved before) others.now) }
     ensures front { take (length rows.old.items) rows.new.items ≡ rows.old.items }
 {
     for row in others {

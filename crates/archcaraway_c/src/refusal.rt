@@ -1,7 +1,8 @@
 //! Why a call of the library is refused, and the number by which C sees it.
 
 ghost use Rattle.std.specs.Prelude.{◌≡◌};
-ghost use Rattle.archcaraway_c.specs.Status.{stop_status, wire_status, refusal_status, bytes_needed};
+ghost use Rattle.archcaraway_c.specs.Status.{stop_status, wire_status, refusal_status};
+ghost use Rattle.archcaraway_c.specs.Status.{bytes_needed};
 
 use resolver::Stop;
 use wire::WireError;
@@ -17,9 +18,9 @@ pub enum Refusal {
     Version,
     /// A number is outside its limits, or there is no such proxy.
     Argument,
-    /// The buffer is too small: it needs so many bytes.
+    /// The buffer is too small: it needs this number of bytes.
     Buffer(usize),
-    /// Bytes stand behind the frame.
+    /// There are bytes after the frame.
     Behind,
 }
 

@@ -15,7 +15,8 @@ pub fn put_frame(frame: &[u8], buffer: &mut [u8]) -> usize
     frame.len()
 }
 
-/// Writes a frame to the front of a buffer, and returns its length. Returns `Buffer` if the buffer is shorter than that.
+/// Writes a frame to the front of a buffer, and returns its length. Returns `Buffer` if the buffer
+/// is shorter than that.
 pub fn write_frame(frame: &[u8], buffer: &mut [u8]) -> Result<usize, Refusal>
     ensures written { IfOk result (λ count. take count buffer.new ≡ frame.now) }
     ensures within { IfOk result (λ count. count ≤ length buffer.new) }

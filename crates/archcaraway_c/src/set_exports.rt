@@ -1,5 +1,5 @@
-//! The exports over a conflict set. Each writes back the pointer of the handle that it takes. What lies behind that pointer then, no
-//! clause can say; that is said of [`SetObject`].
+//! The exports over a conflict set. Each writes back the pointer of the handle that it takes. What
+//! lies behind that pointer then, no clause can say; that is said of [`SetObject`].
 
 ghost use Rattle.std.specs.Prelude.{◌≡◌, ◌≢◌, ◌⊎◌, ◌↔◌, pos, length, take, IfSome};
 ghost use Rattle.conflict.specs.ConflictSet.{SetState};
@@ -48,7 +48,8 @@ pub extern "C" fn archcaraway_export_set_resolve(
     answer_length: &mut usize,
     at: &mut *mut u8,
 ) -> i32
-    ensures replied { result ≡ pos 0 → IsReplied set.value frame.now (take answer_length.new answer.new) }
+    ensures replied { result ≡ pos 0
+        → IsReplied set.value frame.now (take answer_length.new answer.new) }
     ensures refused { result ≢ pos 0 → (refusal : Refusal) × (result ≡ refusal_status refusal)
         × (answer_length.new ≡ bytes_needed refusal)
         × ((after : SetState) × SetRefuses set.value after frame.now (length answer.old) refusal) }

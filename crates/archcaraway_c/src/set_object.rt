@@ -1,6 +1,7 @@
 //! A conflict set that takes and gives frames.
 
-ghost use Rattle.std.specs.Prelude.{◌≡◌, ◌≤◌, ◌⊎◌, ◌↔◌, ◌≤ℤ◌, ◌<ℤ◌, List, length, take, Err, None, Some, IsTrue, IfOk, IfErr, IfSome};
+ghost use Rattle.std.specs.Prelude.{◌≡◌, ◌≤◌, ◌⊎◌, ◌↔◌, ◌≤ℤ◌, ◌<ℤ◌, List, length, take, Err, None};
+ghost use Rattle.std.specs.Prelude.{Some, IsTrue, IfOk, IfErr, IfSome};
 ghost use Rattle.keyspace.specs.Writes.{Write};
 ghost use Rattle.conflict.specs.declared.error.SetStop.{SetStop as SetStopValue};
 ghost use Rattle.conflict.specs.ConflictSet.{new_set, Remembers};
@@ -45,13 +46,14 @@ impl Model for SetObject {
 }
 
 impl SetObject {
-    /// Creates a set that has resolved nothing. `window` is how far back it remembers writes, in versions; it never keeps more
-    /// boundaries than `limit`. Returns `Argument` if one of them is outside its range, and the stop `Memory` if memory is
-    /// refused.
+    /// Creates a set that has resolved nothing. `window` is how far back it remembers writes, in
+    /// versions; it never keeps more boundaries than `limit`. Returns `Argument` if one of them is
+    /// outside its range, and the stop `Memory` if memory is refused.
     pub fn new(alloc: Global, window: i64, limit: u64) -> Result<Self, Refusal>
         ensures empty { IfOk result (λ object. object ≡ new_set window limit) }
         ensures within { IfOk result (λ _. AreSetNumbers window limit) }
-        ensures refused { IfErr result (λ refusal. (AreSetNumbers window limit × (refusal ≡ Refusal.Stop Stop.Memory))
+        ensures refused { IfErr result
+            (λ refusal. (AreSetNumbers window limit × (refusal ≡ Refusal.Stop Stop.Memory))
             ⊎ ((¬ AreSetNumbers window limit) × (refusal ≡ Refusal.Argument))) }
     {
         if !are_set_numbers(window, limit) {
@@ -68,18 +70,24 @@ impl SetObject {
         })
     }
 
-    /// Resolves the batch of a frame, writes the frame of its reply to the front of the buffer, and returns the length of that.
+    /// Resolves the batch of a frame, writes the frame of its reply to the front of the buffer, and
+    /// returns the length of that.
     ///
-    /// The first of these that holds decides. The set has stopped: that stop. The bytes aren't one frame: `Wire`, `Behind`. The
-    /// version of the batch isn't above that of the batch resolved last: `Version`. The buffer is shorter than the longest
-    /// reply to the batch: `Buffer`. Then the batch is resolved, or the set stops for good: with `ArenaFull` only if what the
-    /// batch commits can't be written within the limit. After any refusal but a stop that is met now, the set is as before.
+    /// The first of these that holds decides. The set has stopped: that stop. The bytes aren't one
+    /// frame: `Wire`, `Behind`. The version of the batch isn't above that of the batch resolved
+    /// last: `Version`. The buffer is shorter than the longest reply to the batch: `Buffer`. Then
+    /// the batch is resolved, or the set stops for good: with `ArenaFull` only if what the batch
+    /// commits can't be written within the limit. After any refusal but a stop that is met now, the
+    /// set is as before.
     pub fn resolve(&mut self, frame: &[u8], answer: &mut [u8]) -> Result<usize, Refusal>
-        ensures resolved { IfOk result (λ count. Resolves self.old self.new frame.now (take count answer.new)) }
+        ensures resolved { IfOk result
+            (λ count. Resolves self.old self.new frame.now (take count answer.new)) }
         ensures within { IfOk result (λ count. count ≤ length answer.new) }
-        ensures refused { IfErr result (λ refusal. SetRefuses self.old self.new frame.now (length answer.old) refusal) }
+        ensures refused { IfErr result
+            (λ refusal. SetRefuses self.old self.new frame.now (length answer.old) refusal) }
         ensures kept { IfErr result (λ refusal. (self.new ≡ self.old) ⊎ Stops self.new refusal) }
-        ensures stopped { IfSome self.old.stop (λ stop. (result ≡ Err (Refusal.Stop (stop_at_set stop)))
+        ensures stopped { IfSome self.old.stop
+            (λ stop. (result ≡ Err (Refusal.Stop (stop_at_set stop)))
             × (self.new ≡ self.old)) }
     {
         if let Some(stop) = self.stop() {
@@ -102,7 +110,8 @@ impl SetObject {
         }
     }
 
-    /// Returns the number of boundaries, that at the empty key included. It never exceeds the limit.
+    /// Returns the number of boundaries, that at the empty key included. It never exceeds the
+    /// limit.
     pub fn boundaries(&self) -> u64
         ensures count { result ≡ length self.now.map.boundaries }
         ensures within { result ≤ self.now.map.limit }
@@ -139,7 +148,8 @@ impl SetObject {
         requires rising { self.old.resolved <ℤ batch.now.version }
         ensures replies { IfOk result (λ reply. Replies self.old self.new batch.now reply.items) }
         ensures short { IfOk result (λ reply. length reply.items ≤ most_reply_length batch.now) }
-        ensures stops { IfErr result (λ refusal. (met : SetStopValue) × (refusal ≡ Refusal.Stop (stop_at_set met))
+        ensures stops { IfErr result (λ refusal. (met : SetStopValue)
+            × (refusal ≡ Refusal.Stop (stop_at_set met))
             × StopsAt self.old self.new batch.now met) }
     {
         match reply_to(self.alloc, &mut self.set, batch) {
@@ -162,7 +172,8 @@ fn reply_to(alloc: Global, set: &mut ConflictSet, batch: &Batch) -> Result<Vec<u
     requires remembers { (ws : List Write) × Remembers set.old ws }
     ensures replies { IfOk result (λ reply. Replies set.old set.new batch.now reply.items) }
     ensures short { IfOk result (λ reply. length reply.items ≤ most_reply_length batch.now) }
-    ensures stops { IfErr result (λ stop. StopsAt set.old (record set.new { stop = Some stop }) batch.now stop) }
+    ensures stops { IfErr result (λ stop. StopsAt set.old (record set.new { stop = Some stop })
+        batch.now stop) }
     ensures remembers { (ws : List Write) × Remembers set.new ws }
 {
     let reply = match set.resolve(batch) {

@@ -1,6 +1,7 @@
 //! Answers that were taken from a core and aren't given yet.
 
-ghost use Rattle.std.specs.Prelude.{◌≡◌, ◌≤◌, ◌<◌, ◌⊎◌, length, replicate, vec_len, None, Some, IfOk, IfErr, option_to_list};
+ghost use Rattle.std.specs.Prelude.{◌≡◌, ◌≤◌, ◌<◌, ◌⊎◌, length, replicate, vec_len, None, Some};
+ghost use Rattle.std.specs.Prelude.{IfOk, IfErr, option_to_list};
 ghost use Rattle.std.specs.List.{sum_by};
 ghost use Rattle.archcaraway_c.specs.Given.{Tells, WriteRefuses};
 
@@ -11,7 +12,7 @@ use keyspace::{Answer, Reply};
 use std::alloc::{AllocError, Global};
 use wire::encode_reply;
 
-/// Has no answer waiting for any of so many proxies.
+/// Has no answer waiting for any of n proxies.
 pub fn nothing_waits(alloc: Global, proxies: usize) -> Result<Vec<Option<Answer>>, AllocError>
     ensures none { IfOk result (λ waiting. waiting.items ≡ replicate proxies None) }
 {
@@ -37,7 +38,8 @@ pub fn write_answer(
     buffer: &mut [u8],
 ) -> Result<Given, Refusal>
     ensures told { IfOk result (λ given. Tells given buffer.new answer.now) }
-    ensures refused { IfErr result (λ refusal. WriteRefuses answer.now (length buffer.old) refusal) }
+    ensures refused { IfErr result
+        (λ refusal. WriteRefuses answer.now (length buffer.old) refusal) }
 {
     match answer {
         None => Ok(Given::Nothing),
@@ -50,7 +52,8 @@ pub fn write_answer(
 // Writes the frame of a reply to the front of the buffer, and returns what is given.
 fn write_reply(alloc: Global, reply: &Reply, buffer: &mut [u8]) -> Result<Given, Refusal>
     ensures told { IfOk result (λ given. Tells given buffer.new (Some (Answer.Reply reply.now))) }
-    ensures refused { IfErr result (λ refusal. WriteRefuses (Some (Answer.Reply reply.now)) (length buffer.old) refusal) }
+    ensures refused { IfErr result
+        (λ refusal. WriteRefuses (Some (Answer.Reply reply.now)) (length buffer.old) refusal) }
 {
     let frame = match encode_reply(alloc, reply) {
         Ok(frame) => frame,

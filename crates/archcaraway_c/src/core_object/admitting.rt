@@ -14,12 +14,13 @@ use crate::refusal::Refusal;
 use wire::WireError;
 
 impl CoreObject {
-    /// Takes the transactions of a batch from a proxy, as the batch of these versions. It is held, or it and what it frees are
-    /// answered.
+    /// Takes the transactions of a batch from a proxy, as the batch of these versions. It is held,
+    /// or it and what it frees are answered.
     ///
-    /// The first of these that holds decides. There is no such proxy: `Argument`. The resolver has stopped: that stop. No batch
-    /// may have these versions: `Argument`. Memory is refused before the batch is taken: `Wire` of `Memory`. Then the batch is
-    /// taken, or the resolver stops for good. After any refusal but a stop that is met now, the object is as before.
+    /// The first of these that holds decides. There is no such proxy: `Argument`. The resolver has
+    /// stopped: that stop. No batch may have these versions: `Argument`. Memory is refused before
+    /// the batch is taken: `Wire` of `Memory`. Then the batch is taken, or the resolver stops for
+    /// good. After any refusal but a stop that is met now, the object is as before.
     pub fn admit_batch(
         &mut self,
         proxy: u32,
@@ -28,7 +29,8 @@ impl CoreObject {
         version: i64,
         received: i64,
     ) -> Result<(), Refusal>
-        ensures admitted { OnOk result ((taken : Batch) × IsBatchOf previous version received batch.now taken
+        ensures admitted { OnOk result ((taken : Batch)
+            × IsBatchOf previous version received batch.now taken
             × Admits self.old.core proxy taken self.new.core × (¬ IsGateFull self.old.core taken)) }
         ensures goes_on { OnOk result ((self.old.core.stop ≡ None) × (self.new.core.stop ≡ None)) }
         ensures refused { IfErr result (λ refusal.

@@ -1,10 +1,12 @@
 //! A conflict set judges transactions that come without a frame.
 
-ghost use Rattle.std.specs.Prelude.{◌≡◌, ◌≤◌, ◌<ℤ◌, ◌≤ℤ◌, ◌⊎◌, ◌↔◌, pos, length, take, Err, None, IsTrue, IfOk, IfErr, IfSome, OnOk};
+ghost use Rattle.std.specs.Prelude.{◌≡◌, ◌≤◌, ◌<ℤ◌, ◌≤ℤ◌, ◌⊎◌, ◌↔◌, pos, length, take, Err, None};
+ghost use Rattle.std.specs.Prelude.{IsTrue, IfOk, IfErr, IfSome, OnOk};
 ghost use Rattle.conflict.specs.declared.error.SetStop.{SetStop as SetStopValue};
 ghost use Rattle.resolver.specs.Stop.{stop_at_set};
 ghost use Rattle.archcaraway_c.specs.SetObject.{StopsAt};
-ghost use Rattle.archcaraway_c.specs.Judging.{Judges, JudgesBatch, JudgeRefuses, verdict_number, verdict_numbers};
+ghost use Rattle.archcaraway_c.specs.Judging.{Judges, JudgesBatch, JudgeRefuses, verdict_number};
+ghost use Rattle.archcaraway_c.specs.Judging.{verdict_numbers};
 
 use super::SetObject;
 use crate::batch_object::BatchObject;
@@ -14,12 +16,14 @@ use resolver::Stop;
 use wire::WireError;
 
 impl SetObject {
-    /// Judges the transactions of a batch at a version, and writes the numbers of their verdicts to the front of the buffer.
+    /// Judges the transactions of a batch at a version, and writes the numbers of their verdicts to
+    /// the front of the buffer.
     ///
-    /// The first of these that holds decides. The set has stopped: that stop. The version is negative, or not above that resolved
-    /// last: `Version`. There is no room for so many verdicts: `Buffer`. Memory is refused before the batch is judged: `Wire` of
-    /// `Memory`. Then the batch is judged, or the set stops for good. After any refusal but a stop that is met now, the set is as
-    /// before.
+    /// The first of these that holds decides. The set has stopped: that stop. The version is
+    /// negative, or not above that resolved last: `Version`. There is no room for so many verdicts:
+    /// `Buffer`. Memory is refused before the batch is judged: `Wire` of `Memory`. Then the batch
+    /// is judged, or the set stops for good. After any refusal but a stop that is met now, the set
+    /// is as before.
     pub fn judge(
         &mut self,
         batch: &BatchObject,
@@ -30,7 +34,8 @@ impl SetObject {
             (take (length batch.now) verdicts.new)) }
         ensures refused { IfErr result (λ refusal.
             JudgeRefuses self.old self.new version batch.now (length verdicts.old) refusal) }
-        ensures stopped { IfSome self.old.stop (λ stop. (result ≡ Err (Refusal.Stop (stop_at_set stop)))
+        ensures stopped { IfSome self.old.stop
+            (λ stop. (result ≡ Err (Refusal.Stop (stop_at_set stop)))
             × (self.new ≡ self.old)) }
     {
         if let Some(stop) = self.stop() {
@@ -66,7 +71,8 @@ impl SetObject {
         requires room { length batch.now.txns ≤ length verdicts.old }
         ensures judges { OnOk result (JudgesBatch self.old self.new batch.now
             (take (length batch.now.txns) verdicts.new)) }
-        ensures stops { IfErr result (λ refusal. (met : SetStopValue) × (refusal ≡ Refusal.Stop (stop_at_set met))
+        ensures stops { IfErr result (λ refusal. (met : SetStopValue)
+            × (refusal ≡ Refusal.Stop (stop_at_set met))
             × StopsAt self.old self.new batch.now met) }
     {
         match self.set.resolve(batch) {
