@@ -158,7 +158,7 @@ pub fn check_files<R: Threads + Wait + Copy + Send + 'static, F: Files, O: Sink,
 
 // Makes the gatekeeper of the proxies that have these readers: a room with a place for each.
 fn gatekeeper<S>(alloc: Global, readers: &[S]) -> Result<Arc<WaitingRoom, Global>, AllocError>
-    ensures places { IfOk result (λ room. room.value ≡ length readers.now) }
+    ensures places { IfOk result (λ room. length room.value ≡ length readers.now) }
 {
     Ok(Arc::new(alloc, WaitingRoom::new(alloc, readers.len())?)?)
 }
