@@ -110,6 +110,23 @@ static void moves() {
     DEMAND(taken.give(1, bytes).kind == ARCHCARAWAY_REPLY && Reply(View(bytes.data(), 15)).empty());
 }
 
+static void starts() {
+    std::vector<int> committed;
+    ConflictSet set = ConflictSet::at(1000);
+    ConflictBatch batch(&set);
+    batch.addTransaction(transaction(900, {KeyRangeRef::single("k")}, {}));
+    batch.addTransaction(transaction(1000, {KeyRangeRef::single("k")}, {}));
+    batch.detectConflicts(1001, committed);
+    DEMAND(committed == std::vector<int>{1});
+    DEMAND(Set::at(7).stats().version == 7 && Set().stats().version == -1);
+    Core core = Core::at(1000, 2);
+    BatchWriter writer;
+    writer.begin(1000, 1001, -1);
+    DEMAND(core.next() == std::nullopt);
+    core.admit(1, writer.end());
+    DEMAND(core.next() == 1u && core.stats().version == 1001 && core.stats().owed == 1);
+}
+
 #if defined(__cpp_exceptions)
 template <typename Call>
 static int refusal(Call call) {
@@ -128,6 +145,8 @@ static void refusals() {
     std::vector<std::uint8_t> bytes;
     DEMAND(refusal([] { Set none(0); }) == ARCHCARAWAY_ARGUMENT);
     DEMAND(refusal([] { Core none(65); }) == ARCHCARAWAY_ARGUMENT);
+    DEMAND(refusal([] { Set::at(-2); }) == ARCHCARAWAY_ARGUMENT);
+    DEMAND(refusal([] { Set::at(0, 1, 2); }) == ARCHCARAWAY_ARENA_FULL);
     DEMAND(refusal([&] { writer.begin(0, 0, -1); }) == ARCHCARAWAY_FRAME_VERSION);
     DEMAND(refusal([&] { writer.end(); }) == ARCHCARAWAY_FRAME_VERSION);
     DEMAND(refusal([&] { set.resolve("", bytes); }) == ARCHCARAWAY_FRAME_SHORT);
@@ -144,6 +163,7 @@ int main() {
     single_keys();
     iterators();
     moves();
+    starts();
     refusals();
     std::puts("header: views, single keys, iterators, moves and refusals are as the header says");
 }

@@ -5,3 +5,4 @@ pub mod Bound
 pub mod SetObject
 pub mod Given
 pub mod CoreObject
+pub mod Starts

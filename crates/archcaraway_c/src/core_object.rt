@@ -10,6 +10,8 @@ ghost use Rattle.archcaraway_c.specs.Numbers.{AreCoreNumbers};
 ghost use Rattle.archcaraway_c.specs.Given.{Tells};
 ghost use Rattle.archcaraway_c.specs.CoreObject.{Admits, CoreRefuses, GiveRefuses, still_owed, next_owed, still_owed_count};
 
+mod start;
+
 use crate::batch_frame::decode_frame;
 use crate::given::Given;
 use crate::numbers::are_set_numbers;

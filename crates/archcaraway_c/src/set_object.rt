@@ -9,6 +9,8 @@ ghost use Rattle.archcaraway_c.specs.Bound.{most_reply_length};
 ghost use Rattle.archcaraway_c.specs.Numbers.{AreSetNumbers};
 ghost use Rattle.archcaraway_c.specs.SetObject.{Replies, Resolves, SetRefuses, Stops};
 
+mod start;
+
 use crate::batch_frame::decode_frame;
 use crate::bound::most_reply_length;
 use crate::numbers::are_set_numbers;
