@@ -12,6 +12,8 @@ ghost use Rattle.archcaraway_c.specs.CoreObject.{Admits, IsGateFull, StopsAt, Co
 
 mod admitting;
 
+mod start;
+
 use crate::batch_frame::decode_frame;
 use crate::given::Given;
 use crate::numbers::are_set_numbers;

@@ -12,6 +12,8 @@ ghost use Rattle.archcaraway_c.specs.SetObject.{Replies, Resolves, StopsAt, SetR
 
 mod judging;
 
+mod start;
+
 use crate::batch_frame::decode_frame;
 use crate::bound::most_reply_length;
 use crate::numbers::are_set_numbers;
