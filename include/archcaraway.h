@@ -260,8 +260,8 @@ int archcaraway_core_give(archcaraway_core *core, uint32_t proxy, uint8_t *answe
 uint64_t archcaraway_core_owed(const archcaraway_core *core);
 
 /*
- * Finds a proxy that is owed an answer: writes the lowest number of those to `*proxy` and returns 1.
- * Returns 0 and writes nothing if no answer is owed, if there is no core and for null.
+ * Finds a proxy that is owed an answer: writes the lowest number of those to `*proxy` and returns
+ * 1. Returns 0 and writes nothing if no answer is owed, if there is no core and for null.
  */
 int archcaraway_core_next(const archcaraway_core *core, uint32_t *proxy);
 

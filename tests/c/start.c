@@ -1,4 +1,5 @@
-// Sets and cores that start at a version: what they know of the history before it, and what they tell of themselves.
+// Sets and cores that start at a version: what they know of the history before it, and what they
+// tell of themselves.
 #include <stdlib.h>
 
 #include "chains.h"
@@ -29,7 +30,8 @@ static Bytes batch(int64_t previous, int64_t version, const Read *reads, size_t 
     return frame;
 }
 
-static void demand_verdicts(const uint8_t *bytes, size_t length, const int *verdicts, size_t count) {
+static void demand_verdicts(const uint8_t *bytes, size_t length, const int *verdicts,
+                            size_t count) {
     archcaraway_reply reply;
     archcaraway_entry entry;
     DEMAND(archcaraway_reply_read(&reply, bytes, length) == ARCHCARAWAY_OK && reply.count == count);
@@ -60,8 +62,10 @@ static void numbers(void) {
         int other;
         archcaraway_set set = {&other};
         archcaraway_core core = {&other};
-        DEMAND(archcaraway_set_new_at(rows[i].window, rows[i].limit, rows[i].version, &set) == rows[i].status);
-        DEMAND(archcaraway_core_new_at(1, rows[i].window, rows[i].limit, rows[i].version, &core) == rows[i].status);
+        DEMAND(archcaraway_set_new_at(rows[i].window, rows[i].limit, rows[i].version, &set) ==
+               rows[i].status);
+        DEMAND(archcaraway_core_new_at(1, rows[i].window, rows[i].limit, rows[i].version, &core) ==
+               rows[i].status);
         DEMAND((set.at != NULL) == (rows[i].status == ARCHCARAWAY_OK));
         DEMAND((core.at != NULL) == (rows[i].status == ARCHCARAWAY_OK));
         archcaraway_set_free(&set);
@@ -78,27 +82,34 @@ static void sets(void) {
     static const Read reads[] = {
         {900, "k", NULL}, {1000, "k", NULL}, {999, "", "\xff"}, {900, "k", "k"}, {1001, "", "\xff"},
     };
-    static const int verdicts[] = {ARCHCARAWAY_CONFLICT, ARCHCARAWAY_COMMITTED, ARCHCARAWAY_CONFLICT,
-                                   ARCHCARAWAY_COMMITTED, ARCHCARAWAY_COMMITTED};
+    static const int verdicts[] = {ARCHCARAWAY_CONFLICT, ARCHCARAWAY_COMMITTED,
+                                   ARCHCARAWAY_CONFLICT, ARCHCARAWAY_COMMITTED,
+                                   ARCHCARAWAY_COMMITTED};
     archcaraway_set set = ARCHCARAWAY_NONE;
     archcaraway_stats stats;
     uint8_t reply[64];
     size_t length;
     DEMAND(archcaraway_set_new_at(100, 10, 1000, &set) == ARCHCARAWAY_OK);
     DEMAND(archcaraway_set_stats(&set, &stats) == ARCHCARAWAY_OK);
-    DEMAND(stats.boundaries == 2 && stats.limit == 10 && stats.version == 1000 && stats.edge == 900);
+    DEMAND(stats.boundaries == 2 && stats.limit == 10);
+    DEMAND(stats.version == 1000 && stats.edge == 900);
     DEMAND(stats.held == 0 && stats.owed == 0);
     Bytes early = batch(-1, 1000, NULL, 0), frame = batch(-1, 1001, reads + 1, 4);
-    DEMAND(archcaraway_set_resolve(&set, early.bytes, early.length, reply, 64, &length) == ARCHCARAWAY_VERSION_LATE);
-    DEMAND(archcaraway_set_resolve(&set, frame.bytes, frame.length, reply, 64, &length) == ARCHCARAWAY_OK);
-    const int late[] = {ARCHCARAWAY_COMMITTED, ARCHCARAWAY_CONFLICT, ARCHCARAWAY_TOO_OLD, ARCHCARAWAY_COMMITTED};
+    DEMAND(archcaraway_set_resolve(&set, early.bytes, early.length, reply, 64, &length) ==
+           ARCHCARAWAY_VERSION_LATE);
+    DEMAND(archcaraway_set_resolve(&set, frame.bytes, frame.length, reply, 64, &length) ==
+           ARCHCARAWAY_OK);
+    const int late[] = {ARCHCARAWAY_COMMITTED, ARCHCARAWAY_CONFLICT, ARCHCARAWAY_TOO_OLD,
+                        ARCHCARAWAY_COMMITTED};
     demand_verdicts(reply, length, late, 4);
-    DEMAND(archcaraway_set_stats(&set, &stats) == ARCHCARAWAY_OK && stats.version == 1001 && stats.edge == 901);
+    DEMAND(archcaraway_set_stats(&set, &stats) == ARCHCARAWAY_OK);
+    DEMAND(stats.version == 1001 && stats.edge == 901);
     archcaraway_set_free(&set);
     DEMAND(archcaraway_set_new_at(ARCHCARAWAY_WINDOW, 10, 1000, &set) == ARCHCARAWAY_OK);
     free(frame.bytes);
     frame = batch(-1, 1001, reads, 5);
-    DEMAND(archcaraway_set_resolve(&set, frame.bytes, frame.length, reply, 64, &length) == ARCHCARAWAY_OK);
+    DEMAND(archcaraway_set_resolve(&set, frame.bytes, frame.length, reply, 64, &length) ==
+           ARCHCARAWAY_OK);
     demand_verdicts(reply, length, verdicts, 5);
     archcaraway_set_free(&set);
     DEMAND(archcaraway_set_stats(&set, &stats) == ARCHCARAWAY_ARGUMENT);
@@ -128,7 +139,8 @@ static void cores(void) {
     DEMAND(archcaraway_core_next(&core, &proxy) == 0 && proxy == 99);
     for (size_t i = 0; i < sizeof sent / sizeof sent[0]; i++) {
         Bytes frame = batch(START + sent[i].previous, START + sent[i].version, NULL, 0);
-        DEMAND(archcaraway_core_admit(&core, sent[i].proxy, frame.bytes, frame.length) == ARCHCARAWAY_OK);
+        DEMAND(archcaraway_core_admit(&core, sent[i].proxy, frame.bytes, frame.length) ==
+               ARCHCARAWAY_OK);
         free(frame.bytes);
     }
     DEMAND(archcaraway_core_stats(&core, &stats) == ARCHCARAWAY_OK);
@@ -141,10 +153,12 @@ static void cores(void) {
         DEMAND(archcaraway_core_next(&core, &proxy) == 1 && proxy == owed[i].proxy);
         // A buffer that is too small leaves the answer owed.
         if (owed[i].kind == ARCHCARAWAY_REPLY) {
-            DEMAND(archcaraway_core_give(&core, proxy, NULL, 0, &length, &kind, &version) == ARCHCARAWAY_BUFFER);
+            DEMAND(archcaraway_core_give(&core, proxy, NULL, 0, &length, &kind, &version) ==
+                   ARCHCARAWAY_BUFFER);
             DEMAND(archcaraway_core_next(&core, &proxy) == 1 && proxy == owed[i].proxy);
         }
-        DEMAND(archcaraway_core_give(&core, proxy, answer, 64, &length, &kind, &version) == ARCHCARAWAY_OK);
+        DEMAND(archcaraway_core_give(&core, proxy, answer, 64, &length, &kind, &version) ==
+               ARCHCARAWAY_OK);
         DEMAND(kind == owed[i].kind && version == START + owed[i].version);
     }
     proxy = 99;

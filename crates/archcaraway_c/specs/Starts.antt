@@ -17,8 +17,8 @@ AreCoreNumbersAt proxies window limit version = AreCoreNumbers proxies window li
 abbrev pub IsTooSmall : ℕ → ℤ → Type 0
 IsTooSmall limit version = (pos 0 ≤ℤ version) × (limit < 3)
 
--- Why no set is made that starts at the version: a number is outside its range, else the limit is too small, else memory is
--- refused.
+-- Why no set is made that starts at the version: a number is outside its range, else the limit is
+-- too small, else memory is refused.
 abbrev pub SetStartRefuses : ℤ → ℕ → ℤ → Refusal → Type 0
 SetStartRefuses window limit version refusal =
     ((¬ AreSetNumbersAt window limit version) × (refusal ≡ Argument))

@@ -11,7 +11,6 @@ ghost use Rattle.archcaraway_c.specs.Given.{Tells};
 ghost use Rattle.archcaraway_c.specs.CoreObject.{Admits, IsGateFull, StopsAt, CoreRefuses, GiveRefuses, still_owed, next_owed, still_owed_count};
 
 mod admitting;
-
 mod start;
 
 use crate::batch_frame::decode_frame;

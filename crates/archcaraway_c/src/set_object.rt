@@ -11,7 +11,6 @@ ghost use Rattle.archcaraway_c.specs.Numbers.{AreSetNumbers};
 ghost use Rattle.archcaraway_c.specs.SetObject.{Replies, Resolves, StopsAt, SetRefuses, Stops};
 
 mod judging;
-
 mod start;
 
 use crate::batch_frame::decode_frame;

@@ -1,5 +1,5 @@
-//! The exports that create an object which starts at a version. What lies behind the pointer that they write, no clause can say; that
-//! is said of [`SetObject`] and [`CoreObject`].
+//! The exports that create an object which starts at a version. What lies behind the pointer that
+//! they write, no clause can say; that is said of [`SetObject`] and [`CoreObject`].
 
 ghost use Rattle.std.specs.Prelude.{◌≡◌, ◌⊎◌, ◌↔◌, pos};
 ghost use Rattle.archcaraway_c.specs.Starts.{AreSetNumbersAt, AreCoreNumbersAt, IsTooSmall};
@@ -20,7 +20,8 @@ pub extern "C" fn archcaraway_export_set_new_at(
     at: &mut *mut u8,
 ) -> i32
     ensures argument { (result ≡ pos 202) ↔ (¬ AreSetNumbersAt window limit version) }
-    ensures full { (result ≡ pos 3) ↔ (AreSetNumbersAt window limit version × IsTooSmall limit version) }
+    ensures full { (result ≡ pos 3)
+        ↔ (AreSetNumbersAt window limit version × IsTooSmall limit version) }
     ensures made { AreSetNumbersAt window limit version → (¬ IsTooSmall limit version)
         → (result ≡ pos 0) ⊎ (result ≡ pos 1) }
 {
@@ -48,7 +49,8 @@ pub extern "C" fn archcaraway_export_core_new_at(
     at: &mut *mut u8,
 ) -> i32
     ensures argument { (result ≡ pos 202) ↔ (¬ AreCoreNumbersAt proxies window limit version) }
-    ensures full { (result ≡ pos 3) ↔ (AreCoreNumbersAt proxies window limit version × IsTooSmall limit version) }
+    ensures full { (result ≡ pos 3)
+        ↔ (AreCoreNumbersAt proxies window limit version × IsTooSmall limit version) }
     ensures made { AreCoreNumbersAt proxies window limit version → (¬ IsTooSmall limit version)
         → (result ≡ pos 0) ⊎ (result ≡ pos 1) }
 {

@@ -1,10 +1,12 @@
 //! A core behind a handle that starts at a version, and what it tells of itself.
 
-ghost use Rattle.std.specs.Prelude.{◌≡◌, ℕ, [], length, replicate, None, IfOk, IfErr, MatchOption};
+ghost use Rattle.std.specs.Prelude.{◌≡◌, ◌<◌, ◌↔◌, ℕ, [], length, replicate, None};
+ghost use Rattle.std.specs.Prelude.{IfOk, IfErr, IsTrue, MatchOption};
 ghost use Rattle.resolver.specs.OpeningLog.{opening_log};
 ghost use Rattle.resolver.specs.Stands.{Stands};
 ghost use Rattle.archcaraway_c.specs.CoreObject.{still_owed};
-ghost use Rattle.archcaraway_c.specs.Starts.{AreCoreNumbersAt, CoreStartRefuses, IsNextOwed};
+ghost use Rattle.archcaraway_c.specs.Starts.{AreCoreNumbersAt, IsTooSmall, CoreStartRefuses};
+ghost use Rattle.archcaraway_c.specs.Starts.{IsNextOwed};
 
 use super::CoreObject;
 use crate::numbers::are_set_numbers;
@@ -14,9 +16,10 @@ use resolver::{Core, MAX_PROXIES, Stop};
 use std::alloc::Global;
 
 impl CoreObject {
-    /// Creates a resolver for so many proxies that starts at a version, from -1 on: the first batch that it processes follows
-    /// that version, and what was written up to it isn't known. Returns `Argument` if a number is outside its range, the stop
-    /// `ArenaFull` if the limit is below 3 and the version isn't -1, and the stop `Memory` if memory is refused.
+    /// Creates a resolver for so many proxies that starts at a version, from -1 on: the first batch
+    /// that it processes follows that version, and what was written up to it isn't known. Returns
+    /// `Argument` if a number is outside its range, the stop `ArenaFull` if the limit is below 3
+    /// and the version isn't -1, and the stop `Memory` if memory is refused.
     pub fn new_at(
         alloc: Global,
         proxies: u32,
@@ -24,13 +27,16 @@ impl CoreObject {
         limit: u64,
         version: i64,
     ) -> Result<Self, Refusal>
-        ensures stands { IfOk result (λ object. Stands object.core (opening_log proxies version) (λ _. [])) }
+        ensures stands { IfOk result (λ object.
+            Stands object.core (opening_log proxies version) (λ _. [])) }
         ensures goes_on { IfOk result (λ object. object.core.stop ≡ None) }
         ensures waiting { IfOk result (λ object. object.waiting ≡ replicate proxies None) }
         ensures window { IfOk result (λ object. object.core.set.window ≡ window) }
         ensures limit { IfOk result (λ object. object.core.set.map.limit ≡ limit) }
         ensures within { IfOk result (λ _. AreCoreNumbersAt proxies window limit version) }
-        ensures refused { IfErr result (λ refusal. CoreStartRefuses proxies window limit version refusal) }
+        ensures room { IfOk result (λ _. ¬ IsTooSmall limit version) }
+        ensures refused { IfErr result (λ refusal.
+            CoreStartRefuses proxies window limit version refusal) }
     {
         let proxies = proxies as usize;
         if proxies < 1 || proxies > MAX_PROXIES || version < -1 || !are_set_numbers(window, limit) {
@@ -56,11 +62,19 @@ impl CoreObject {
             (λ proxy. IsNextOwed proxy self.now) }
     {
         for proxy in 0..self.waiting.len() {
-            if self.waiting[proxy].is_some() || self.core.owes(proxy) {
+            if self.owes(proxy) {
                 return Some(proxy as u32);
             }
         }
         None
+    }
+
+    // Returns whether an answer is owed to the proxy.
+    fn owes(&self, proxy: usize) -> bool
+        requires known { proxy < length self.now.waiting }
+        ensures owes { IsTrue result ↔ (0 < length (still_owed proxy self.now)) }
+    {
+        self.waiting[proxy].is_some() || self.core.owes(proxy)
     }
 
     /// Returns the number of batches that wait for their previous version.

@@ -3,7 +3,7 @@
 ghost use Rattle.std.specs.Prelude.{◌≡◌, None, IfOk, IfErr};
 ghost use Rattle.conflict.specs.ConflictSet.{Remembers};
 ghost use Rattle.conflict.specs.Unknown.{unknown_until};
-ghost use Rattle.archcaraway_c.specs.Starts.{AreSetNumbersAt, SetStartRefuses};
+ghost use Rattle.archcaraway_c.specs.Starts.{AreSetNumbersAt, IsTooSmall, SetStartRefuses};
 
 use super::SetObject;
 use crate::numbers::are_set_numbers;
@@ -13,9 +13,9 @@ use resolver::Stop;
 use std::alloc::Global;
 
 impl SetObject {
-    /// Creates a set that starts at a version, from -1 on: what was written up to it isn't known. Returns `Argument` if a
-    /// number is outside its range, the stop `ArenaFull` if the limit is below 3 and the version isn't -1, and the stop
-    /// `Memory` if memory is refused.
+    /// Creates a set that starts at a version, from -1 on: what was written up to it isn't known.
+    /// Returns `Argument` if a number is outside its range, the stop `ArenaFull` if the limit is
+    /// below 3 and the version isn't -1, and the stop `Memory` if memory is refused.
     pub fn new_at(alloc: Global, window: i64, limit: u64, version: i64) -> Result<Self, Refusal>
         ensures remembers { IfOk result (λ object. Remembers object (unknown_until version)) }
         ensures resolved { IfOk result (λ object. object.resolved ≡ version) }
@@ -23,6 +23,7 @@ impl SetObject {
         ensures limit { IfOk result (λ object. object.map.limit ≡ limit) }
         ensures goes_on { IfOk result (λ object. object.stop ≡ None) }
         ensures within { IfOk result (λ _. AreSetNumbersAt window limit version) }
+        ensures room { IfOk result (λ _. ¬ IsTooSmall limit version) }
         ensures refused { IfErr result (λ refusal. SetStartRefuses window limit version refusal) }
     {
         if version < -1 || !are_set_numbers(window, limit) {
