@@ -11,7 +11,8 @@ abbrev pub AreSetNumbersAt : ℤ → ℕ → ℤ → Type 0
 AreSetNumbersAt window limit version = AreSetNumbers window limit × (negsuc 0 ≤ℤ version)
 
 abbrev pub AreCoreNumbersAt : ℕ → ℤ → ℕ → ℤ → Type 0
-AreCoreNumbersAt proxies window limit version = AreCoreNumbers proxies window limit × (negsuc 0 ≤ℤ version)
+AreCoreNumbersAt proxies window limit version =
+    AreCoreNumbers proxies window limit × (negsuc 0 ≤ℤ version)
 
 -- the limit can't hold the write of every key at the version
 abbrev pub IsTooSmall : ℕ → ℤ → Type 0
