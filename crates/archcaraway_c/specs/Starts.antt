@@ -1,4 +1,4 @@
--- Objects that start at a version, and what the library tells of an object. This project's own.
+-- Objects that start at a version, and what the library reports on an object. This project's own.
 use Rattle.std.specs.Prelude.{◌≡◌, ◌<◌, ◌⊎◌, ◌≤ℤ◌, ℕ, ℤ, pos, negsuc, [], length}
 use Rattle.resolver.specs.declared.stop.Stop.TheVariants as stop
 use Rattle.archcaraway_c.specs.declared.refusal.Refusal.{Refusal}

@@ -1,4 +1,4 @@
-//! The exports that tell of an object. Each writes back the pointer of the handle that it takes.
+//! The exports that report on an object. Each writes back the pointer of the handle that it takes.
 
 ghost use Rattle.std.specs.Prelude.{◌≡◌, ◌≢◌, ℕ, pos, [], length};
 ghost use Rattle.archcaraway_c.specs.CoreObject.{still_owed, still_owed_count};

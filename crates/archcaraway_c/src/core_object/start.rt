@@ -1,4 +1,4 @@
-//! A core behind a handle that starts at a version, and what it tells of itself.
+//! Cores that start at a version, and what a core reports about itself.
 
 ghost use Rattle.std.specs.Prelude.{◌≡◌, ◌<◌, ◌↔◌, ℕ, [], length, replicate, None};
 ghost use Rattle.std.specs.Prelude.{IfOk, IfErr, IsTrue, MatchOption};
@@ -16,7 +16,7 @@ use resolver::{Core, MAX_PROXIES, Stop};
 use std::alloc::Global;
 
 impl CoreObject {
-    /// Creates a resolver for so many proxies that starts at a version, from -1 on: the first batch
+    /// Creates a resolver for that many proxies that starts at a version, from -1 on: the first batch
     /// that it processes follows that version, and what was written up to it isn't known. Returns
     /// `Argument` if a number is outside its range, the stop `ArenaFull` if the limit is below 3
     /// and the version isn't -1, and the stop `Memory` if memory is refused.

@@ -1,4 +1,4 @@
-//! A set behind a handle that starts at a version, and what it tells of itself.
+//! Sets that start at a version, and what a set reports about itself.
 
 ghost use Rattle.std.specs.Prelude.{◌≡◌, None, IfOk, IfErr};
 ghost use Rattle.conflict.specs.ConflictSet.{Remembers};
