@@ -9,8 +9,8 @@
  * and reads it, docs/EMBEDDING.md says how to link and what is proved.
  *
  * What the caller promises, in every call:
- *  - A handle was filled by archcaraway_set_new or archcaraway_core_new of this library, with
- *    status 0, and not freed since. It isn't copied to be used as a second one. A handle of zeros
+ *  - A handle was filled by a call of this library that creates a set or a core, with status 0, and
+ *    not freed since. It isn't copied to be used as a second one. A handle of zeros
  *    (ARCHCARAWAY_NONE) is none: every call refuses it.
  *  - A handle is used by one call at a time, on any thread. If two threads use one handle, a lock,
  *    a join or a queue orders their calls. Different handles may be used by different threads at
@@ -144,6 +144,16 @@ const char *archcaraway_status_text(int status);
 int archcaraway_set_new(int64_t window, uint64_t limit, archcaraway_set *set);
 
 /*
+ * Creates a set that starts at `version`, from -1 on. What was written up to that version isn't
+ * known: each read range with a snapshot below it conflicts, unless the range is empty. The other
+ * reads are judged by what the set resolves. The first batch has a version above `version`. With -1
+ * this is archcaraway_set_new.
+ *
+ * Statuses: those of archcaraway_set_new; ARENA_FULL if `limit` is below 3 and `version` isn't -1.
+ */
+int archcaraway_set_new_at(int64_t window, uint64_t limit, int64_t version, archcaraway_set *set);
+
+/*
  * Judges the batch of a frame of `length` bytes after all batches resolved before, and remembers
  * what it commits. Writes the frame of its reply to `reply`, which has `capacity` bytes, and the
  * length of that frame to `*reply_length`.
@@ -173,6 +183,19 @@ int archcaraway_set_resolve(archcaraway_set *set, const uint8_t *frame, size_t l
  */
 uint64_t archcaraway_set_boundaries(const archcaraway_set *set);
 
+/* Numbers about a set or a core. */
+typedef struct archcaraway_stats {
+    uint64_t boundaries; /* as archcaraway_set_boundaries */
+    uint64_t limit;
+    int64_t version; /* of the batch resolved last, or that at which the object started */
+    int64_t edge;    /* what was written below this version is forgotten, or will be */
+    uint64_t held;   /* batches that wait for their previous version; 0 for a set */
+    uint64_t owed;   /* as archcaraway_core_owed; 0 for a set */
+} archcaraway_stats;
+
+/* Fills in the stats of a set. Statuses: OK, ARGUMENT. */
+int archcaraway_set_stats(const archcaraway_set *set, archcaraway_stats *stats);
+
 /* Frees a set, and empties the handle. Does nothing for no handle and for null. */
 void archcaraway_set_free(archcaraway_set *set);
 
@@ -184,6 +207,17 @@ void archcaraway_set_free(archcaraway_set *set);
  * Statuses: OK, MEMORY, ARGUMENT, PROCESSOR. With any status but OK the handle is one of zeros.
  */
 int archcaraway_core_new(uint32_t proxies, int64_t window, uint64_t limit, archcaraway_core *core);
+
+/*
+ * Creates a core that starts at `version`, from -1 on: the first batch that it processes has that
+ * previous version. Batches with a lower one are repeats whose replies aren't kept, and get
+ * ARCHCARAWAY_NEVER. Those with a higher one are held. What was written up to `version` isn't
+ * known, as in archcaraway_set_new_at. With -1 this is archcaraway_core_new.
+ *
+ * Statuses: those of archcaraway_core_new; ARENA_FULL if `limit` is below 3 and `version` isn't -1.
+ */
+int archcaraway_core_new_at(uint32_t proxies, int64_t window, uint64_t limit, int64_t version,
+                            archcaraway_core *core);
 
 /*
  * Takes the batch of a frame of `length` bytes from a proxy. It is held until its previous version
@@ -224,6 +258,15 @@ int archcaraway_core_give(archcaraway_core *core, uint32_t proxy, uint8_t *answe
 
 /* Returns the number of answers owed to all proxies. 0 if there is no core. */
 uint64_t archcaraway_core_owed(const archcaraway_core *core);
+
+/*
+ * Finds a proxy that is owed an answer: writes the lowest number of those to `*proxy` and returns
+ * 1. Returns 0 and writes nothing if no answer is owed, if there is no core and for null.
+ */
+int archcaraway_core_next(const archcaraway_core *core, uint32_t *proxy);
+
+/* Fills in the stats of a core. Statuses: OK, ARGUMENT. */
+int archcaraway_core_stats(const archcaraway_core *core, archcaraway_stats *stats);
 
 /* Returns the stop that the core has met, 1 to 3, or 0. ARGUMENT if there is no core. */
 int archcaraway_core_stop(const archcaraway_core *core);
@@ -373,6 +416,15 @@ static inline const char *archcaraway_text(int status) { return archcaraway_stat
  * of 0 bytes needs a pointer that isn't null.
  */
 int32_t archcaraway_export_set_new(int64_t window, uint64_t limit, void **at);
+int32_t archcaraway_export_set_new_at(int64_t window, uint64_t limit, int64_t version, void **at);
+int32_t archcaraway_export_core_new_at(uint32_t proxies, int64_t window, uint64_t limit,
+                                       int64_t version, void **at);
+void archcaraway_export_set_stats(archcaraway_set set, uint64_t *boundaries, uint64_t *limit,
+                                  int64_t *version, int64_t *edge, void **at);
+void archcaraway_export_core_stats(archcaraway_core core, uint64_t *boundaries, uint64_t *limit,
+                                   int64_t *version, int64_t *edge, uint64_t *held, uint64_t *owed,
+                                   void **at);
+int32_t archcaraway_export_core_next(archcaraway_core core, uint32_t *proxy, void **at);
 int32_t archcaraway_export_set_resolve(archcaraway_set set, const uint8_t *frame, size_t length,
                                        uint8_t *reply, size_t capacity, size_t *reply_length,
                                        void **at);

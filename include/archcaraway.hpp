@@ -37,6 +37,7 @@
 #include <exception>
 #include <iterator>
 #include <map>
+#include <optional>
 #include <string>
 #include <string_view>
 #include <type_traits>
@@ -233,6 +234,13 @@ public:
                  std::uint64_t limit = ARCHCARAWAY_LIMIT) {
         check(archcaraway_set_new(window, limit, &set_));
     }
+    // A set that starts at `version`: what was written up to it isn't known.
+    static Set at(std::int64_t version, std::int64_t window = ARCHCARAWAY_WINDOW,
+                  std::uint64_t limit = ARCHCARAWAY_LIMIT) {
+        Set set{None()};
+        check(archcaraway_set_new_at(window, limit, version, &set.set_));
+        return set;
+    }
     ~Set() { archcaraway_set_free(&set_); }
     Set(const Set&) = delete;
     Set& operator=(const Set&) = delete;
@@ -256,10 +264,17 @@ public:
         return Reply(View(reply.data(), length));
     }
     std::uint64_t boundaries() const { return archcaraway_set_boundaries(&set_); }
+    archcaraway_stats stats() const {
+        archcaraway_stats stats{};
+        check(archcaraway_set_stats(&set_, &stats));
+        return stats;
+    }
     // The handle, for the C functions. It stays this object's.
     archcaraway_set* handle() { return &set_; }
 
 private:
+    struct None {};
+    explicit Set(None) {}
     archcaraway_set set_ = ARCHCARAWAY_NONE;
 };
 
@@ -276,6 +291,15 @@ public:
     explicit Core(std::uint32_t proxies, std::int64_t window = ARCHCARAWAY_WINDOW,
                   std::uint64_t limit = ARCHCARAWAY_LIMIT) {
         check(archcaraway_core_new(proxies, window, limit, &core_));
+    }
+    // A core that starts at `version`: its first batch follows that version, and what was written
+    // up to it isn't known.
+    static Core at(std::int64_t version, std::uint32_t proxies,
+                   std::int64_t window = ARCHCARAWAY_WINDOW,
+                   std::uint64_t limit = ARCHCARAWAY_LIMIT) {
+        Core core{None()};
+        check(archcaraway_core_new_at(proxies, window, limit, version, &core.core_));
+        return core;
     }
     ~Core() { archcaraway_core_free(&core_); }
     Core(const Core&) = delete;
@@ -307,12 +331,25 @@ public:
         return answer;
     }
     std::uint64_t owed() const { return archcaraway_core_owed(&core_); }
+    // The lowest proxy that is owed an answer, if any is.
+    std::optional<std::uint32_t> next() const {
+        std::uint32_t proxy = 0;
+        if (archcaraway_core_next(&core_, &proxy) == 0) return std::nullopt;
+        return proxy;
+    }
+    archcaraway_stats stats() const {
+        archcaraway_stats stats{};
+        check(archcaraway_core_stats(&core_, &stats));
+        return stats;
+    }
     // The stop that was met, 1 to 3, or 0.
     int stop() const { return archcaraway_core_stop(&core_); }
     // The handle, for the C functions. It stays this object's.
     archcaraway_core* handle() { return &core_; }
 
 private:
+    struct None {};
+    explicit Core(None) {}
     archcaraway_core core_ = ARCHCARAWAY_NONE;
 };
 
@@ -420,8 +457,14 @@ public:
     explicit ConflictSet(Version window = ARCHCARAWAY_WINDOW,
                          std::uint64_t limit = ARCHCARAWAY_LIMIT)
       : set_(window, limit) {}
+    // A set that starts at `version`: what was written up to it isn't known.
+    static ConflictSet at(Version version, Version window = ARCHCARAWAY_WINDOW,
+                          std::uint64_t limit = ARCHCARAWAY_LIMIT) {
+        return ConflictSet(Set::at(version, window, limit));
+    }
 
 private:
+    explicit ConflictSet(Set set) : set_(std::move(set)) {}
     friend class ConflictBatch;
     Set set_;
     BatchWriter writer_;

@@ -53,6 +53,13 @@ int archcaraway_set_new(int64_t window, uint64_t limit, archcaraway_set *set) {
     return archcaraway_export_set_new(window, limit, &set->at);
 }
 
+int archcaraway_set_new_at(int64_t window, uint64_t limit, int64_t version, archcaraway_set *set) {
+    if (set == NULL) return ARCHCARAWAY_ARGUMENT;
+    set->at = NULL;
+    if (!processor_fits()) return ARCHCARAWAY_PROCESSOR;
+    return archcaraway_export_set_new_at(window, limit, version, &set->at);
+}
+
 int archcaraway_set_resolve(archcaraway_set *set, const uint8_t *frame, size_t length,
                             uint8_t *reply, size_t capacity, size_t *reply_length) {
     if (reply_length == NULL) return ARCHCARAWAY_ARGUMENT;
@@ -69,6 +76,16 @@ uint64_t archcaraway_set_boundaries(const archcaraway_set *set) {
     return archcaraway_export_set_boundaries(*set, &at);
 }
 
+int archcaraway_set_stats(const archcaraway_set *set, archcaraway_stats *stats) {
+    void *at = NULL; /* is given the pointer that the handle has */
+    if (set == NULL || set->at == NULL || stats == NULL) return ARCHCARAWAY_ARGUMENT;
+    archcaraway_export_set_stats(*set, &stats->boundaries, &stats->limit, &stats->version,
+                                 &stats->edge, &at);
+    stats->held = 0;
+    stats->owed = 0;
+    return ARCHCARAWAY_OK;
+}
+
 void archcaraway_set_free(archcaraway_set *set) {
     if (set == NULL || set->at == NULL) return;
     archcaraway_export_set_free(*set);
@@ -80,6 +97,14 @@ int archcaraway_core_new(uint32_t proxies, int64_t window, uint64_t limit, archc
     core->at = NULL;
     if (!processor_fits()) return ARCHCARAWAY_PROCESSOR;
     return archcaraway_export_core_new(proxies, window, limit, &core->at);
+}
+
+int archcaraway_core_new_at(uint32_t proxies, int64_t window, uint64_t limit, int64_t version,
+                            archcaraway_core *core) {
+    if (core == NULL) return ARCHCARAWAY_ARGUMENT;
+    core->at = NULL;
+    if (!processor_fits()) return ARCHCARAWAY_PROCESSOR;
+    return archcaraway_export_core_new_at(proxies, window, limit, version, &core->at);
 }
 
 int archcaraway_core_admit(archcaraway_core *core, uint32_t proxy, const uint8_t *frame,
@@ -112,6 +137,20 @@ uint64_t archcaraway_core_owed(const archcaraway_core *core) {
     void *at = NULL; /* is given the pointer that the handle has */
     if (core == NULL || core->at == NULL) return 0;
     return archcaraway_export_core_owed(*core, &at);
+}
+
+int archcaraway_core_next(const archcaraway_core *core, uint32_t *proxy) {
+    void *at = NULL; /* is given the pointer that the handle has */
+    if (core == NULL || core->at == NULL || proxy == NULL) return 0;
+    return archcaraway_export_core_next(*core, proxy, &at);
+}
+
+int archcaraway_core_stats(const archcaraway_core *core, archcaraway_stats *stats) {
+    void *at = NULL; /* is given the pointer that the handle has */
+    if (core == NULL || core->at == NULL || stats == NULL) return ARCHCARAWAY_ARGUMENT;
+    archcaraway_export_core_stats(*core, &stats->boundaries, &stats->limit, &stats->version,
+                                  &stats->edge, &stats->held, &stats->owed, &at);
+    return ARCHCARAWAY_OK;
 }
 
 int archcaraway_core_stop(const archcaraway_core *core) {

@@ -71,9 +71,14 @@ type Set struct {
 
 // NewSet creates a set that remembers the writes of the last `window` versions, in at most `limit`
 // boundaries.
-func NewSet(window int64, limit uint64) (*Set, error) {
+func NewSet(window int64, limit uint64) (*Set, error) { return NewSetAt(window, limit, -1) }
+
+// NewSetAt creates a set that starts at a version: what was written up to it isn't known, and reads
+// with a snapshot below it conflict.
+func NewSetAt(window int64, limit uint64, version int64) (*Set, error) {
 	set := new(Set)
-	status := C.archcaraway_set_new(C.int64_t(window), C.uint64_t(limit), &set.handle)
+	status := C.archcaraway_set_new_at(C.int64_t(window), C.uint64_t(limit), C.int64_t(version),
+		&set.handle)
 	if err := check(status); err != nil {
 		return nil, err
 	}
@@ -114,6 +119,27 @@ func (s *Set) Boundaries() uint64 {
 	return uint64(C.archcaraway_set_boundaries(&s.handle))
 }
 
+// Stats is what a set or a core tells of itself. A set holds no batches and owes no answers.
+type Stats struct {
+	Boundaries, Limit uint64
+	Version, Edge     int64
+	Held, Owed        uint64
+}
+
+func statsOf(stats C.archcaraway_stats) Stats {
+	return Stats{uint64(stats.boundaries), uint64(stats.limit), int64(stats.version),
+		int64(stats.edge), uint64(stats.held), uint64(stats.owed)}
+}
+
+// Stats returns the boundaries, the limit, the version and the edge of the set.
+func (s *Set) Stats() (Stats, error) {
+	s.mutex.Lock()
+	defer s.mutex.Unlock()
+	var stats C.archcaraway_stats
+	err := check(C.archcaraway_set_stats(&s.handle, &stats))
+	return statsOf(stats), err
+}
+
 // Kind says what a core gives a proxy.
 type Kind int
 
@@ -142,9 +168,15 @@ type Core struct {
 // NewCore creates a core for proxies that are numbered from 0. Window and limit are those of
 // NewSet.
 func NewCore(proxies uint32, window int64, limit uint64) (*Core, error) {
+	return NewCoreAt(proxies, window, limit, -1)
+}
+
+// NewCoreAt creates a core that starts at a version: its first batch follows that version, and what
+// was written up to it isn't known.
+func NewCoreAt(proxies uint32, window int64, limit uint64, version int64) (*Core, error) {
 	core := new(Core)
-	status := C.archcaraway_core_new(C.uint32_t(proxies), C.int64_t(window), C.uint64_t(limit),
-		&core.handle)
+	status := C.archcaraway_core_new_at(C.uint32_t(proxies), C.int64_t(window), C.uint64_t(limit),
+		C.int64_t(version), &core.handle)
 	if err := check(status); err != nil {
 		return nil, err
 	}
@@ -198,6 +230,24 @@ func (c *Core) Owed() uint64 {
 	c.mutex.Lock()
 	defer c.mutex.Unlock()
 	return uint64(C.archcaraway_core_owed(&c.handle))
+}
+
+// Next returns the lowest proxy that is owed an answer, if any is.
+func (c *Core) Next() (proxy uint32, owed bool) {
+	c.mutex.Lock()
+	defer c.mutex.Unlock()
+	var number C.uint32_t
+	owed = C.archcaraway_core_next(&c.handle, &number) != 0
+	return uint32(number), owed
+}
+
+// Stats returns those of the core's set, the batches that it holds, and the answers that it owes.
+func (c *Core) Stats() (Stats, error) {
+	c.mutex.Lock()
+	defer c.mutex.Unlock()
+	var stats C.archcaraway_stats
+	err := check(C.archcaraway_core_stats(&c.handle, &stats))
+	return statsOf(stats), err
 }
 
 // Stop returns the stop that the core has met, or nil.

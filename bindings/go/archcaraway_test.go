@@ -175,6 +175,60 @@ func TestCoreOrdersBatches(t *testing.T) {
 	}
 }
 
+func TestStartAtAVersion(t *testing.T) {
+	set, err := NewSetAt(Window, Limit, 1000)
+	if err != nil {
+		t.Fatal(err)
+	}
+	defer set.Close()
+	read := func(snapshot int64, read Range) Transaction {
+		return Transaction{Snapshot: snapshot, Reads: []Range{read}}
+	}
+	key := Key([]byte("k"))
+	reply := resolved(t, set, 1001, read(900, key), read(1000, key), read(900, span("k", "k")))
+	want := Reply{1001, []Entry{{Conflict, nil}, {Committed, nil}, {Committed, nil}}}
+	if !reflect.DeepEqual(reply, want) {
+		t.Errorf("%v, not %v", reply, want)
+	}
+	if stats, err := set.Stats(); err != nil || stats != (Stats{2, Limit, 1001, 0, 0, 0}) {
+		t.Error(stats, err)
+	}
+	core, err := NewCoreAt(2, Window, Limit, 1_000_000_000)
+	if err != nil {
+		t.Fatal(err)
+	}
+	defer core.Close()
+	for _, batch := range []Batch{
+		{999_999_999, 1_000_000_000, -1, nil},
+		{1_000_000_001, 1_000_000_002, -1, nil},
+		{1_000_000_000, 1_000_000_001, -1, nil},
+		{1_000_000_009, 1_000_000_010, -1, nil},
+	} {
+		if err := core.Admit(1, encoded(t, batch)); err != nil {
+			t.Fatal(err)
+		}
+	}
+	if stats, err := core.Stats(); err != nil || stats != (Stats{2, Limit, 1_000_000_002, 995_000_002, 1, 3}) {
+		t.Error(stats, err)
+	}
+	for _, want := range []Kind{Never, HasReply, HasReply} {
+		proxy, owed := core.Next()
+		answer, err := core.Give(proxy)
+		if !owed || proxy != 1 || err != nil || answer.Kind != want {
+			t.Error(proxy, owed, answer, err)
+		}
+	}
+	if _, owed := core.Next(); owed {
+		t.Error("an answer is owed")
+	}
+	if _, err := NewSetAt(Window, 2, 0); !errors.Is(err, ArenaFull) {
+		t.Error(err)
+	}
+	if _, err := NewCoreAt(1, Window, Limit, -2); !errors.Is(err, Argument) {
+		t.Error(err)
+	}
+}
+
 func TestStopIsFinal(t *testing.T) {
 	set, err := NewSet(Window, 1)
 	if err != nil {

@@ -135,6 +135,23 @@ static void batches() {
     DEMAND(moved.size() == 0 && moved.judge(set, 30).empty());
 }
 
+static void starts() {
+    std::vector<int> committed;
+    ConflictSet set = ConflictSet::at(1000);
+    ConflictBatch batch(&set);
+    batch.addTransaction(transaction(900, {KeyRangeRef::single("k")}, {}));
+    batch.addTransaction(transaction(1000, {KeyRangeRef::single("k")}, {}));
+    batch.detectConflicts(1001, committed);
+    DEMAND(committed == std::vector<int>{1});
+    DEMAND(Set::at(7).stats().version == 7 && Set().stats().version == -1);
+    Core core = Core::at(1000, 2);
+    BatchWriter writer;
+    writer.begin(1000, 1001, -1);
+    DEMAND(core.next() == std::nullopt);
+    core.admit(1, writer.end());
+    DEMAND(core.next() == 1u && core.stats().version == 1001 && core.stats().owed == 1);
+}
+
 #if defined(__cpp_exceptions)
 template <typename Call>
 static int refusal(Call call) {
@@ -153,6 +170,8 @@ static void refusals() {
     std::vector<std::uint8_t> bytes;
     DEMAND(refusal([] { Set none(0); }) == ARCHCARAWAY_ARGUMENT);
     DEMAND(refusal([] { Core none(65); }) == ARCHCARAWAY_ARGUMENT);
+    DEMAND(refusal([] { Set::at(-2); }) == ARCHCARAWAY_ARGUMENT);
+    DEMAND(refusal([] { Set::at(0, 1, 2); }) == ARCHCARAWAY_ARENA_FULL);
     DEMAND(refusal([&] { writer.begin(0, 0, -1); }) == ARCHCARAWAY_FRAME_VERSION);
     DEMAND(refusal([&] { writer.end(); }) == ARCHCARAWAY_FRAME_VERSION);
     DEMAND(refusal([&] { set.resolve("", bytes); }) == ARCHCARAWAY_FRAME_SHORT);
@@ -174,6 +193,7 @@ int main() {
     iterators();
     moves();
     batches();
+    starts();
     refusals();
     std::puts("header: views, single keys, iterators, moves, batches and refusals are as the header says");
 }

@@ -10,11 +10,11 @@
 
 from ._errors import ArgumentError, Error, FrameError, ProcessorError, Stop, VersionError
 from ._library import LIBRARY
-from ._objects import LIMIT, WINDOW, Answer, ConflictSet, Core, Kind
+from ._objects import LIMIT, WINDOW, Answer, ConflictSet, Core, Kind, Stats
 from ._values import Entry, Key, Range, Reply, Transaction, Verdict, decode, encode, frames
 
 _VERSION = LIBRARY.archcaraway_version()
 __version__ = f"{_VERSION // 1_000_000}.{_VERSION // 1000 % 1000}.{_VERSION % 1000}"
 __all__ = ["LIMIT", "WINDOW", "Answer", "ArgumentError", "ConflictSet", "Core", "Entry", "Error"]
-__all__ += ["FrameError", "Key", "Kind", "ProcessorError", "Range", "Reply", "Stop", "Transaction"]
-__all__ += ["Verdict", "VersionError", "decode", "encode", "frames"]
+__all__ += ["FrameError", "Key", "Kind", "ProcessorError", "Range", "Reply", "Stats", "Stop"]
+__all__ += ["Transaction", "Verdict", "VersionError", "decode", "encode", "frames"]

@@ -28,6 +28,11 @@ class EntryReader(Structure):  # archcaraway_entry
     _fields_ = [("verdict", c_int), ("count", c_uint), ("places", c_void_p)]
 
 
+class StatsRecord(Structure):  # archcaraway_stats
+    _fields_ = [("boundaries", c_uint64), ("limit", c_uint64), ("version", c_int64)]
+    _fields_ += [("edge", c_int64), ("held", c_uint64), ("owed", c_uint64)]
+
+
 _KEY = (c_char_p, c_size_t)
 _BUFFER = (c_char_p, c_size_t, POINTER(c_size_t))
 _HANDLE = POINTER(Handle)
@@ -38,10 +43,15 @@ _FUNCTIONS = {
     "version": (c_int,),
     "status_text": (c_char_p, c_int),
     "set_new": (c_int, c_int64, c_uint64, _HANDLE),
+    "set_new_at": (c_int, c_int64, c_uint64, c_int64, _HANDLE),
+    "set_stats": (c_int, _HANDLE, POINTER(StatsRecord)),
     "set_resolve": (c_int, _HANDLE, *_KEY, *_BUFFER),
     "set_boundaries": (c_uint64, _HANDLE),
     "set_free": (None, _HANDLE),
     "core_new": (c_int, c_uint32, c_int64, c_uint64, _HANDLE),
+    "core_new_at": (c_int, c_uint32, c_int64, c_uint64, c_int64, _HANDLE),
+    "core_stats": (c_int, _HANDLE, POINTER(StatsRecord)),
+    "core_next": (c_int, _HANDLE, POINTER(c_uint32)),
     "core_admit": (c_int, _HANDLE, c_uint32, *_KEY),
     "core_finish": (c_int, _HANDLE),
     "core_give": (c_int, _HANDLE, c_uint32, *_BUFFER, POINTER(c_int), POINTER(c_int64)),

@@ -9,12 +9,24 @@ from dataclasses import dataclass
 from typing import Any, Optional, TypeVar
 
 from ._errors import Stop, check
-from ._library import LIBRARY, Handle
+from ._library import LIBRARY, Handle, StatsRecord
 from ._values import Key, Reply, as_bytes, as_integer, decode
 
 WINDOW, LIMIT = 5_000_000, 1_000_000
 _BUFFER = 203
 _Self = TypeVar("_Self", bound="_Owner")
+
+
+@dataclass(frozen=True)
+class Stats:
+    """What a set or a core tells of itself. A set holds no batches and owes no answers."""
+
+    boundaries: int
+    limit: int
+    version: int
+    edge: int
+    held: int
+    owed: int
 
 
 class _Owner:
@@ -27,7 +39,7 @@ class _Owner:
         self._lock = threading.RLock()
         self._buffer = ctypes.create_string_buffer(4096)
         handle = Handle()
-        check(getattr(LIBRARY, f"archcaraway_{self._kind}_new")(*numbers, handle))
+        check(getattr(LIBRARY, f"archcaraway_{self._kind}_new_at")(*numbers, handle))
         self._handle = handle
 
     def _call(self, name: str, *arguments: Any) -> int:
@@ -48,6 +60,13 @@ class _Owner:
             check(status)
             return ctypes.string_at(self._buffer, length.value)
 
+    @property
+    def stats(self) -> Stats:
+        """Boundaries, limit, version, edge, batches held and answers owed."""
+        record = StatsRecord()
+        check(self._call("stats", record))
+        return Stats(*(getattr(record, name) for name, _ in record._fields_))
+
     def close(self) -> None:
         """Frees the object. Later calls raise ArgumentError; closing it again does nothing."""
         if self._handle is not None:
@@ -67,12 +86,16 @@ class _Owner:
 
 
 class ConflictSet(_Owner):
-    """The committed writes of the last `window` versions, in at most `limit` boundaries."""
+    """The committed writes of the last `window` versions, in at most `limit` boundaries.
+
+    What was written up to `version` isn't known: reads with a snapshot below it conflict.
+    """
 
     _kind = "set"
 
-    def __init__(self, window: int = WINDOW, limit: int = LIMIT) -> None:
-        self._make(as_integer("window", window), as_integer("limit", limit, signed=False))
+    def __init__(self, window: int = WINDOW, limit: int = LIMIT, version: int = -1) -> None:
+        numbers = as_integer("window", window), as_integer("limit", limit, signed=False)
+        self._make(*numbers, as_integer("version", version))
 
     def resolve(self, batch: Key) -> Reply:
         """Judges the batch of a frame. After FrameError and VersionError the set is as before."""
@@ -101,13 +124,19 @@ class Answer:
 
 
 class Core(_Owner):
-    """A resolver for the batches of many proxies, which may come early, late or twice."""
+    """A resolver for the batches of many proxies, which may come early, late or twice.
+
+    Its first batch follows `version`, and what was written up to that isn't known.
+    """
 
     _kind = "core"
 
-    def __init__(self, proxies: int, window: int = WINDOW, limit: int = LIMIT) -> None:
+    def __init__(
+        self, proxies: int, window: int = WINDOW, limit: int = LIMIT, version: int = -1
+    ) -> None:
+        numbers = as_integer("window", window), as_integer("limit", limit, signed=False)
         number = as_integer("proxies", proxies, 32, signed=False)
-        self._make(number, as_integer("window", window), as_integer("limit", limit, signed=False))
+        self._make(number, *numbers, as_integer("version", version))
 
     def admit(self, proxy: int, batch: Key) -> None:
         """Takes the batch of a frame from a proxy. After Stop it takes no more."""
@@ -126,6 +155,12 @@ class Core(_Owner):
         if kind.value == 0:
             return None
         return Answer(Kind(kind.value), version.value, decode(frame) if frame else None)
+
+    @property
+    def next(self) -> Optional[int]:
+        """The lowest proxy that is owed an answer, or None."""
+        proxy = ctypes.c_uint32()
+        return proxy.value if self._call("next", proxy) else None
 
     @property
     def owed(self) -> int:

@@ -18,6 +18,7 @@ from archcaraway import (
     Error,
     FrameError,
     Kind,
+    Stats,
     Stop,
     Transaction,
     Verdict,
@@ -63,6 +64,55 @@ def test_too_old() -> None:
     with ConflictSet(window=10) as conflicts:
         reply = conflicts.resolve(encode(100, [Transaction(89, [b"k"]), Transaction(90, [b"k"])]))
     assert reply.verdicts == (Verdict.TOO_OLD, Verdict.COMMITTED)
+
+
+def test_a_set_that_starts_at_a_version() -> None:
+    with ConflictSet(version=1000) as conflicts:
+        reads = [(900, b"k"), (1000, b"k"), (999, (b"", b"\xff")), (900, (b"k", b"k"))]
+        transactions = [Transaction(snapshot, [read]) for snapshot, read in reads]
+        reply = conflicts.resolve(encode(1001, transactions))
+        assert conflicts.stats == Stats(2, 1_000_000, 1001, 0, 0, 0)
+        with pytest.raises(VersionError):
+            conflicts.resolve(encode(1001, []))
+    conflict, committed = Verdict.CONFLICT, Verdict.COMMITTED
+    assert reply.verdicts == (conflict, committed, conflict, committed)
+    with ConflictSet(version=7) as conflicts, pytest.raises(VersionError):
+        conflicts.resolve(encode(7, []))
+
+
+def test_a_core_that_starts_at_a_version() -> None:
+    start = 10**9
+    with Core(3, version=start) as core:
+        assert core.next is None
+        for previous, version in ((0, 1), (1, 2), (0, 9), (8, 10)):
+            core.admit(2, encode(start + version, [], previous=start + previous))
+        core.admit(1, encode(start, [], previous=-1))
+        assert core.stats == Stats(2, 1_000_000, start + 2, start + 2 - 5_000_000, 1, 4)
+        answers = []
+        while (proxy := core.next) is not None:
+            answer = core.give(proxy)
+            assert answer is not None
+            answers.append((proxy, answer.kind, answer.version - start))
+    assert answers == [
+        (1, Kind.NEVER, 0),
+        (2, Kind.REPLY, 1),
+        (2, Kind.REPLY, 2),
+        (2, Kind.NEVER, 9),
+    ]
+    assert core.next is None
+    with pytest.raises(ArgumentError):
+        core.stats
+
+
+def test_a_limit_that_is_too_small_for_a_start() -> None:
+    for make in (lambda: ConflictSet(limit=2, version=0), lambda: Core(1, limit=2, version=0)):
+        with pytest.raises(Stop) as refused:
+            make()
+        assert refused.value.status == 3
+    with ConflictSet(limit=3, version=0), ConflictSet(limit=1, version=-1):
+        pass
+    with pytest.raises(ArgumentError):
+        ConflictSet(version=-2)
 
 
 def test_a_closed_object_refuses_calls() -> None:

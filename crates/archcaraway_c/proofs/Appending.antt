@@ -1,5 +1,5 @@
 -- Ranges that C gives by their keys, and what tables tell to which they are appended.
-use Rattle.std.proofs.Common.{◌≡◌, ◌≤◌, ◌+◌, ◌-◌, ℕ, List, [], ◌∷◌, ◌++◌, length, map, refl, sym, ap₂, All, arith, length-append, append-nil}
+use Rattle.std.proofs.Common.{◌≡◌, ◌+◌, ℕ, List, [], ◌∷◌, ◌++◌, length, map, refl, sym, ap₂, All, arith, length-append, append-nil}
 use Rattle.std.proofs.lemmas.List.Elements.{All-map, All-weaker}
 use Rattle.keyspace.specs.declared.span.Span.{Span}
 use Rattle.keyspace.specs.Fields.{RangeHolds}
@@ -7,7 +7,7 @@ use Rattle.keyspace.specs.Tables.{range_told, LiesWithin}
 use Rattle.keyspace.specs.Putting.{ArePut}
 use Rattle.archcaraway_c.specs.declared.key_span.KeySpan.{KeySpan}
 use Rattle.archcaraway_c.proofs.Joining.{part_behind}
-use Rattle.archcaraway_c.specs.BatchObject.{range_given, span_behind, IsWithin, IsRangeOf}
+use Rattle.archcaraway_c.specs.BatchObject.{range_given, span_behind, IsRangeOf}
 
 -- the spans tell the ranges that were given
 pub told_given : (buffer keys : List ℕ) (given : List KeySpan)

@@ -3,3 +3,4 @@ pub mod ReplyLength
 pub mod Joining
 pub mod Appending
 pub mod Dropping
+pub mod NextOwed

@@ -1,5 +1,5 @@
 -- Transactions that C gives by their keys, without a frame. This project's own.
-use Rattle.std.specs.Prelude.{◌≡◌, ◌≤◌, ◌<◌, ◌<ℤ◌, ◌⊎◌, ℕ, ◌+◌, ℤ, pos, Bool, List, ◌∷◌, length, map, slice_range}
+use Rattle.std.specs.Prelude.{◌≡◌, ◌≤◌, ◌<◌, ◌<ℤ◌, ◌⊎◌, ℕ, ◌+◌, ℤ, pos, Bool, List, length, map, slice_range}
 use Rattle.std.specs.List.{Contains}
 use Rattle.keys.specs.Key.{IsBefore}
 use Rattle.keys.specs.declared.key.TheConstants.{MAX_KEY_LENGTH}

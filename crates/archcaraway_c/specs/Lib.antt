@@ -8,3 +8,4 @@ pub mod CoreObject
 pub mod BatchObject
 pub mod Judging
 pub mod Moving
+pub mod Starts

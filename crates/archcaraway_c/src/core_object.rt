@@ -15,6 +15,7 @@ ghost use Rattle.archcaraway_c.specs.CoreObject.{GiveRefuses, still_owed, next_o
 ghost use Rattle.archcaraway_c.specs.CoreObject.{still_owed_count};
 
 mod admitting;
+mod start;
 
 use crate::batch_frame::decode_frame;
 use crate::given::Given;

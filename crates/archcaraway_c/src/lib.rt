@@ -31,6 +31,8 @@ mod reply_frame;
 mod set_exports;
 mod set_handle;
 mod set_object;
+mod start_exports;
+mod stats_exports;
 mod waiting;
 
 pub use batch_handle::BatchHandle;

@@ -12,6 +12,7 @@ ghost use Rattle.archcaraway_c.specs.Numbers.{AreSetNumbers};
 ghost use Rattle.archcaraway_c.specs.SetObject.{Replies, Resolves, StopsAt, SetRefuses, Stops};
 
 mod judging;
+mod start;
 
 use crate::batch_frame::decode_frame;
 use crate::bound::most_reply_length;

@@ -1,4 +1,4 @@
-use Rattle.std.proofs.Common.{◌≡◌, List, All, subst, arith, take_all}
+use Rattle.std.proofs.Common.{List, All, subst, take_all}
 use Rattle.std.proofs.lemmas.List.Elements.{All-more}
 use Rattle.archcaraway_c.specs.declared.key_span.KeySpan.{KeySpan}
 use Rattle.archcaraway_c.specs.BatchObject.{IsRangeOf}

@@ -1,4 +1,4 @@
-use Rattle.std.proofs.Common.{rules, ◌∙◌, ◌≡◌, ℤ, List, length, take, FitsSigned, w64, to_z, of_z, subst, subst₂}
+use Rattle.std.proofs.Common.{rules, ◌∙◌, ℤ, List, length, take, FitsSigned, w64, to_z, of_z, subst, subst₂}
 use Rattle.std.proofs.lemmas.Int.{to_z-of_z}
 use Rattle.keyspace.specs.Fields.{TxnFields}
 use Rattle.conflict.specs.ConflictSet.{SetState}

@@ -1,4 +1,4 @@
-use Rattle.std.proofs.Common.{rules, arith, ◌≡◌, length, vec_len, sym, ap, ◌∙◌}
+use Rattle.std.proofs.Common.{arith, length, ap}
 use Rattle.keyspace.proofs.callers.Putting.{length-told}
 use Rattle.archcaraway_c.proofs.Joining.{tables_same}
 use Rattle.archcaraway_c.proofs.batch_object.BatchObject.add.Goals as goal

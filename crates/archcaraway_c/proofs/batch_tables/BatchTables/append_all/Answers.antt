@@ -1,4 +1,4 @@
-use Rattle.std.proofs.Common.{rules, arith, ◌≡◌, ◌≤◌, ◌+◌, List, ◌++◌, length, map, sym, ap, ap₂, ◌∙◌, subst, All}
+use Rattle.std.proofs.Common.{arith, ◌≡◌, ◌≤◌, List, ◌++◌, length, map, sym, ap, ap₂, ◌∙◌, subst, All}
 use Rattle.std.proofs.lemmas.List.Elements.{All-weaker}
 use Rattle.keyspace.specs.declared.span.Span.{Span}
 use Rattle.keyspace.specs.declared.row.Row.{Row}

@@ -1,0 +1,45 @@
+use Rattle.std.proofs.Common.{rules, ℤ, pos, negsuc, ◌≤ℤ◌, FitsSigned, w64, arith, refl, inr}
+use Rattle.std.proofs.Common.{sym, subst, ◌∙◌}
+use Rattle.std.proofs.lemmas.Int.{ints, to_z-of_z}
+use Rattle.archcaraway_c.specs.Numbers.{AreSetNumbers}
+use Rattle.archcaraway_c.proofs.core_object.CoreObject.new_at.Goals as goal
+
+pub returns-in_default-clause-refused : goal.returns-in_default-clause-refused
+returns-in_default-clause-refused c =
+    let fits : FitsSigned w64 c.args.version = search rules in
+    let same = to_z-of_z w64 c.args.version fits in
+    let numbers : AreSetNumbers c.args.window c.args.limit = search rules in
+    let least : negsuc 0 ≤ℤ c.args.version =
+    grind (arith, ints, c.if-version-ltminus1.false, same) in
+    inr (
+      (
+        (
+          omega (arith, c.if-proxies-lt1.false),
+          omega (arith, c.if-proxies-gt-MAX_PROXIES.false),
+          numbers,
+        ),
+        least,
+      ),
+      inr (
+        λ small.
+            let natural = subst (λ (version : ℤ). pos 0 ≤ℤ version) (sym same) small.0 in
+            let contrary = sym c.in-Ok.is ∙ c.new_at.ensures.full.1 (natural, small.1) in
+            absurd cc,
+        refl,
+      ),
+    )
+
+pub returns-clause-within : goal.returns-clause-within
+returns-clause-within c =
+    let fits : FitsSigned w64 c.args.version = search rules in
+    let same = to_z-of_z w64 c.args.version fits in
+    let numbers : AreSetNumbers c.args.window c.args.limit = search rules in
+    let least : negsuc 0 ≤ℤ c.args.version =
+    grind (arith, ints, c.if-version-ltminus1.false, same) in (
+      (
+        omega (arith, c.if-proxies-lt1.false),
+        omega (arith, c.if-proxies-gt-MAX_PROXIES.false),
+        numbers,
+      ),
+      least,
+    )

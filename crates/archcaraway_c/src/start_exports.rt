@@ -1,0 +1,68 @@
+//! The exports that create an object which starts at a version. What lies behind the pointer that
+//! they write, no clause can say; that is said of [`SetObject`] and [`CoreObject`].
+
+ghost use Rattle.std.specs.Prelude.{◌≡◌, ◌⊎◌, ◌↔◌, pos};
+ghost use Rattle.archcaraway_c.specs.Starts.{AreSetNumbersAt, AreCoreNumbersAt, IsTooSmall};
+
+use crate::core_object::CoreObject;
+use crate::refusal::{OK, Refusal};
+use crate::set_object::SetObject;
+use resolver::Stop;
+use std::alloc::Global;
+
+/// Creates a conflict set that starts at a version, and writes its pointer.
+#[unsafe(no_mangle)]
+pub extern "C" fn archcaraway_export_set_new_at(
+    alloc: Global,
+    window: i64,
+    limit: u64,
+    version: i64,
+    at: &mut *mut u8,
+) -> i32
+    ensures argument { (result ≡ pos 202) ↔ (¬ AreSetNumbersAt window limit version) }
+    ensures full { (result ≡ pos 3)
+        ↔ (AreSetNumbersAt window limit version × IsTooSmall limit version) }
+    ensures made { AreSetNumbersAt window limit version → (¬ IsTooSmall limit version)
+        → (result ≡ pos 0) ⊎ (result ≡ pos 1) }
+{
+    let object = match SetObject::new_at(alloc, window, limit, version) {
+        Ok(object) => object,
+        Err(refusal) => return refusal.status(),
+    };
+    match Box::new(alloc, object) {
+        Ok(set) => {
+            *at = Box::into_raw(set).cast();
+            OK
+        }
+        Err(_) => Refusal::Stop(Stop::Memory).status(),
+    }
+}
+
+/// Creates a resolver that starts at a version, and writes its pointer.
+#[unsafe(no_mangle)]
+pub extern "C" fn archcaraway_export_core_new_at(
+    alloc: Global,
+    proxies: u32,
+    window: i64,
+    limit: u64,
+    version: i64,
+    at: &mut *mut u8,
+) -> i32
+    ensures argument { (result ≡ pos 202) ↔ (¬ AreCoreNumbersAt proxies window limit version) }
+    ensures full { (result ≡ pos 3)
+        ↔ (AreCoreNumbersAt proxies window limit version × IsTooSmall limit version) }
+    ensures made { AreCoreNumbersAt proxies window limit version → (¬ IsTooSmall limit version)
+        → (result ≡ pos 0) ⊎ (result ≡ pos 1) }
+{
+    let object = match CoreObject::new_at(alloc, proxies, window, limit, version) {
+        Ok(object) => object,
+        Err(refusal) => return refusal.status(),
+    };
+    match Box::new(alloc, object) {
+        Ok(core) => {
+            *at = Box::into_raw(core).cast();
+            OK
+        }
+        Err(_) => Refusal::Stop(Stop::Memory).status(),
+    }
+}
