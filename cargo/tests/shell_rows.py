@@ -113,7 +113,32 @@ CHECKS = (
     ShellRow(("cut", "--check", "same"), "0 100 unexpected\nchecked 1 batches, 1 differences\n", SHORT, 1),
 )
 
-ROWS = ANSWERS + FAILURES + CHECKS
+# Answers as they come. Where there are several proxies their lines may alternate in any way, so each row has one.
+STREAMS = (
+    ShellRow(("--stream", "first"), FIRST),
+    ShellRow(("writes", "--stream"), "0 0 empty\n0 100 committed\n0 200 committed\n"),
+    ShellRow(("--stream", "empty"), ""),
+    ShellRow(("--stream", "-"), FIRST, stdin="first"),
+    ShellRow(
+        ("--stream", "--frames", "first"),
+        "0 0 0000000b0200000000000000000000\n0 100 0000000e0200000000000000640001020000\n",
+    ),
+    ShellRow(
+        ("--json", "--stream", "first"),
+        '{"proxy":0,"version":0,"verdicts":[]}\n{"proxy":0,"version":100,"verdicts":["committed"]}\n',
+    ),
+    ShellRow(("--capacity", "1", "--stream", "conflict"), "0 0 empty\n0 100 committed\n0 101 conflict committed\n"),
+    ShellRow(("--stream", "late", *63 * ("empty",)), "0 0 empty\n" + "".join(f"0 {version} held\n" for version in range(20, 36))),
+    ShellRow(("--stream", "third"), "0 300 held\n"),
+    ShellRow(("--stream", "writes", "--limit", "3"), FIRST, "replay: stop 3 ArenaFull\n", 1),
+    ShellRow(("--stream", "cut"), "0 0 empty\n", SHORT, 1),
+    ShellRow(("--stream", "none"), "", "replay: proxy 0: cannot open\n", 1),
+    ShellRow(("--stream", "--replies", "out", "first"), FIRST),
+    ShellRow(("--stream", "--replies", "/dev/full", "first"), "", "replay: replies 0: wire 15 Write\n", 1),
+    ShellRow(("--stream", "--replies", "no/such/out", "first"), "", "replay: replies 0: cannot open\n", 1),
+)
+
+ROWS = ANSWERS + FAILURES + CHECKS + STREAMS
 
 # Refused with status 2 and a text of `clap` on standard error. Nothing is on standard output.
 REFUSED: tuple[tuple[str | bytes, ...], ...] = (
@@ -151,6 +176,10 @@ REFUSED: tuple[tuple[str | bytes, ...], ...] = (
     ("-", "-"),
     ("first", "-", "second", "-"),
     ("--check", "-", "-"),
+    ("--stream", "--check", "same", "first"),
+    ("--replies", "out", "first"),
+    ("--stream", "--replies", "out", "first", "second"),
+    ("--stream", "--stream", "first"),
     ("--", "-", "-"),
     (b"\xff",),
     ("first", b"sec\xc3ond"),

@@ -8,7 +8,7 @@ use std::fs::File;
 use std::io;
 use std::io::{BufReader, Read};
 use std::rt::Stdin;
-use wire::StdSource;
+use wire::{StdSink, StdSource};
 
 /// The files that the process can open, and its standard input. `std` tells neither which file it opened nor what a file holds, so
 /// no clause does.
@@ -49,6 +49,7 @@ impl<R: fs::Files<File = File> + AllocGlobal> Disk<'_, R> {
 
 impl<R: fs::Files<File = File> + AllocGlobal> Files for Disk<'_, R> {
     type Reader = StdSource<BufReader<Input>>;
+    type Writer = StdSink<File>;
 
     ghost contents = { λ _ _. None };
 
@@ -60,6 +61,11 @@ impl<R: fs::Files<File = File> + AllocGlobal> Files for Disk<'_, R> {
         let input = self.input(name)?;
         let reader = BufReader::new(self.rt.alloc(), input).map_err(|_| FileError::Memory)?;
         Ok(StdSource::new(reader))
+    }
+
+    fn create(&self, name: &str) -> Result<StdSink<File>, FileError> {
+        let file = File::create(self.rt, name).map_err(|_| FileError::CannotOpen)?;
+        Ok(StdSink::new(file))
     }
 }
 

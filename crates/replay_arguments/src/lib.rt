@@ -11,5 +11,5 @@ mod opening;
 
 pub use arguments::{CommandLine, Refusal, read_words};
 pub use opening::{
-    FileError, Files, OpeningError, STANDARD_INPUT, fail_to_open, open_files,
+    FileError, Files, OpeningError, STANDARD_INPUT, create_files, fail_to_open, open_files,
 };

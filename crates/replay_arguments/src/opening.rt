@@ -56,6 +56,25 @@ pub fn open_files<F: Files>(
     Ok(readers)
 }
 
+/// Opens the files of these names to be written, of which each is for the answers to the proxy at its place. The first that can't be
+/// opened is the error.
+pub fn create_files<F: Files>(
+    alloc: Global,
+    files: &F,
+    names: &[&str],
+) -> Result<Vec<Option<F::Writer>>, OpeningError>
+    ensures count { IfOk result (λ writers. vec_len writers ≡ length names.now) }
+{
+    let mut writers = Vec::with_capacity(alloc, names.len()).map_err(|_| OpeningError::Memory)?;
+    for (proxy, name) in names.iter().enumerate() {
+        match files.create(name) {
+            Ok(writer) => writers.push_reserved(Some(writer)),
+            Err(error) => return Err(OpeningError::new(proxy, error)),
+        }
+    }
+    Ok(writers)
+}
+
 /// Prints the line of the cause, and returns how the program ends. A failed write changes nothing. Takes no memory.
 pub fn fail_to_open<W: Sink>(error: &mut W, cause: OpeningError) -> Status
     ensures status { result ≡ Status.Failed }

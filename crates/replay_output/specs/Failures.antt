@@ -44,9 +44,14 @@ fault_line proxy (Some fault) =
 abbrev pub loss_line : ℕ → Bool → List ℕ
 loss_line proxy lost = if lost then codes "replay: proxy " ++ decimal proxy ++ codes ": memory\n" else []
 
+-- the line of a record of this proxy that could not be written, if there is one
+abbrev pub unwritten_line : ℕ → Bool → List ℕ
+unwritten_line proxy unwritten =
+    if unwritten then codes "replay: replies " ++ decimal proxy ++ codes ": wire 15 Write\n" else []
+
 -- the lines of a proxy, given its number and what failed of it
 abbrev pub lines_of_failure : ℕ × ProxyFailure → List ℕ
-lines_of_failure proxy = fault_line proxy.0 proxy.1.fault ++ loss_line proxy.0 proxy.1.lost
+lines_of_failure proxy = fault_line proxy.0 proxy.1.fault ++ (loss_line proxy.0 proxy.1.lost ++ unwritten_line proxy.0 proxy.1.unwritten)
 
 -- the line of the ending, if it is none that was wanted
 abbrev pub ending_line : Ending → List ℕ
@@ -70,7 +75,7 @@ with_loss (suc proxy) (failure ∷ failures) = failure ∷ with_loss proxy failu
 
 -- nothing failed of this proxy
 abbrev pub IsClean : ProxyFailure → Type 0
-IsClean failure = (failure.fault ≡ None) × (failure.lost ≡ false)
+IsClean failure = (failure.fault ≡ None) × (failure.lost ≡ false) × (failure.unwritten ≡ false)
 
 -- nothing failed
 pub record NothingFailed (failures : List ProxyFailure) (ending : Ending) : Type 0 where

@@ -2,7 +2,7 @@
 
 ghost use Rattle.std.specs.Prelude.{◌≡◌, ◌↔◌, ◌<◌, ◌≤◌, ◌++◌, codes, decimal, length, IsErr, IsTrue, MatchOption, OnErr, OnOk, if◌then◌else◌};
 ghost use Rattle.std.specs.Io.KnownBytes.{Appends, Keeps};
-ghost use Rattle.replay_output.specs.Failures.{fault_name, stop_name, fault_line, loss_line, lines_of_failure, proxy_lines, ending_line, failure_lines, with_loss, IsClean, NothingFailed};
+ghost use Rattle.replay_output.specs.Failures.{fault_name, stop_name, fault_line, loss_line, unwritten_line, lines_of_failure, proxy_lines, ending_line, failure_lines, with_loss, IsClean, NothingFailed};
 
 use itoa::Buffer;
 use resolver::Stop;
@@ -15,6 +15,8 @@ pub struct ProxyFailure {
     pub fault: Option<WireError>,
     /// Whether an answer to it was lost for want of memory.
     pub lost: bool,
+    /// Whether a record of its answers could not be written, which ended it.
+    pub unwritten: bool,
 }
 
 impl ProxyFailure {
@@ -22,7 +24,7 @@ impl ProxyFailure {
     pub fn is_clean(&self) -> bool
         ensures clean { IsTrue result ↔ IsClean self.now }
     {
-        self.fault.is_none() && !self.lost
+        self.fault.is_none() && !self.lost && !self.unwritten
     }
 }
 
@@ -118,7 +120,8 @@ fn print_failure<W: Sink>(error: &mut W, proxy: usize, failure: &ProxyFailure) -
     ensures failed { OnErr result (W.failures error.old < W.failures error.new) }
 {
     print_fault(error, proxy, failure.fault)?;
-    print_loss(error, proxy, failure.lost)
+    print_loss(error, proxy, failure.lost)?;
+    print_unwritten(error, proxy, failure.unwritten)
 }
 
 fn print_fault<W: Sink>(error: &mut W, proxy: usize, fault: Option<WireError>) -> Result<(), Failed>
@@ -147,6 +150,21 @@ fn print_loss<W: Sink>(error: &mut W, proxy: usize, lost: bool) -> Result<(), Fa
     }
     begin_line(error, proxy)?;
     write_all(error, b": memory\n")
+}
+
+fn print_unwritten<W: Sink>(error: &mut W, proxy: usize, unwritten: bool) -> Result<(), Failed>
+    ensures text { OnOk result (Appends (W.given error.old) (W.given error.new)
+        (unwritten_line proxy unwritten)) }
+    ensures ok { OnOk result (W.failures error.new ≡ W.failures error.old) }
+    ensures failed { OnErr result (W.failures error.old < W.failures error.new) }
+{
+    if !unwritten {
+        return Ok(());
+    }
+    let mut buffer = Buffer::new();
+    write_all(error, b"replay: replies ")?;
+    write_all(error, buffer.format(proxy).as_bytes())?;
+    write_all(error, b": wire 15 Write\n")
 }
 
 fn print_ending<W: Sink>(error: &mut W, ending: Ending) -> Result<(), Failed>

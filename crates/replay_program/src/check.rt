@@ -6,9 +6,10 @@ ghost use Rattle.replay_program.specs.Replayed.{FailsToPrint, IsChecked, written
 ghost use Rattle.replay_program.specs.Checked.{TakesToCompare, check_lines};
 ghost use Rattle.replay_output.specs.declared.options.form.Form.TheVariants.{Kept};
 
+use crate::replay::no_lines;
 use keyspace::Reply;
-use replay_output::{Ending, Options, Status, fail_to_start};
-use replay_workers::{Gatekeeper, Outcome, run};
+use replay_output::{Ending, Options, StartError, Status, fail_to_start};
+use replay_workers::{Gatekeeper, Nothing, Outcome, run};
 use resolver::MAX_PROXIES;
 use std::alloc::Global;
 use std::sync::{Arc, Wait};
@@ -59,12 +60,17 @@ pub fn check_over<
     ensures ends { result ≢ Status.Usage }
 {
     serial::laws::answers_tell_verdicts();
-    let (outcome, account) = match run(rt, alloc, readers, options, gatekeeper) {
+    let Ok(keepers) = no_lines(alloc, readers.len()) else {
+        return fail_to_start(error, StartError::Memory);
+    };
+    let (outcome, account) = match run(
+        rt, alloc, readers, keepers, options, gatekeeper, &mut Nothing,
+    ) {
         Ok(ended) => ended,
         Err(cause) => return fail_to_start(error, cause),
     };
     let Outcome {
-        lines,
+        keepers: lines,
         mut failures,
         all_sent,
         ..

@@ -4,10 +4,10 @@ ghost use Rattle.std.specs.Prelude.{◌≡◌, ◌≤◌, ◌≢◌, map, vec_le
 ghost use Rattle.std.specs.Io.KnownBytes.{Keeps};
 ghost use Rattle.replay_program.specs.Replayed.{IsReplayed, FailsToReplay, written};
 
-use replay_output::{Ending, Options, Status, fail_to_start, print_report};
-use replay_workers::{Gatekeeper, Outcome, run};
+use replay_output::{Ending, Line, Options, StartError, Status, fail_to_start, print_report};
+use replay_workers::{Gatekeeper, Nothing, Outcome, run};
 use resolver::MAX_PROXIES;
-use std::alloc::Global;
+use std::alloc::{AllocError, Global};
 use std::sync::{Arc, Wait};
 use std::thread::Threads;
 use wire::{Sink, Source};
@@ -48,12 +48,17 @@ pub fn replay_over<
     ensures same { result ≢ Status.Differs }
 {
     serial::laws::answers_tell_verdicts();
-    let (outcome, account) = match run(rt, alloc, readers, options, gatekeeper) {
+    let Ok(keepers) = no_lines(alloc, readers.len()) else {
+        return fail_to_start(error, StartError::Memory);
+    };
+    let (outcome, account) = match run(
+        rt, alloc, readers, keepers, options, gatekeeper, &mut Nothing,
+    ) {
         Ok(ended) => ended,
         Err(cause) => return fail_to_start(error, cause),
     };
     let Outcome {
-        mut lines,
+        keepers: mut lines,
         mut failures,
         all_sent,
         ..
@@ -62,4 +67,16 @@ pub fn replay_over<
     // That isn't to be seen in what its lanes were given, so such a run counts as incomplete.
     let ending = Ending::new(account.complete && all_sent, account.stop);
     print_report(alloc, out, error, &mut lines, &mut failures, ending).status
+}
+
+/// Makes the keepers of so many proxies, of which each keeps the lines of its answers.
+pub fn no_lines(alloc: Global, proxies: usize) -> Result<Vec<Vec<Line>>, AllocError>
+    ensures count { IfOk result (λ keepers. vec_len keepers ≡ proxies) }
+    ensures empty { IfOk result (λ keepers. All (λ lines. vec_items lines ≡ []) keepers.items) }
+{
+    let mut keepers = Vec::with_capacity(alloc, proxies)?;
+    for _ in 0..proxies {
+        keepers.push_reserved(Vec::new(alloc));
+    }
+    Ok(keepers)
 }

@@ -13,23 +13,27 @@ use wire::{StdSink, WireError};
 pub const CLEAN: ProxyFailure = ProxyFailure {
     fault: None,
     lost: false,
+    unwritten: false,
 };
 
 /// The file was cut.
 pub const SHORT: ProxyFailure = ProxyFailure {
     fault: Some(WireError::Short),
     lost: false,
+    unwritten: false,
 };
 
 /// An answer was lost.
 pub const LOST: ProxyFailure = ProxyFailure {
     fault: None,
     lost: true,
+    unwritten: false,
 };
 
 const SHORT_AND_LOST: ProxyFailure = ProxyFailure {
     fault: Some(WireError::Short),
     lost: true,
+    unwritten: false,
 };
 
 // What comes of a report of these failures, in words.
@@ -113,6 +117,7 @@ fn told_and_displayed(
     let faulty = ProxyFailure {
         fault: Some(fault),
         lost: false,
+        unwritten: false,
     };
     let displayed = format!(in alloc;
         "failed: replay: proxy 0: wire {fault}\nreplay: stop {stop}\n"

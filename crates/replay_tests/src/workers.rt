@@ -3,7 +3,7 @@
 use crate::runs::{file_of, push_batch, reader};
 use keyspace::{Answer, Batch};
 use lane::{Intake, Port, Taken, lane};
-use replay_program::{AlwaysOpen, Assignment, Finished, Form, work};
+use replay_program::{AlwaysOpen, Assignment, Finished, Form, Line, work};
 use resolver::Client;
 use std::alloc::Global;
 use std::process::Abort;
@@ -47,13 +47,13 @@ fn connect(alloc: Global) -> Result<Connected, Unmade> {
 }
 
 // Writes what a worker hands back: the lines of its answers, whether one was lost, the fault of its file and the batch unsent.
-fn handed_back(alloc: Global, finished: &Finished) -> Result<String, Unmade> {
+fn handed_back(alloc: Global, finished: &Finished<Vec<Line>>) -> Result<String, Unmade> {
     let mut out = StdSink::new(Vec::new(alloc));
-    for line in &finished.lines {
+    for line in &finished.keeper {
         line.text.print(&mut out).map_err(|_failed| Unmade::Memory)?;
     }
     let mut text = out.into_inner();
-    if finished.lost {
+    if finished.lost.is_some() {
         text.extend_from_slice(b"lost\n")?;
     }
     let Ok(mut text) = String::from_utf8(text) else {
@@ -90,7 +90,15 @@ fn told(
         mut replies,
     } = connected;
     let are_sent = send_two(&mut replies);
-    let finished = work(rt, alloc, FIRST, client, reader(file), &AlwaysOpen);
+    let finished = work(
+        rt,
+        alloc,
+        FIRST,
+        client,
+        reader(file),
+        Vec::new(alloc),
+        &AlwaysOpen,
+    );
     let has_ended = matches!(requests.take(), Taken::End);
     (handed_back(alloc, &finished), are_sent && has_ended)
 }
@@ -182,8 +190,16 @@ fn sends_every_batch_in_order(rt: HostRuntime) -> Result<(), Fail> {
     let (is_clean, is_same) = thread::join(
         &rt,
         move || {
-            let finished = work(&rt, alloc, FIRST, client, reader(file), &AlwaysOpen);
-            finished.lines.is_empty() && finished.fault.is_none() && finished.unsent.is_none()
+            let finished = work(
+                &rt,
+                alloc,
+                FIRST,
+                client,
+                reader(file),
+                Vec::<Line>::new(alloc),
+                &AlwaysOpen,
+            );
+            finished.keeper.is_empty() && finished.fault.is_none() && finished.unsent.is_none()
         },
         || takes_versions(&rt, requests, replies, 20),
     );

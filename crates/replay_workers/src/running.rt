@@ -10,7 +10,9 @@ ghost use Rattle.resolver.specs.Resolver.{IsResolving, IsThrough};
 ghost use Rattle.replay_workers.specs.Run.{HasCapacity, IsRun, is_complete};
 ghost use Rattle.replay_workers.specs.Stops.{IsAccountedFor};
 
+use crate::aside::Aside;
 use crate::gatekeeper::Gatekeeper;
+use crate::keeper::Keeper;
 use crate::outcome::Outcome;
 use crate::threads::{join_all, start_workers};
 use crate::watch::Watch;
@@ -23,23 +25,30 @@ use std::thread::Threads;
 use wire::Source;
 
 /// Runs a worker for each reader, in a thread of its own, and turns the resolver until it is done or has stopped. Returns what
-/// the workers hand back, and the account of the resolver.
+/// the workers hand back, and the account of the resolver. The answers to each proxy go to the keeper at its number. Between turns this
+/// thread does what is aside.
 ///
 /// Once a thread was started, this one takes no memory but in turns and in starting threads. After an error no thread is joined.
 pub fn run<
     S: Source + Send + Drop + 'static,
+    K: Keeper + Send + Drop + 'static,
     G: Gatekeeper + Send + Sync + Drop + 'static,
     R: Threads + Wait + Copy + Send + 'static,
+    A: Aside,
 >(
     rt: &R,
     alloc: Global,
     readers: Vec<S>,
+    keepers: Vec<K>,
     options: Options,
     gatekeeper: &Arc<G, Global>,
-) -> Result<(Outcome, Account), StartError>
+    aside: &mut A,
+) -> Result<(Outcome<K>, Account), StartError>
     requires least_readers { 1 ≤ vec_len readers }
     requires most_readers { vec_len readers ≤ MAX_PROXIES }
-    ensures run { IfOk result (λ ended. IsRun options (map S.remaining readers.items) (map vec_items ended.0.lines.items)
+    requires keeper_each { vec_len keepers ≡ vec_len readers }
+    requires empty { All (λ keeper. K.kept keeper ≡ []) keepers.items }
+    ensures run { IfOk result (λ ended. IsRun options (map S.remaining readers.items) (map K.kept ended.0.keepers.items)
         ended.0.failures.items (is_complete ended.0 ended.1) ended.1.stop) }
     ensures capacity { IfOk result (λ ended. All (HasCapacity options.capacity) ended.0.clients.items) }
 {
@@ -53,20 +62,22 @@ pub fn run<
     let outcome = Outcome::with_room(alloc, proxies)?;
     let mut watch = Watch::new(alloc, proxies)?;
     let (mut resolver, clients) = open(alloc, proxies, capacity, window, limit)?;
-    let workers = start_workers(rt, alloc, form, readers, clients, gatekeeper)?;
-    turn_to_end(rt, &mut resolver, &**gatekeeper, &mut watch);
+    let workers = start_workers(rt, alloc, form, readers, keepers, clients, gatekeeper)?;
+    turn_to_end(rt, &mut resolver, &**gatekeeper, &mut watch, aside);
+    aside.to_end(rt);
     let mut outcome = join_all(rt, workers, outcome);
     let account = resolver.settle(outcome.clients.as_mut_slice());
     Ok((outcome, account))
 }
 
 // Turns the resolver until it is done; after a stop, until a turn leaves nothing owed. Where all proxies wait for each other a
-// batch is let through.
-fn turn_to_end<G: Gatekeeper, R: Wait>(
+// batch is let through. After each turn what is aside is done.
+fn turn_to_end<G: Gatekeeper, R: Wait, A: Aside>(
     rt: &R,
     resolver: &mut Resolver,
     gatekeeper: &G,
     watch: &mut Watch,
+    aside: &mut A,
 )
     ensures through { IsThrough resolver.new }
     ensures closed { (proxy : ℕ) (l : Lanes) → slice_get resolver.new.lanes proxy ≡ Some l → l.replies.closed ≡ true }
@@ -86,6 +97,7 @@ fn turn_to_end<G: Gatekeeper, R: Wait>(
             Err(_) if resolver.owed() == 0 => return,
             Err(_) => thread::yield_now(),
         }
+        aside.between();
     }
     unreachable!()
 }

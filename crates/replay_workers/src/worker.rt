@@ -10,11 +10,12 @@ ghost use Rattle.replay_workers.specs.Worker.{HasWorked, SendsFrames, CannotSend
 
 use crate::gatekeeper::Gatekeeper;
 use crate::inbox::Inbox;
+use crate::keeper::{Keeper, Loss};
 use crate::pause::pause;
 use flow::{Stand, is_below_share};
 use keyspace::Batch;
 use lane::{Port, Refused};
-use replay_output::{Form, Line};
+use replay_output::Form;
 use resolver::Client;
 use std::alloc::Global;
 use std::sync::Wait;
@@ -33,15 +34,15 @@ pub struct Assignment {
 
 /// What a worker hands back.
 #[derive(Drop)]
-pub struct Finished {
+pub struct Finished<K> {
     /// The client that the worker was given.
     pub client: Client,
-    /// The lines of the answers, in the order taken.
-    pub lines: Vec<Line>,
+    /// What has kept the answers, in the order taken, or passed them on.
+    pub keeper: K,
     /// The fault of the file, which ended it.
     pub fault: Option<WireError>,
-    /// The line of an answer could not be kept. The answers after it were dropped.
-    pub lost: bool,
+    /// Why an answer was not kept, if one wasn't. The answers after it were dropped.
+    pub lost: Option<Loss>,
     /// The batch that was read last, where the answers ended before it could be sent.
     pub unsent: Option<Batch>,
 }
@@ -58,9 +59,9 @@ enum FileEnd {
 
 // A proxy's ends of its lanes.
 #[derive(Drop)]
-struct Worker {
+struct Worker<K> {
     requests: Port<Batch>,
-    inbox: Inbox,
+    inbox: Inbox<K>,
     proxy: usize,
     share: u64,
     // the place of the next batch
@@ -73,38 +74,44 @@ struct Worker {
 ///
 /// Where as many of its batches are unanswered as is its share, it stands: it sends the next one only where the gatekeeper
 /// lets it through, or once it has taken an answer.
-pub fn work<S: Source + Drop, G: Gatekeeper, R: Wait>(
+///
+/// The answers go to the keeper, which has kept none yet. Where a record can't be written, the worker stops sending too.
+pub fn work<S: Source + Drop, K: Keeper + Drop, G: Gatekeeper, R: Wait>(
     rt: &R,
     alloc: Global,
     assignment: Assignment,
     client: Client,
     reader: S,
+    keeper: K,
     gatekeeper: &G,
-) -> Finished
-    ensures worked { HasWorked assignment.form assignment.proxy (S.remaining reader) client result }
+) -> Finished<K>
+    requires empty { K.kept keeper ≡ [] }
+    ensures worked { HasWorked K.kept assignment.form assignment.proxy (S.remaining reader) client result }
 {
-    let mut worker = Worker::new(alloc, assignment, client);
+    let mut worker = Worker::new(alloc, assignment, client, keeper);
     let end = worker.send_frames(rt, gatekeeper, &mut read_frames(alloc, reader));
     worker.requests.close();
     gatekeeper.closed(assignment.proxy);
     worker.inbox.take_to_end(rt, gatekeeper);
+    worker.inbox.keeper.close();
     worker.finish(end)
 }
 
-impl Worker {
-    fn new(alloc: Global, assignment: Assignment, client: Client) -> Self
+impl<K: Keeper + Drop> Worker<K> {
+    fn new(alloc: Global, assignment: Assignment, client: Client, keeper: K) -> Self
+        requires empty { K.kept keeper ≡ [] }
         ensures requests { result.requests ≡ client.requests }
         ensures replies { result.inbox.replies ≡ client.replies }
         ensures proxy { result.inbox.proxy ≡ assignment.proxy }
         ensures form { result.inbox.form ≡ assignment.form }
         ensures share { result.share ≡ assignment.share }
-        ensures lines { Keeps client.replies.taken result.inbox }
+        ensures lines { Keeps K.kept client.replies.taken result.inbox }
     {
         let Assignment { proxy, share, form } = assignment;
         let Client { requests, replies } = client;
         Worker {
             requests,
-            inbox: Inbox::new(alloc, form, proxy, replies),
+            inbox: Inbox::new(alloc, form, proxy, replies, keeper),
             proxy,
             share,
             place: 0,
@@ -120,7 +127,7 @@ impl Worker {
     ) -> FileEnd
         requires fresh { refusal_of frames.old ≡ None }
         ensures requests { PortGoesOn self.old.requests self.new.requests }
-        ensures inbox { InboxGoesOn self.old.inbox self.new.inbox }
+        ensures inbox { InboxGoesOn K.kept self.old.inbox self.new.inbox }
         ensures sent { SendsFrames (S.remaining (frames_reader frames.old)) self.old.requests.sent
             self.new.requests.sent (fault_of result) (unsent_of result) }
         ensures read { fault_of result ≡ Some WireError.Read
@@ -150,7 +157,7 @@ impl Worker {
         batch: Batch,
     ) -> Result<(), Batch>
         ensures requests { PortGoesOn self.old.requests self.new.requests }
-        ensures inbox { InboxGoesOn self.old.inbox self.new.inbox }
+        ensures inbox { InboxGoesOn K.kept self.old.inbox self.new.inbox }
         ensures sent { OnOk result (self.new.requests.sent ≡ self.old.requests.sent ++ batch ∷ []) }
         ensures unchanged { OnErr result (self.new.requests.sent ≡ self.old.requests.sent) }
         ensures handed_back { IfErr result (λ unsent. unsent ≡ batch) }
@@ -158,7 +165,7 @@ impl Worker {
     {
         let mut waiting = batch;
         for _ in rt.forever() {
-            if self.inbox.take_all(rt, gatekeeper) {
+            if self.inbox.take_all(rt, gatekeeper) || self.inbox.is_unwritten() {
                 return Err(waiting);
             }
             waiting = match self.try_send(gatekeeper, waiting) {
@@ -222,9 +229,9 @@ impl Worker {
         }
     }
 
-    fn finish(self, end: FileEnd) -> Finished
+    fn finish(self, end: FileEnd) -> Finished<K>
         ensures requests { result.client.requests ≡ self.requests }
-        ensures inbox { (result.client.replies ≡ self.inbox.replies) × (result.lines ≡ self.inbox.lines)
+        ensures inbox { (result.client.replies ≡ self.inbox.replies) × (result.keeper ≡ self.inbox.keeper)
             × (result.lost ≡ self.inbox.lost) }
         ensures fault { result.fault ≡ fault_of end }
         ensures unsent { result.unsent ≡ unsent_of end }
@@ -241,13 +248,13 @@ impl Worker {
         } = self;
         let Inbox {
             replies,
-            lines,
+            keeper,
             lost,
             ..
         } = inbox;
         Finished {
             client: Client { requests, replies },
-            lines,
+            keeper,
             fault,
             lost,
             unsent,
