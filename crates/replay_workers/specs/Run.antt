@@ -25,7 +25,7 @@ use Rattle.replay_workers.specs.Stops.{IsStopOf}
 use Rattle.replay_workers.specs.Worker.{TakesFrames}
 
 -- every answer was taken, and every batch that was read was sent
-abbrev pub is_complete : Outcome → Account → Bool
+abbrev pub is_complete : {K : Type 0} → Outcome K → Account → Bool
 is_complete outcome account = account.complete && outcome.all_sent
 
 -- the lanes of the client have this capacity

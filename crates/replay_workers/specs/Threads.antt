@@ -3,14 +3,14 @@ use Rattle.std.specs.Prelude.{◌≡◌, ℕ, ◌+◌, true, false, List, [], �
 use Rattle.std.specs.List.{All}
 use Rattle.keyspace.specs.declared.batch.Batch.{Batch}
 use Rattle.resolver.specs.declared.client.Client.{Client}
-use Rattle.replay_output.specs.declared.failures.ProxyFailure.{ProxyFailure}
+use Rattle.replay_output.specs.declared.line.Line.{Line}
 use Rattle.replay_output.specs.declared.options.form.Form.{Form}
 use Rattle.replay_workers.specs.declared.outcome.Outcome.{Outcome}
 use Rattle.replay_workers.specs.declared.worker.Finished.{Finished}
 use Rattle.replay_workers.specs.declared.threads.Task.{Task}
 use Rattle.replay_workers.specs.declared.threads.Work.{Work}
 use Rattle.replay_workers.specs.declared.threads.Started.{Started}
-use Rattle.replay_workers.specs.Worker.{HasWorked}
+use Rattle.replay_workers.specs.Worker.{HasWorked, failure_of}
 
 -- what a worker is given
 pub record Given (S : Type 0) : Type 0 where
@@ -30,7 +30,7 @@ module _ {S : Type 0} where
   given_each form share proxy [] readers = []
 
   -- what the worker of a task is to be given
-  abbrev pub given_by : {G : Type 0} → Task S G → Given S
+  abbrev pub given_by : {K G : Type 0} → Task S K G → Given S
   given_by task = record {
     form = task.assignment.form;
     share = task.assignment.share;
@@ -50,30 +50,26 @@ module _ {S : Type 0} where
   }
 
   -- what a worker was given that was started
-  abbrev pub given_to : Started S → Given S
+  abbrev pub given_to : {K : Type 0} → Started S K → Given S
   given_to worker = given_for worker.handle.promise
 
   -- a worker has worked on what it was given, whose bytes the reader tells
-  abbrev pub HasWorkedOn : (S → Option (List ℕ)) → Given S → Finished → Type 0
-  HasWorkedOn remaining given finished =
-      HasWorked given.form given.proxy (remaining given.reader) given.client finished
-
--- what failed of the proxy
-abbrev pub failure_of : Finished → ProxyFailure
-failure_of finished = record { fault = finished.fault; lost = finished.lost }
+  abbrev pub HasWorkedOn : {K : Type 0} → (K → List Line) → (S → Option (List ℕ)) → Given S → Finished K → Type 0
+  HasWorkedOn kept remaining given finished =
+      HasWorked kept given.form given.proxy (remaining given.reader) given.client finished
 
 -- one of them hands a batch back that could not be sent
-pub record HandsBack (finished : List Finished) : Type 0 where
+pub record HandsBack {K : Type 0} (finished : List (Finished K)) : Type 0 where
   pub place : ℕ
-  pub worker : Finished
+  pub worker : Finished K
   pub at : slice_get finished place ≡ Some worker
   pub batch : Batch
   pub unsent : worker.unsent ≡ Some batch
 
 -- the outcome is of what was handed back, each at its place
-pub record IsOutcomeOf (finished : List Finished) (outcome : Outcome) : Type 0 where
+pub record IsOutcomeOf {K : Type 0} (finished : List (Finished K)) (outcome : Outcome K) : Type 0 where
   pub clients : outcome.clients.items ≡ map (λ f. f.client) finished
-  pub lines : outcome.lines.items ≡ map (λ f. f.lines) finished
+  pub keepers : outcome.keepers.items ≡ map (λ f. f.keeper) finished
   pub failures : outcome.failures.items ≡ map failure_of finished
   pub all_sent : outcome.all_sent ≡ true → All (λ f. f.unsent ≡ None) finished
   pub unsent : outcome.all_sent ≡ false → HandsBack finished

@@ -1,5 +1,5 @@
 -- What a worker does. This project's own.
-use Rattle.std.specs.Prelude.{◌≡◌, ◌≢◌, ℕ, ◌<◌, ◌≤◌, ◌⊎◌, true, List, [], ◌∷◌, ◌++◌, length, Option, None, Some, IfSome, option_to_list}
+use Rattle.std.specs.Prelude.{◌≡◌, ◌≢◌, ℕ, ◌<◌, ◌≤◌, ◌⊎◌, Bool, true, false, List, [], ◌∷◌, ◌++◌, length, Option, None, Some, IfSome, option_to_list}
 use Rattle.std.specs.Io.KnownBytes.{IsAtEnd}
 use Rattle.keyspace.specs.declared.batch.Batch.{Batch}
 use Rattle.keyspace.specs.declared.answer.Answer.{Answer}
@@ -9,8 +9,12 @@ use Rattle.wire.specs.declared.error.WireError.{WireError}
 use Rattle.wire.specs.declared.error.WireError.TheVariants as wire
 use Rattle.wire.specs.NextFrame.{TakesFrame, IsFaultOf}
 use Rattle.resolver.specs.declared.client.Client.{Client}
+use Rattle.replay_output.specs.declared.failures.ProxyFailure.{ProxyFailure}
+use Rattle.replay_output.specs.declared.line.Line.{Line}
 use Rattle.replay_output.specs.declared.options.form.Form.{Form}
 use Rattle.replay_workers.specs.declared.worker.Finished.{Finished}
+use Rattle.replay_workers.specs.declared.keeper.Loss.{Loss}
+use Rattle.replay_workers.specs.declared.keeper.Loss.TheVariants.{Memory, Write}
 use Rattle.replay_workers.specs.declared.worker.FileEnd.{FileEnd}
 use Rattle.replay_workers.specs.declared.worker.FileEnd.TheVariants.{Reached, Fault, Unsent}
 use Rattle.replay_workers.specs.Inbox.{KeepsLines}
@@ -51,6 +55,22 @@ pub record SendsFrames (bytes : Option (List ℕ)) (before now : List Batch) (fa
   -- a fault other than these two is that of the bytes left
   pub first_fault : IfSome fault (λ e. e ≢ wire.Memory → e ≢ wire.Read → IfSome left (IsFaultOf e))
 
+-- why an answer was not kept, told as two facts
+abbrev pub is_memory : Option Loss → Bool
+is_memory None = false
+is_memory (Some Memory) = true
+is_memory (Some Write) = false
+
+abbrev pub is_unwritten : Option Loss → Bool
+is_unwritten None = false
+is_unwritten (Some Memory) = false
+is_unwritten (Some Write) = true
+
+-- what failed of the proxy
+abbrev pub failure_of : {K : Type 0} → Finished K → ProxyFailure
+failure_of finished =
+    record { fault = finished.fault; lost = is_memory finished.lost; unwritten = is_unwritten finished.lost }
+
 -- No more can be sent: the answers have ended, or the lane takes no more.
 abbrev pub CannotSend : PortView Batch → IntakeView Answer → Type 0
 CannotSend requests replies =
@@ -58,13 +78,13 @@ CannotSend requests replies =
 
 -- What a worker has done that was given this proxy's client, and a reader with these bytes left: what it sent is what it
 -- read, what it took is what its lines tell, and it has closed its lane and taken answers to their end.
-pub record HasWorked (form : Form) (proxy : ℕ) (bytes : Option (List ℕ)) (given : Client) (finished : Finished) :
-    Type 0 where
+pub record HasWorked {K : Type 0} (kept : K → List Line) (form : Form) (proxy : ℕ) (bytes : Option (List ℕ)) (given : Client)
+    (finished : Finished K) : Type 0 where
   pub client : ClientGoesOn given finished.client
   pub sends :
       SendsFrames bytes given.requests.sent finished.client.requests.sent finished.fault finished.unsent
   pub keeps :
-      KeepsLines form proxy given.replies.taken finished.client.replies.taken finished.lines.items finished.lost
+      KeepsLines form proxy given.replies.taken finished.client.replies.taken (kept finished.keeper) finished.lost
   pub closed : finished.client.requests.closed ≡ true
   pub ended : HasEnded finished.client.replies
 

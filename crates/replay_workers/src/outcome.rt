@@ -1,6 +1,7 @@
 //! What the workers hand back.
 
 ghost use Rattle.std.specs.Prelude.{◌≡◌, ◌≤◌, ◌<◌, [], ◌∷◌, ◌++◌, true, vec_len, vec_capacity, IfOk};
+ghost use Rattle.replay_workers.specs.Worker.{failure_of};
 
 use crate::keeper::Loss;
 use crate::worker::Finished;
