@@ -1,14 +1,15 @@
 -- What an inbox keeps as it takes one answer more.
-use Rattle.std.specs.Prelude.{◌≡◌, ℕ, Bool, true, false, List, [], ◌∷◌, ◌++◌}
+use Rattle.std.specs.Prelude.{◌≡◌, ◌≢◌, ℕ, Option, None, Some, List, [], ◌∷◌, ◌++◌}
 use Rattle.std.specs.List.{All}
 use Rattle.std.proofs.Common.{refl, sym, ap, subst, ◌∙◌, append_assoc, append-nil}
-use Rattle.std.proofs.lemmas.Bool.{false≢true}
+use Rattle.std.proofs.lemmas.Option.{none-some}
 use Rattle.std.proofs.lemmas.List.{map-append}
 use Rattle.std.proofs.lemmas.List.Elements.{All-push}
 use Rattle.keyspace.specs.declared.answer.Answer.{Answer}
 use Rattle.lane.specs.Lane.{IntakeView, IntakeGoesOn}
 use Rattle.replay_output.specs.declared.options.form.Form.{Form}
 use Rattle.replay_workers.specs.declared.inbox.Inbox.{Inbox}
+use Rattle.replay_workers.specs.declared.keeper.Loss.{Loss}
 use Rattle.replay_output.specs.declared.line.Line.{Line}
 use Rattle.replay_output.specs.Line.{answer_of, answers_of, IsLineOf}
 use Rattle.replay_workers.specs.Inbox.{KeepsLines, InboxGoesOn}
@@ -20,21 +21,21 @@ IsKept form proxy old new answer =
     (line : Line) × (new ≡ old ++ line ∷ []) × (answer_of line ≡ answer) × IsLineOf form proxy line
 
 module _ (form : Form) (proxy : ℕ) (before now : List Answer) (answer : Answer) (old new : List Line) where
-  dropped_also : (was : Bool) → KeepsLines form proxy before now old was → new ≡ old
-      → KeepsLines form proxy before (now ++ answer ∷ []) new true
-  dropped_also was keeps same = record {
+  dropped_also : (was : Option Loss) (loss : Loss) → KeepsLines form proxy before now old was → new ≡ old
+      → KeepsLines form proxy before (now ++ answer ∷ []) new (Some loss)
+  dropped_also was loss keeps same = record {
     dropped = keeps.dropped ++ answer ∷ [];
     taken =
         ap (λ (l : List Answer). l ++ answer ∷ []) keeps.taken
         ∙ append_assoc before (answers_of old ++ keeps.dropped) (answer ∷ [])
         ∙ ap (λ (l : List Answer). before ++ l) (append_assoc (answers_of old) keeps.dropped (answer ∷ []))
         ∙ ap (λ (l : List Line). before ++ (answers_of l ++ (keeps.dropped ++ answer ∷ []))) (sym same);
-    none_dropped = λ none. absurd (false≢true (sym none));
+    none_dropped = λ none. absurd (none-some loss (sym none));
     each = subst (All (IsLineOf form proxy)) (sym same) keeps.each;
   }
 
-  kept_also : KeepsLines form proxy before now old false → IsKept form proxy old new answer
-      → KeepsLines form proxy before (now ++ answer ∷ []) new false
+  kept_also : KeepsLines form proxy before now old None → IsKept form proxy old new answer
+      → KeepsLines form proxy before (now ++ answer ∷ []) new None
   kept_also keeps kept = record {
     dropped = [];
     taken =
@@ -50,41 +51,43 @@ module _ (form : Form) (proxy : ℕ) (before now : List Answer) (answer : Answer
         subst (All (IsLineOf form proxy)) (sym kept.1) (All-push (IsLineOf form proxy) old kept.0 keeps.each kept.3);
   }
 
-  pub keeps_also : (was lost : Bool) → KeepsLines form proxy before now old was → (was ≡ true → lost ≡ true)
-      → (lost ≡ true → new ≡ old) → (lost ≡ false → IsKept form proxy old new answer)
+  pub keeps_also : (was lost : Option Loss) → KeepsLines form proxy before now old was → (was ≢ None → lost ≡ was)
+      → (lost ≢ None → new ≡ old) → (lost ≡ None → IsKept form proxy old new answer)
       → KeepsLines form proxy before (now ++ answer ∷ []) new lost
-  keeps_also was true keeps stays lost kept = dropped_also was keeps (lost refl)
-  keeps_also true false keeps stays lost kept = absurd (false≢true (stays refl))
-  keeps_also false false keeps stays lost kept = kept_also keeps (kept refl)
+  keeps_also was (Some loss) keeps stays lost kept = dropped_also was loss keeps (lost (λ none. none-some loss (sym none)))
+  keeps_also (Some loss) None keeps stays lost kept = absurd (none-some loss (stays (λ none. none-some loss (sym none))))
+  keeps_also None None keeps stays lost kept = kept_also keeps (kept refl)
 
-pub item_kept : (first old new : Inbox) (replies : IntakeView Answer) (answer : Answer) → InboxGoesOn first old
-    → IntakeGoesOn old.replies replies → replies.taken ≡ old.replies.taken ++ answer ∷ [] → new.replies ≡ replies
-    → new.proxy ≡ old.proxy → new.form ≡ old.form → (old.lost ≡ true → new.lost ≡ true)
-    → (new.lost ≡ true → new.lines.items ≡ old.lines.items)
-    → (new.lost ≡ false → IsKept old.form old.proxy old.lines.items new.lines.items answer) → InboxGoesOn first new
-item_kept first old new replies answer goes on took same_replies same_proxy same_form stays lost kept = record {
-  replies =
-      intake_goes_on first.replies old.replies new.replies goes.replies
-      (subst (λ (r : IntakeView Answer). IntakeGoesOn old.replies r) (sym same_replies) on);
-  proxy = same_proxy ∙ goes.proxy;
-  form = same_form ∙ goes.form;
-  lines = λ before keeps.
-      let also =
-      keeps_also old.form old.proxy before old.replies.taken answer old.lines.items new.lines.items old.lost new.lost
-      (goes.lines before keeps) stays lost kept in
-      let taken : old.replies.taken ++ answer ∷ [] ≡ new.replies.taken =
-      sym took ∙ ap (λ (r : IntakeView Answer). r.taken) (sym same_replies) in
-      subst (λ (now : List Answer). KeepsLines new.form new.proxy before now new.lines.items new.lost) taken
-      (subst (λ (p : ℕ). KeepsLines new.form p before (old.replies.taken ++ answer ∷ []) new.lines.items new.lost)
-      (sym same_proxy)
-      (subst (λ (f : Form). KeepsLines f old.proxy before (old.replies.taken ++ answer ∷ []) new.lines.items new.lost)
-      (sym same_form) also));
-}
+module _ {K : Type 0} (kept_by : K → List Line) where
+  pub item_kept : (first old new : Inbox K) (replies : IntakeView Answer) (answer : Answer) → InboxGoesOn kept_by first old
+      → IntakeGoesOn old.replies replies → replies.taken ≡ old.replies.taken ++ answer ∷ [] → new.replies ≡ replies
+      → new.proxy ≡ old.proxy → new.form ≡ old.form → (old.lost ≢ None → new.lost ≡ old.lost)
+      → (new.lost ≢ None → kept_by new.keeper ≡ kept_by old.keeper)
+      → (new.lost ≡ None → IsKept old.form old.proxy (kept_by old.keeper) (kept_by new.keeper) answer)
+      → InboxGoesOn kept_by first new
+  item_kept first old new replies answer goes on took same_replies same_proxy same_form stays lost kept = record {
+    replies =
+        intake_goes_on first.replies old.replies new.replies goes.replies
+        (subst (λ (r : IntakeView Answer). IntakeGoesOn old.replies r) (sym same_replies) on);
+    proxy = same_proxy ∙ goes.proxy;
+    form = same_form ∙ goes.form;
+    lines = λ before keeps.
+        let also =
+        keeps_also old.form old.proxy before old.replies.taken answer (kept_by old.keeper) (kept_by new.keeper) old.lost new.lost
+        (goes.lines before keeps) stays lost kept in
+        let taken : old.replies.taken ++ answer ∷ [] ≡ new.replies.taken =
+        sym took ∙ ap (λ (r : IntakeView Answer). r.taken) (sym same_replies) in
+        subst (λ (now : List Answer). KeepsLines new.form new.proxy before now (kept_by new.keeper) new.lost) taken
+        (subst (λ (p : ℕ). KeepsLines new.form p before (old.replies.taken ++ answer ∷ []) (kept_by new.keeper) new.lost)
+        (sym same_proxy)
+        (subst (λ (f : Form). KeepsLines f old.proxy before (old.replies.taken ++ answer ∷ []) (kept_by new.keeper) new.lost)
+        (sym same_form) also));
+  }
 
-pub inbox_goes_on : (a b c : Inbox) → InboxGoesOn a b → InboxGoesOn b c → InboxGoesOn a c
-inbox_goes_on a b c first second = record {
-  replies = intake_goes_on a.replies b.replies c.replies first.replies second.replies;
-  proxy = second.proxy ∙ first.proxy;
-  form = second.form ∙ first.form;
-  lines = λ before keeps. second.lines before (first.lines before keeps);
-}
+  pub inbox_goes_on : (a b c : Inbox K) → InboxGoesOn kept_by a b → InboxGoesOn kept_by b c → InboxGoesOn kept_by a c
+  inbox_goes_on a b c first second = record {
+    replies = intake_goes_on a.replies b.replies c.replies first.replies second.replies;
+    proxy = second.proxy ∙ first.proxy;
+    form = second.form ∙ first.form;
+    lines = λ before keeps. second.lines before (first.lines before keeps);
+  }

@@ -10,12 +10,13 @@ use Rattle.keyspace.specs.declared.batch.Batch.{Batch}
 use Rattle.lane.specs.Lane.{HasEnded}
 use Rattle.resolver.specs.declared.client.Client.{Client}
 use Rattle.resolver.specs.Resolver.{IsNewClient, SameClients}
+use Rattle.replay_output.specs.declared.line.Line.{Line}
 use Rattle.replay_output.specs.declared.options.form.Form.{Form}
 use Rattle.replay_workers.specs.declared.outcome.Outcome.{Outcome}
 use Rattle.replay_workers.specs.declared.threads.Started.{Started}
 use Rattle.replay_workers.specs.declared.worker.Finished.{Finished}
-use Rattle.replay_workers.specs.Worker.{HasWorked, ClientGoesOn}
-use Rattle.replay_workers.specs.Threads.{Given, given_each, given_to, HasWorkedOn, HandsBack, IsOutcomeOf, failure_of}
+use Rattle.replay_workers.specs.Worker.{HasWorked, ClientGoesOn, failure_of}
+use Rattle.replay_workers.specs.Threads.{Given, given_each, given_to, HasWorkedOn, HandsBack, IsOutcomeOf}
 use Rattle.replay_workers.specs.Run.{HasCapacity}
 
 at_also : {X : Type 0} (xs : List X) (place : ℕ) (x y : X) → slice_get xs place ≡ Some x
@@ -29,7 +30,7 @@ at_last [] y = refl
 at_last (x ∷ xs) y = at_last xs y
 
 -- whether a batch was handed back by now
-hands_back_also : (finished : List Finished) (f : Finished) (was now : Bool) (unsent : Option Batch) → f.unsent ≡ unsent
+hands_back_also : {K : Type 0} (finished : List (Finished K)) (f : Finished K) (was now : Bool) (unsent : Option Batch) → f.unsent ≡ unsent
     → (was ≡ false → HandsBack finished) → (was ≡ true → unsent ≡ None → now ≡ true) → now ≡ false
     → HandsBack (finished ++ f ∷ [])
 hands_back_also finished f false now unsent is before sends none =
@@ -47,18 +48,18 @@ hands_back_also finished f true now (Some batch) is before sends none =
     record { place = length finished; worker = f; at = at_last finished f; batch = batch; unsent = is }
 
 -- one worker more has handed back
-pub outcome_also : (finished : List Finished) (old new : Outcome) (f : Finished) → IsOutcomeOf finished old
-    → new.clients.items ≡ old.clients.items ++ f.client ∷ [] → new.lines.items ≡ old.lines.items ++ f.lines ∷ []
+pub outcome_also : {K : Type 0} (finished : List (Finished K)) (old new : Outcome K) (f : Finished K) → IsOutcomeOf finished old
+    → new.clients.items ≡ old.clients.items ++ f.client ∷ [] → new.keepers.items ≡ old.keepers.items ++ f.keeper ∷ []
     → new.failures.items ≡ old.failures.items ++ failure_of f ∷ []
     → (new.all_sent ≡ true → (old.all_sent ≡ true) × (f.unsent ≡ None))
     → (old.all_sent ≡ true → f.unsent ≡ None → new.all_sent ≡ true) → IsOutcomeOf (finished ++ f ∷ []) new
-outcome_also finished old new f of clients lines failures sent sends = record {
-  clients = clients ∙ ap (λ l. l ++ f.client ∷ []) of.clients ∙ sym (map-append (λ (f : Finished). f.client) finished (f ∷ []));
-  lines = lines ∙ ap (λ l. l ++ f.lines ∷ []) of.lines ∙ sym (map-append (λ (f : Finished). f.lines) finished (f ∷ []));
+outcome_also {K} finished old new f of clients keepers failures sent sends = record {
+  clients = clients ∙ ap (λ l. l ++ f.client ∷ []) of.clients ∙ sym (map-append (λ (f : Finished K). f.client) finished (f ∷ []));
+  keepers = keepers ∙ ap (λ l. l ++ f.keeper ∷ []) of.keepers ∙ sym (map-append (λ (f : Finished K). f.keeper) finished (f ∷ []));
   failures = failures ∙ ap (λ l. l ++ failure_of f ∷ []) of.failures ∙ sym (map-append failure_of finished (f ∷ []));
   all_sent = λ all.
       let both = sent all in
-      All-push (λ (f : Finished). f.unsent ≡ None) finished f (of.all_sent both.0) both.1;
+      All-push (λ (f : Finished K). f.unsent ≡ None) finished f (of.all_sent both.0) both.1;
   unsent = hands_back_also finished f old.all_sent new.all_sent f.unsent refl of.unsent sends;
 }
 
@@ -71,7 +72,7 @@ given_count form share first (c ∷ clients) (r ∷ readers) same =
     omega (arith, rest)
 
 -- as many workers were started as there are readers
-pub started_count : {S : Type 0} (form : Form) (share : ℕ) (clients : List Client) (readers : List S) (workers : List (Started S))
+pub started_count : {S K : Type 0} (form : Form) (share : ℕ) (clients : List Client) (readers : List S) (workers : List (Started S K))
     → length readers ≡ length clients → map given_to workers ≡ given_each form share 0 clients readers
     → length workers ≡ length readers
 started_count form share clients readers workers same given =
@@ -107,11 +108,11 @@ capacities_stay capacity old new same all place d inside =
     subst (HasCapacity capacity) (sym (get_or_from_slice_get new place e.0 d e.1))
     (goes.requests.capacity ∙ has.0, goes.replies.capacity ∙ has.1)
 
-module _ {S : Type 0} (remaining : S → Option (List ℕ)) where
+module _ {S K : Type 0} (kept : K → List Line) (remaining : S → Option (List ℕ)) where
   -- each client is handed back as the one that was given
-  pub clients_back : (form : Form) (share first : ℕ) (clients : List Client) (readers : List S) (finished : List Finished)
+  pub clients_back : (form : Form) (share first : ℕ) (clients : List Client) (readers : List S) (finished : List (Finished K))
       → length readers ≡ length clients
-      → AllZip (HasWorkedOn remaining) (given_each form share first clients readers) finished
+      → AllZip (HasWorkedOn kept remaining) (given_each form share first clients readers) finished
       → AllZip ClientGoesOn clients (map (λ f. f.client) finished)
   clients_back form share first [] readers [] same all = tt
   clients_back form share first [] readers (f ∷ finished) same all = absurd all
@@ -120,9 +121,9 @@ module _ {S : Type 0} (remaining : S → Option (List ℕ)) where
   clients_back form share first (c ∷ clients) (r ∷ readers) (f ∷ finished) same all =
       (all.0.client, clients_back form share (first + 1) clients readers finished (omega (arith, same)) all.1)
 
-  pub finished_count : (form : Form) (share first : ℕ) (clients : List Client) (readers : List S) (finished : List Finished)
+  pub finished_count : (form : Form) (share first : ℕ) (clients : List Client) (readers : List S) (finished : List (Finished K))
       → length readers ≡ length clients
-      → AllZip (HasWorkedOn remaining) (given_each form share first clients readers) finished
+      → AllZip (HasWorkedOn kept remaining) (given_each form share first clients readers) finished
       → length finished ≡ length clients
   finished_count form share first [] readers [] same all = refl
   finished_count form share first [] readers (f ∷ finished) same all = absurd all
@@ -133,8 +134,8 @@ module _ {S : Type 0} (remaining : S → Option (List ℕ)) where
       omega (arith, rest)
 
   -- each client has taken its answers to their end
-  pub clients_ended : (given : List (Given S)) (finished : List Finished) → AllZip (HasWorkedOn remaining) given finished
-      → (place : ℕ) (c : Client) → slice_get (map (λ (f : Finished). f.client) finished) place ≡ Some c
+  pub clients_ended : (given : List (Given S)) (finished : List (Finished K)) → AllZip (HasWorkedOn kept remaining) given finished
+      → (place : ℕ) (c : Client) → slice_get (map (λ (f : Finished K). f.client) finished) place ≡ Some c
       → HasEnded c.replies
   clients_ended given [] all place c at = absurd (none-some c at)
   clients_ended [] (f ∷ finished) all place c at = absurd all
@@ -143,22 +144,22 @@ module _ {S : Type 0} (remaining : S → Option (List ℕ)) where
   clients_ended (one ∷ given) (f ∷ finished) all (suc place) c at = clients_ended given finished all.1 place c at
 
   -- the worker at this place was given the client and the reader at it, and its proxy is the place
-  pub worked_at : (form : Form) (share first : ℕ) (clients : List Client) (readers : List S) (finished : List Finished)
+  pub worked_at : (form : Form) (share first : ℕ) (clients : List Client) (readers : List S) (finished : List (Finished K))
       → length readers ≡ length clients
-      → AllZip (HasWorkedOn remaining) (given_each form share first clients readers) finished
-      → (place : ℕ) (bytes : Option (List ℕ)) (f : Finished) → slice_get (map remaining readers) place ≡ Some bytes
+      → AllZip (HasWorkedOn kept remaining) (given_each form share first clients readers) finished
+      → (place : ℕ) (bytes : Option (List ℕ)) (f : Finished K) → slice_get (map remaining readers) place ≡ Some bytes
       → slice_get finished place ≡ Some f
-      → (c : Client) × (slice_get clients place ≡ Some c) × HasWorked form (first + place) bytes c f
+      → (c : Client) × (slice_get clients place ≡ Some c) × HasWorked kept form (first + place) bytes c f
   worked_at form share first clients [] finished same all place bytes f at there = absurd (none-some bytes at)
   worked_at form share first [] (r ∷ readers) finished same all place bytes f at there = absurd (omega (arith, same))
   worked_at form share first (c ∷ clients) (r ∷ readers) [] same all place bytes f at there = absurd all
   worked_at form share first (c ∷ clients) (r ∷ readers) (g ∷ finished) same all zero bytes f at there = (
     c,
     refl,
-    subst (λ (first : ℕ). HasWorked form first bytes c f) (omega arith)
-        (subst (λ (bytes : Option (List ℕ)). HasWorked form first bytes c f) (same_Some (remaining r) bytes at)
-        (subst (λ (f : Finished). HasWorked form first (remaining r) c f) (same_Some g f there) all.0)),
+    subst (λ (first : ℕ). HasWorked kept form first bytes c f) (omega arith)
+        (subst (λ (bytes : Option (List ℕ)). HasWorked kept form first bytes c f) (same_Some (remaining r) bytes at)
+        (subst (λ (f : Finished K). HasWorked kept form first (remaining r) c f) (same_Some g f there) all.0)),
   )
   worked_at form share first (c ∷ clients) (r ∷ readers) (g ∷ finished) same all (suc place) bytes f at there =
       let rest = worked_at form share (first + 1) clients readers finished (omega (arith, same)) all.1 place bytes f at there in
-      (rest.0, rest.1, subst (λ (proxy : ℕ). HasWorked form proxy bytes rest.0 f) (omega arith) rest.2)
+      (rest.0, rest.1, subst (λ (proxy : ℕ). HasWorked kept form proxy bytes rest.0 f) (omega arith) rest.2)

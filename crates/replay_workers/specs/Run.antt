@@ -45,13 +45,13 @@ pub record IsServed (window : ℤ) (form : Form) (log : List Step) (complete : B
   pub all_batches : complete ≡ true → failure.fault ≡ None → (read ≡ part log proxy) × IsAtEnd left
   -- a fault other than these two is that of the bytes left
   pub first_fault : IfSome failure.fault (λ e. e ≢ wire.Memory → e ≢ wire.Read → IfSome left (IsFaultOf e))
-  -- the lines are those of the answers of the reference resolver, in order and once; of all where no stop was met and
-  -- nothing was lost
+  -- the lines are those of the answers of the reference resolver, in order and once; of all where no stop was met, nothing
+  -- was lost and no record unwritten
   pub received : IsBeginning (answers_of lines) (answers window log proxy)
-  pub all_received : stop ≡ None → failure.lost ≡ false → answers_of lines ≡ answers window log proxy
-  -- whatever stop was met, the answers of the log without its last step are among them, unless something was lost
+  pub all_received : stop ≡ None → failure.lost ≡ false → failure.unwritten ≡ false → answers_of lines ≡ answers window log proxy
+  -- whatever stop was met, the answers of the log without its last step are among them, unless something was lost or unwritten
   pub all_before_last :
-      failure.lost ≡ false → (before : List Step) (last : Step) → log ≡ before ++ last ∷ []
+      failure.lost ≡ false → failure.unwritten ≡ false → (before : List Step) (last : Step) → log ≡ before ++ last ∷ []
       → IsBeginning (answers window before proxy) (answers_of lines)
   -- a transaction that they report as committed is committed
   pub reported :

@@ -6,7 +6,7 @@ use Rattle.replay_workers.proofs.worker.Worker.send.Given as goal
 abbrev pub invariant-loop : goal.invariant-loop
 invariant-loop g l = record {
   requests : PortGoesOn l.fn.self.requests l.self.requests;
-  inbox : InboxGoesOn l.fn.self.inbox l.self.inbox;
+  inbox : InboxGoesOn g.K.Keeper.kept l.fn.self.inbox l.self.inbox;
   sent : l.self.requests.sent ≡ l.fn.self.requests.sent;
   waiting : l.waiting ≡ l.fn.batch;
 }

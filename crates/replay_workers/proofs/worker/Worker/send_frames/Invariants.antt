@@ -10,7 +10,7 @@ use Rattle.replay_workers.proofs.worker.Worker.send_frames.Given as goal
 abbrev pub invariant-loop : goal.invariant-loop
 invariant-loop g l = record {
   requests : PortGoesOn l.fn.self.requests l.self.requests;
-  inbox : InboxGoesOn l.fn.self.inbox l.self.inbox;
+  inbox : InboxGoesOn g.K.Keeper.kept l.fn.self.inbox l.self.inbox;
   fresh : refusal_of l.frames ≡ None;
   steady : g.S.Source.failures (frames_reader l.frames) ≡ g.S.Source.failures (frames_reader l.fn.frames);
   sent : (batches : List Batch) × (l.self.requests.sent ≡ l.fn.self.requests.sent ++ batches)
