@@ -1,5 +1,5 @@
 -- A run, put together of what each worker has done and of what was settled.
-use Rattle.std.specs.Prelude.{◌≡◌, ℕ, Bool, true, false, ◌&&◌, List, length, map, Option, Some, None, IfSome, slice_get, vec_items}
+use Rattle.std.specs.Prelude.{◌≡◌, ℕ, Bool, true, false, ◌&&◌, List, length, map, Option, Some, None, IfSome, slice_get}
 use Rattle.std.specs.Option.{option_map}
 use Rattle.std.specs.List.{AllZip, All}
 use Rattle.std.proofs.Common.{sym, ap, subst, ◌∙◌, arith}
@@ -16,8 +16,8 @@ use Rattle.replay_output.specs.declared.line.Line.{Line}
 use Rattle.replay_output.specs.declared.options.Options.{Options}
 use Rattle.replay_workers.specs.declared.outcome.Outcome.{Outcome}
 use Rattle.replay_workers.specs.declared.worker.Finished.{Finished}
-use Rattle.replay_workers.specs.Worker.{HasWorked}
-use Rattle.replay_workers.specs.Threads.{given_each, HasWorkedOn, IsOutcomeOf, failure_of}
+use Rattle.replay_workers.specs.Worker.{HasWorked, failure_of}
+use Rattle.replay_workers.specs.Threads.{given_each, HasWorkedOn, IsOutcomeOf}
 use Rattle.replay_workers.specs.Run.{IsServed, LeavesBatch, IsRun, is_complete}
 use Rattle.replay_workers.specs.Stops.{IsStopOf}
 use Rattle.replay_workers.proofs.callers.Lists.{all_at, found}
@@ -28,31 +28,31 @@ pub mapped_at : {X Y : Type 0} (f : X → Y) (xs : List X) (place : ℕ) (x : X)
     → slice_get (map f xs) place ≡ Some (f x)
 mapped_at f xs place x at = slice_get-map f xs place ∙ ap (option_map f) at
 
-module _ {S : Type 0} (remaining : S → Option (List ℕ)) (options : Options) (share : ℕ) (readers : List S) (clients : List Client)
-    (finished : List Finished) (outcome : Outcome) (log : List Step) (lanes : List Lanes) (account : Account)
+module _ {S K : Type 0} (kept : K → List Line) (remaining : S → Option (List ℕ)) (options : Options) (share : ℕ) (readers : List S) (clients : List Client)
+    (finished : List (Finished K)) (outcome : Outcome K) (log : List Step) (lanes : List Lanes) (account : Account)
     (same : length readers ≡ length clients) (new : All (IsNewClient options.capacity) clients)
-    (worked : AllZip (HasWorkedOn remaining) (given_each options.form share 0 clients readers) finished)
+    (worked : AllZip (HasWorkedOn kept remaining) (given_each options.form share 0 clients readers) finished)
     (of_finished : IsOutcomeOf finished outcome)
-    (settled : Settled options.window log lanes (map (λ (f : Finished). f.client) finished) account)
+    (settled : Settled options.window log lanes (map (λ (f : Finished K). f.client) finished) account)
     (whole : account.stop ≡ None → account.complete ≡ true)
     (met : IfSome account.stop (IsStopOf options.limit options.window log)) where
   count : length finished ≡ length (map remaining readers)
-  count = finished_count remaining options.form share 0 clients readers finished same worked ∙ sym same
+  count = finished_count kept remaining options.form share 0 clients readers finished same worked ∙ sym same
       ∙ sym (length-map readers remaining)
 
-  served_at : (proxy : ℕ) (bytes : Option (List ℕ)) (f : Finished) → slice_get (map remaining readers) proxy ≡ Some bytes
+  served_at : (proxy : ℕ) (bytes : Option (List ℕ)) (f : Finished K) → slice_get (map remaining readers) proxy ≡ Some bytes
       → slice_get finished proxy ≡ Some f
-      → IsServed options.window options.form log (is_complete outcome account) account.stop bytes proxy f.lines.items (failure_of f)
+      → IsServed options.window options.form log (is_complete outcome account) account.stop bytes proxy (kept f.keeper) (failure_of f)
   served_at proxy bytes f at there =
-      let given = worked_at remaining options.form share 0 clients readers finished same worked proxy bytes f at there in
+      let given = worked_at kept remaining options.form share 0 clients readers finished same worked proxy bytes f at there in
       let client = all_at (IsNewClient options.capacity) clients proxy given.0 new given.1 in
-      let has_worked : HasWorked options.form proxy bytes given.0 f =
-      subst (λ (p : ℕ). HasWorked options.form p bytes given.0 f) (omega arith) given.2 in
-      let here = mapped_at (λ (f : Finished). f.client) finished proxy f there in
-      served options.window options.form log (has_ended lanes proxy) outcome.all_sent (sent_to lanes proxy) account
+      let has_worked : HasWorked kept options.form proxy bytes given.0 f =
+      subst (λ (p : ℕ). HasWorked kept options.form p bytes given.0 f) (omega arith) given.2 in
+      let here = mapped_at (λ (f : Finished K). f.client) finished proxy f there in
+      served kept options.window options.form log (has_ended lanes proxy) outcome.all_sent (sent_to lanes proxy) account
       bytes proxy given.0 f (ap (λ p. p.sent) client.requests) (ap (λ i. i.taken) client.replies) has_worked
       (settled.each proxy f.client here) (settled.reported proxy f.client here)
-      (λ all. all_at (λ (f : Finished). f.unsent ≡ None) finished proxy f (of_finished.all_sent all) there)
+      (λ all. all_at (λ (f : Finished K). f.unsent ≡ None) finished proxy f (of_finished.all_sent all) there)
       whole
 
   -- without a stop, what is missing is a batch that could not be sent
@@ -62,14 +62,14 @@ module _ {S : Type 0} (remaining : S → Option (List ℕ)) (options : Options) 
       let not_sent : outcome.all_sent ≡ false = sym (ap (λ (b : Bool). b && outcome.all_sent) yes) ∙ not_all in
       let back = of_finished.unsent not_sent in
       let bytes = found finished (map remaining readers) back.place back.worker (sym count) back.at in
-      let given = worked_at remaining options.form share 0 clients readers finished same worked back.place bytes.0 back.worker
+      let given = worked_at kept remaining options.form share 0 clients readers finished same worked back.place bytes.0 back.worker
       bytes.1 back.at in
       let client = all_at (IsNewClient options.capacity) clients back.place given.0 new given.1 in
-      let has_worked : HasWorked options.form back.place bytes.0 given.0 back.worker =
-      subst (λ (p : ℕ). HasWorked options.form p bytes.0 given.0 back.worker) (omega arith) given.2 in
+      let has_worked : HasWorked kept options.form back.place bytes.0 given.0 back.worker =
+      subst (λ (p : ℕ). HasWorked kept options.form p bytes.0 given.0 back.worker) (omega arith) given.2 in
       let settled_for = settled.each back.place back.worker.client
-      (mapped_at (λ (f : Finished). f.client) finished back.place back.worker back.at) in
-      let left = left_over options.window options.form log (has_ended lanes back.place) (sent_to lanes back.place) account bytes.0
+      (mapped_at (λ (f : Finished K). f.client) finished back.place back.worker back.at) in
+      let left = left_over kept options.window options.form log (has_ended lanes back.place) (sent_to lanes back.place) account bytes.0
       back.place given.0 back.worker back.batch (ap (λ p. p.sent) client.requests) has_worked settled_for yes back.unsent in
       record {
         proxy = back.place;
@@ -80,29 +80,29 @@ module _ {S : Type 0} (remaining : S → Option (List ℕ)) (options : Options) 
         read = left.1;
       }
 
-  pub is_run : IsRun options (map remaining readers) (map vec_items outcome.lines.items) outcome.failures.items
+  pub is_run : IsRun options (map remaining readers) (map kept outcome.keepers.items) outcome.failures.items
       (is_complete outcome account) account.stop
   is_run = record {
     log = log;
     proxies =
-        subst (λ (n : ℕ). TakesOnlyFrom n log) (length-map finished (λ (f : Finished). f.client) ∙ count)
+        subst (λ (n : ℕ). TakesOnlyFrom n log) (length-map finished (λ (f : Finished K). f.client) ∙ count)
         settled.proxies;
     received_count =
-        length-map outcome.lines.items vec_items ∙ ap length of_finished.lines
-        ∙ length-map finished (λ (f : Finished). f.lines) ∙ count;
+        length-map outcome.keepers.items kept ∙ ap length of_finished.keepers
+        ∙ length-map finished (λ (f : Finished K). f.keeper) ∙ count;
     failures_count = ap length of_finished.failures ∙ length-map finished failure_of ∙ count;
     each = λ proxy bytes lines failure at lines_at failure_at.
         let f = found (map remaining readers) finished proxy bytes count at in
-        let lines_here : slice_get (map vec_items outcome.lines.items) proxy ≡ Some f.0.lines.items =
-        mapped_at vec_items outcome.lines.items proxy f.0.lines
-        (ap (λ l. slice_get l proxy) of_finished.lines ∙ mapped_at (λ (f : Finished). f.lines) finished proxy f.0 f.1) in
+        let lines_here : slice_get (map kept outcome.keepers.items) proxy ≡ Some (kept f.0.keeper) =
+        mapped_at kept outcome.keepers.items proxy f.0.keeper
+        (ap (λ l. slice_get l proxy) of_finished.keepers ∙ mapped_at (λ (f : Finished K). f.keeper) finished proxy f.0 f.1) in
         let failure_here : slice_get outcome.failures.items proxy ≡ Some (failure_of f.0) =
         ap (λ l. slice_get l proxy) of_finished.failures ∙ mapped_at failure_of finished proxy f.0 f.1 in
         let here = served_at proxy bytes f.0 at f.1 in
         subst (λ (failure : ProxyFailure). IsServed options.window options.form log (is_complete outcome account) account.stop bytes proxy lines failure)
         (same_Some (failure_of f.0) failure (sym failure_here ∙ failure_at))
         (subst (λ (lines : List Line). IsServed options.window options.form log (is_complete outcome account) account.stop bytes proxy lines (failure_of f.0))
-        (same_Some f.0.lines.items lines (sym lines_here ∙ lines_at)) here);
+        (same_Some (kept f.0.keeper) lines (sym lines_here ∙ lines_at)) here);
     chain = settled.chain;
     serializable = settled.serializable;
     finish = λ none. settled.finish (whole none);

@@ -21,11 +21,11 @@ use Rattle.replay_workers.proofs.Runs.{is_run}
 use Rattle.replay_workers.proofs.running.run.Goals as goal
 
 -- nothing was handed back yet
-nothing_back : (outcome : Outcome) → outcome.clients.items ≡ [] → outcome.lines.items ≡ [] → outcome.failures.items ≡ []
+nothing_back : {K : Type 0} (outcome : Outcome K) → outcome.clients.items ≡ [] → outcome.keepers.items ≡ [] → outcome.failures.items ≡ []
     → outcome.all_sent ≡ true → IsOutcomeOf [] outcome
-nothing_back outcome clients lines failures all_sent = record {
+nothing_back outcome clients keepers failures all_sent = record {
   clients = clients;
-  lines = lines;
+  keepers = keepers;
   failures = failures;
   all_sent = λ _ k d inside. absurd (omega arith);
   unsent = λ none. absurd (false≢true (sym none ∙ all_sent));
@@ -34,7 +34,7 @@ nothing_back outcome clients lines failures all_sent = record {
 pub join_all-outcome-requires-clause-empty : goal.join_all-outcome-requires-clause-empty
 join_all-outcome-requires-clause-empty g c =
     let made = c.in_ok-outcome.ensures in
-    nothing_back c.in_ok-outcome.outcome made.clients made.lines made.failures made.all_sent
+    nothing_back c.in_ok-outcome.outcome made.clients made.keepers made.failures made.all_sent
 
 pub join_all-outcome-requires-clause-room : goal.join_all-outcome-requires-clause-room
 join_all-outcome-requires-clause-room g c =
@@ -53,14 +53,14 @@ settle-account-requires g c =
     let clients = c.in_ok-resolver.clients.items in
     let lanes = c.turn_to_end.new.resolver.lanes in
     let worked = c.join_all-outcome.ensures.worked in
-    let back = map (λ (f : Finished). f.client) worked.0 in
+    let back = map (λ (f : Finished g.row.K.Denot). f.client) worked.0 in
     let same : length readers ≡ length clients = omega (arith, c.in_ok-resolver.ensures.proxies, c.len-proxies.ensures) in
-    let handed = subst (λ given. AllZip (HasWorkedOn g.S.Source.remaining) given worked.0) c.in_ok-workers.ensures.given worked.1 in
+    let handed = subst (λ given. AllZip (HasWorkedOn g.K.Keeper.kept g.S.Source.remaining) given worked.0) c.in_ok-workers.ensures.given worked.1 in
     record {
       clients = subst (λ (clients : List Client). AreClients lanes clients)
           (sym (c.as_mut_slice.ensures.value ∙ worked.2.clients))
           (clients_go_on c.in_ok-resolver.resolver.lanes lanes clients back c.in_ok-resolver.ensures.clients
-          c.turn_to_end.ensures.lanes (clients_back g.S.Source.remaining c.args.options.form share 0 clients readers worked.0 same handed));
+          c.turn_to_end.ensures.lanes (clients_back g.K.Keeper.kept g.S.Source.remaining c.args.options.form share 0 clients readers worked.0 same handed));
     }
 
 pub returns : goal.returns
@@ -70,12 +70,12 @@ returns g c =
     let clients = c.in_ok-resolver.clients.items in
     let worked = c.join_all-outcome.ensures.worked in
     let same : length readers ≡ length clients = omega (arith, c.in_ok-resolver.ensures.proxies, c.len-proxies.ensures) in
-    let handed = subst (λ given. AllZip (HasWorkedOn g.S.Source.remaining) given worked.0) c.in_ok-workers.ensures.given worked.1 in
+    let handed = subst (λ given. AllZip (HasWorkedOn g.K.Keeper.kept g.S.Source.remaining) given worked.0) c.in_ok-workers.ensures.given worked.1 in
     let resolver = c.turn_to_end.new.resolver in
     let told = c.turn_to_end.ensures.accounted
     (accounted_new c.in_ok-resolver.resolver c.in_ok-resolver.ensures.stands c.in_ok-resolver.ensures.no_stop) in
     let account = c.settle-account.result in
-    let back = map (λ (f : Finished). f.client) worked.0 in
+    let back = map (λ (f : Finished g.row.K.Denot). f.client) worked.0 in
     let kept : to_z w64 (of_z w64 c.args.options.window) ≡ c.args.options.window =
     first_of (search rules, grind (arith, ints, to_z-of_z)) in
     let window_is = c.turn_to_end.ensures.goes_on.window ∙ c.in_ok-resolver.ensures.window ∙ kept in
@@ -89,7 +89,7 @@ returns g c =
     let now = c.settle-account.new.clients in
     let same_clients = subst (λ (l : List Client). SameClients l now) c.as_mut_slice.ensures.value
     c.settle-account.ensures.clients in
-    let all_ended = clients_ended g.S.Source.remaining
+    let all_ended = clients_ended g.K.Keeper.kept g.S.Source.remaining
     (given_each c.args.options.form share 0 clients readers) worked.0 handed in
     let whole : account.stop ≡ None → account.complete ≡ true = λ none.
     c.settle-account.ensures.complete.1 (record {
@@ -104,12 +104,12 @@ returns g c =
     (subst (λ (stop : Option Stop). IfSome stop (IsStopOf resolver.core.set.map.limit resolver.core.set.window told.log))
     (sym c.settle-account.ensures.stop) told.met)) in
     record {
-      run = is_run g.S.Source.remaining c.args.options share readers clients worked.0 c.join_all-outcome.result told.log resolver.lanes
+      run = is_run g.K.Keeper.kept g.S.Source.remaining c.args.options share readers clients worked.0 c.join_all-outcome.result told.log resolver.lanes
           account same c.in_ok-resolver.ensures.new_clients handed worked.2 settled whole met;
       capacity = subst (All (HasCapacity c.args.options.capacity))
           (sym (written_back outcome.clients.len now outcome.clients.items same_clients.count outcome.clients.ok.0))
           (capacities_stay c.args.options.capacity outcome.clients.items now same_clients
           (subst (All (HasCapacity c.args.options.capacity)) (sym worked.2.clients)
           (capacities c.args.options.capacity clients back c.in_ok-resolver.ensures.new_clients
-          (clients_back g.S.Source.remaining c.args.options.form share 0 clients readers worked.0 same handed))));
+          (clients_back g.K.Keeper.kept g.S.Source.remaining c.args.options.form share 0 clients readers worked.0 same handed))));
     }

@@ -27,9 +27,9 @@ loop-worker-preserved g c =
         before.1 ++ c.join.result ∷ [],
         append_assoc before.0 (given ∷ []) (map given_to rest)
             ∙ ap (λ workers. before.0 ++ map given_to workers) (sym c.in-Some.ensures.steps.0) ∙ before.2,
-        AllZip-also (HasWorkedOn g.S.Source.remaining) before.0 before.1 given c.join.result before.3 c.join.ensures,
+        AllZip-also (HasWorkedOn g.K.Keeper.kept g.S.Source.remaining) before.0 before.1 given c.join.result before.3 c.join.ensures,
         outcome_also before.1 c.loop-worker.outcome c.push.new.self c.join.result before.4 c.push.ensures.clients
-            c.push.ensures.lines c.push.ensures.failures c.push.ensures.all_sent c.push.ensures.sends_all,
+            c.push.ensures.keepers c.push.ensures.failures c.push.ensures.all_sent c.push.ensures.sends_all,
       );
       room = grind (arith, common_steps);
     }
@@ -42,7 +42,7 @@ returns g c =
     record {
       worked = (
         before.1,
-        subst (λ given. AllZip (HasWorkedOn g.S.Source.remaining) given before.1) whole before.3,
+        subst (λ given. AllZip (HasWorkedOn g.K.Keeper.kept g.S.Source.remaining) given before.1) whole before.3,
         before.4,
       );
     }

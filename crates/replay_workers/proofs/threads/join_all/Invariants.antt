@@ -8,8 +8,8 @@ use Rattle.replay_workers.proofs.threads.join_all.Given as goal
 
 abbrev pub invariant-loop-worker : goal.invariant-loop-worker
 invariant-loop-worker g l = record {
-  joined : (given : List (Given g.row.S.Denot)) × (finished : List Finished)
+  joined : (given : List (Given g.row.S.Denot)) × (finished : List (Finished g.row.K.Denot))
       × (given ++ map given_to (into_iter_items l.worker-iterator) ≡ map given_to l.fn.workers.items)
-      × AllZip (HasWorkedOn g.S.Source.remaining) given finished × IsOutcomeOf finished l.outcome;
+      × AllZip (HasWorkedOn g.K.Keeper.kept g.S.Source.remaining) given finished × IsOutcomeOf finished l.outcome;
   room : vec_len l.outcome.clients + into_iter_len l.worker-iterator ≤ vec_capacity l.outcome.clients;
 }

@@ -12,4 +12,6 @@ invariant-loop-client g l = record {
       ≡ given_each l.form l.share 0 l.fn.clients.items l.fn.readers.items;
   room : vec_len l.tasks + into_iter_len l.client-iterator ≤ vec_capacity l.tasks;
   readers : into_iter_len l.readers ≡ into_iter_len l.client-iterator;
+  count : into_iter_len l.keepers ≡ into_iter_len l.client-iterator;
+  keepers : map (λ task. task.keeper) l.tasks.items ++ into_iter_items l.keepers ≡ l.fn.keepers.items;
 }
