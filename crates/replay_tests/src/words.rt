@@ -57,9 +57,12 @@ fn push_options(alloc: Global, text: &mut String, line: &CommandLine) -> Result<
         Form::Json => " json",
         Form::Kept => " check",
     })?;
-    for replies in &line.replies {
+    if line.is_streamed {
+        text.push_str(" stream")?;
+    }
+    for name in line.replies.iter().chain(&line.records) {
         text.push(' ')?;
-        text.push_str(replies)?;
+        text.push_str(name)?;
     }
     Ok(())
 }
@@ -131,6 +134,10 @@ fn refused_words(rt: HostRuntime) -> Result<(), Fail> {
         "- -",
         "f - g -",
         "--check - -",
+        "--stream --check r f",
+        "--replies o f",
+        "--stream --replies o f g",
+        "--stream --stream f",
         "-- - -",
     ] {
         refuses(&rt, given)?;
@@ -155,6 +162,15 @@ fn reasons_of_refusals(rt: HostRuntime) -> Result<(), Fail> {
             "- f -",
             "error: standard input, -, is wanted at most once\n",
         ),
+        (
+            "--stream --check r f",
+            "error: --stream is wanted without --check\n",
+        ),
+        ("--replies o f", "error: --replies OUT is wanted with --stream\n"),
+        (
+            "--stream --replies o f g",
+            "error: --replies OUT is wanted once a file\n",
+        ),
         (many.as_str(), "error: from 1 to 64 files are wanted\n"),
     ] {
         let end = end_of(rt.alloc(), given)?;
@@ -178,6 +194,11 @@ fn words_and_options(rt: HostRuntime) -> Result<(), Fail> {
             "a b | 1 1 1 frames",
         ),
         ("--json a", "a | 16 5000000 1000000 json"),
+        ("--stream a", "a | 16 5000000 1000000 stream"),
+        (
+            "a --frames --stream --replies o --replies=p b",
+            "a b | 16 5000000 1000000 frames stream o p",
+        ),
         (
             "--check r a b --check=s",
             "a b | 16 5000000 1000000 check r s",
