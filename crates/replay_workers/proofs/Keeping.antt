@@ -1,7 +1,7 @@
 -- What an inbox keeps as it takes one answer more.
 use Rattle.std.specs.Prelude.{◌≡◌, ℕ, Bool, true, false, List, [], ◌∷◌, ◌++◌}
 use Rattle.std.specs.List.{All}
-use Rattle.std.proofs.Common.{refl, sym, ap, subst, ◌∙◌, append_assoc, append-nil}
+use Rattle.std.proofs.Common.{refl, sym, ap, subst, ◌∙◌, append_assoc, append-nil, length, length-append, arith}
 use Rattle.std.proofs.lemmas.Bool.{false≢true}
 use Rattle.std.proofs.lemmas.List.{map-append}
 use Rattle.std.proofs.lemmas.List.Elements.{All-push}
@@ -79,6 +79,14 @@ item_kept first old new replies answer goes on took same_replies same_proxy same
       (sym same_proxy)
       (subst (λ (f : Form). KeepsLines f old.proxy before (old.replies.taken ++ answer ∷ []) new.lines.items new.lost)
       (sym same_form) also));
+  answers =
+      omega (
+        arith,
+        goes.answers,
+        length-append old.replies.taken (answer ∷ []),
+        ap length took,
+        ap (λ (r : IntakeView Answer). length r.taken) same_replies,
+      );
 }
 
 pub inbox_goes_on : (a b c : Inbox) → InboxGoesOn a b → InboxGoesOn b c → InboxGoesOn a c
@@ -87,4 +95,5 @@ inbox_goes_on a b c first second = record {
   proxy = second.proxy ∙ first.proxy;
   form = second.form ∙ first.form;
   lines = λ before keeps. second.lines before (first.lines before keeps);
+  answers = omega (arith, first.answers, second.answers);
 }

@@ -1,5 +1,5 @@
 -- What an inbox keeps. This project's own.
-use Rattle.std.specs.Prelude.{◌≡◌, ℕ, Bool, false, List, [], ◌++◌}
+use Rattle.std.specs.Prelude.{◌≡◌, ℕ, ◌≤◌, Bool, false, List, [], ◌++◌, length}
 use Rattle.std.specs.List.{All}
 use Rattle.keyspace.specs.declared.answer.Answer.{Answer}
 use Rattle.lane.specs.Lane.{IntakeGoesOn}
@@ -26,3 +26,4 @@ pub record InboxGoesOn (old new : Inbox) : Type 0 where
   pub proxy : new.proxy ≡ old.proxy
   pub form : new.form ≡ old.form
   pub lines : (before : List Answer) → Keeps before old → Keeps before new
+  pub answers : length old.replies.taken ≤ length new.replies.taken

@@ -1,5 +1,5 @@
 -- What a worker does. This project's own.
-use Rattle.std.specs.Prelude.{◌≡◌, ◌≢◌, ℕ, ◌<◌, ◌≤◌, ◌⊎◌, true, List, [], ◌∷◌, ◌++◌, length, Option, None, Some, IfSome, option_to_list}
+use Rattle.std.specs.Prelude.{◌≡◌, ◌≢◌, ℕ, ◌<◌, ◌≤◌, ◌⊎◌, true, List, [], ◌∷◌, ◌++◌, length, Option, None, Some, IfSome, option_to_list, slice_get}
 use Rattle.std.specs.Io.KnownBytes.{IsAtEnd}
 use Rattle.keyspace.specs.declared.batch.Batch.{Batch}
 use Rattle.keyspace.specs.declared.answer.Answer.{Answer}
@@ -67,6 +67,18 @@ pub record HasWorked (form : Form) (proxy : ℕ) (bytes : Option (List ℕ)) (gi
       KeepsLines form proxy given.replies.taken finished.client.replies.taken finished.lines.items finished.lost
   pub closed : finished.client.requests.closed ≡ true
   pub ended : HasEnded finished.client.replies
+
+-- A batch may be sent at this index after so many answers: the share isn't used up, or the batch is let through.
+abbrev pub MaySend : (ℕ → Stand → Type 0) → ℕ → ℕ → ℕ → ℕ → Batch → Type 0
+MaySend lets_through share proxy index answered batch =
+    (unanswered index answered < share)
+    ⊎ lets_through proxy (record { previous = batch.previous; answered = answered })
+
+-- Each batch from this index on was sent when it might be, after answers that are among these.
+abbrev pub SendsWithinShare : (ℕ → Stand → Type 0) → ℕ → ℕ → ℕ → List Batch → List Answer → Type 0
+SendsWithinShare lets_through share proxy first sent taken =
+    (index : ℕ) (batch : Batch) → first ≤ index → slice_get sent index ≡ Some batch →
+    (answered : ℕ) × (answered ≤ length taken) × MaySend lets_through share proxy index answered batch
 
 -- by what these ends have sent and taken, the share isn't used up
 abbrev pub IsBelowShare : ℕ → PortView Batch → IntakeView Answer → Type 0

@@ -6,7 +6,7 @@ ghost use Rattle.lane.specs.Lane.{PortGoesOn};
 ghost use Rattle.lane.specs.Refused.{item_of};
 ghost use Rattle.wire.specs.Frames.{frames_reader, refusal_of};
 ghost use Rattle.replay_workers.specs.Inbox.{Keeps, InboxGoesOn};
-ghost use Rattle.replay_workers.specs.Worker.{HasWorked, SendsFrames, CannotSend, IsBelowShare, fault_of, stand_with, unsent_of};
+ghost use Rattle.replay_workers.specs.Worker.{HasWorked, SendsFrames, CannotSend, IsBelowShare, MaySend, SendsWithinShare, fault_of, stand_with, unsent_of};
 
 use crate::gatekeeper::{Gatekeeper, ShareKeeper};
 use crate::inbox::Inbox;
@@ -82,6 +82,8 @@ pub fn work<S: Source + Drop, G: Gatekeeper + ShareKeeper, R: Wait>(
     gatekeeper: &G,
 ) -> Finished
     ensures worked { HasWorked assignment.form assignment.proxy (S.remaining reader) client result }
+    ensures within_share { SendsWithinShare (G.lets_through gatekeeper.now) assignment.share assignment.proxy
+        (length client.requests.sent) result.client.requests.sent result.client.replies.taken }
 {
     let mut worker = Worker::new(alloc, assignment, client);
     let end = worker.send_frames(rt, gatekeeper, &mut read_frames(alloc, reader));
@@ -98,6 +100,7 @@ impl Worker {
         ensures proxy { result.inbox.proxy ≡ assignment.proxy }
         ensures form { result.inbox.form ≡ assignment.form }
         ensures share { result.share ≡ assignment.share }
+        ensures own_proxy { result.proxy ≡ assignment.proxy }
         ensures lines { Keeps client.replies.taken result.inbox }
     {
         let Assignment { proxy, share, form } = assignment;
@@ -126,6 +129,8 @@ impl Worker {
         ensures read { fault_of result ≡ Some WireError.Read
             ↔ (S.failures (frames_reader frames.old) < S.failures (frames_reader frames.new)) }
         ensures unsent { IsSome (unsent_of result) → CannotSend self.new.requests self.new.inbox.replies }
+        ensures within_share { SendsWithinShare (G.lets_through gatekeeper.now) self.old.share self.old.proxy
+            (length self.old.requests.sent) self.new.requests.sent self.new.inbox.replies.taken }
     {
         for _ in rt.forever() {
             match frames.next() {
@@ -155,6 +160,10 @@ impl Worker {
         ensures unchanged { OnErr result (self.new.requests.sent ≡ self.old.requests.sent) }
         ensures handed_back { IfErr result (λ unsent. unsent ≡ batch) }
         ensures gives_up { OnErr result (CannotSend self.new.requests self.new.inbox.replies) }
+        ensures may_send { OnOk result (MaySend (G.lets_through gatekeeper.now) self.old.share self.old.proxy
+            (length self.old.requests.sent) (length self.new.inbox.replies.taken) batch) }
+        ensures share { self.new.share ≡ self.old.share }
+        ensures proxy { self.new.proxy ≡ self.old.proxy }
     {
         let mut waiting = batch;
         for _ in rt.forever() {
@@ -184,8 +193,10 @@ impl Worker {
         ensures handed_back { IfErr result (λ refused. item_of refused ≡ batch) }
         ensures closed { result ≡ Err (Refused.Closed batch) → self.new.requests.closed ≡ true }
         ensures worn { result ≡ Err (Refused.Worn batch) → MAX_SENT ≤ length self.new.requests.sent }
-        ensures share { OnOk result (IsBelowShare self.old.share self.old.requests self.old.inbox.replies
-            ⊎ G.lets_through gatekeeper.now self.old.proxy (stand_with batch self.old.inbox.replies)) }
+        ensures may_send { OnOk result (MaySend (G.lets_through gatekeeper.now) self.old.share self.old.proxy
+            (length self.old.requests.sent) (length self.old.inbox.replies.taken) batch) }
+        ensures share { self.new.share ≡ self.old.share }
+        ensures proxy { self.new.proxy ≡ self.old.proxy }
     {
         if !self.may_send(gatekeeper, &batch) {
             return Err(Refused::Full(batch));

@@ -9,4 +9,6 @@ invariant-loop g l = record {
   inbox : InboxGoesOn l.fn.self.inbox l.self.inbox;
   sent : l.self.requests.sent ≡ l.fn.self.requests.sent;
   waiting : l.waiting ≡ l.fn.batch;
+  share : l.self.share ≡ l.fn.self.share;
+  proxy : l.self.proxy ≡ l.fn.self.proxy;
 }

@@ -1,8 +1,9 @@
-use Rattle.std.proofs.Common.{◌++◌, [], ◌∷◌, rules, sym, ap, subst, ◌∙◌, append_assoc, List}
+use Rattle.std.proofs.Common.{◌++◌, [], ◌∷◌, ℕ, length, rules, refl, sym, ap, subst, ◌∙◌, append_assoc, arith, List}
 use Rattle.keyspace.specs.declared.batch.Batch.{Batch}
 use Rattle.wire.specs.Frames.{frames_reader}
-use Rattle.replay_workers.specs.Worker.{TakesFrames}
+use Rattle.replay_workers.specs.Worker.{MaySend, TakesFrames}
 use Rattle.replay_workers.proofs.Reading.{takes_also}
+use Rattle.replay_workers.proofs.Sharing.{none_yet, one_more, later}
 use Rattle.replay_workers.proofs.worker.Worker.send_frames.Goals as goal
 
 pub returns-in-Err-send-clause-sent : goal.returns-in-Err-send-clause-sent
@@ -38,4 +39,22 @@ loop-preserved g c =
             ∙ append_assoc _ before.sent.0 (c.in-Ok-Some.batch ∷ []),
         takes_also _ (g.S.Source.remaining (frames_reader c.loop.frames)) left before.sent.0 c.in-Ok-Some.batch before.sent.2 frame,
       );
+      share = c.send-in-loop.ensures.share ∙ before.share;
+      proxy = c.send-in-loop.ensures.proxy ∙ before.proxy;
+      within_share = one_more _ _ _ _ c.loop.self.requests.sent _ _ _ c.in-Ok-Some.batch c.in_default.ensures.sent
+          c.send-in-loop.ensures.inbox.answers before.within_share
+          (subst (λ (s : ℕ). MaySend _ s c.args.self.now.proxy _ _ _) before.share
+          (subst (λ (p : ℕ). MaySend _ c.loop.self.share p _ _ _) before.proxy c.in_default.ensures.may_send));
     }
+
+pub loop-init : goal.loop-init
+loop-init g c = record {
+  requests = search rules;
+  inbox = search rules;
+  fresh = search rules;
+  steady = search rules;
+  sent = search rules;
+  share = refl;
+  proxy = refl;
+  within_share = none_yet _ _ _ _ _ _ (omega arith);
+}
