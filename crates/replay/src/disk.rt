@@ -55,6 +55,8 @@ impl<R: fs::Files<File = File> + AllocGlobal> Files for Disk<'_, R> {
 
     ghost cannot_open = { λ _ _. ⊤ };
 
+    ghost lacks_memory = { λ _ _. ⊤ };
+
     fn open(&self, name: &str) -> Result<StdSource<BufReader<Input>>, FileError> {
         let input = self.input(name)?;
         let reader = BufReader::new(self.rt.alloc(), input).map_err(|_| FileError::Memory)?;

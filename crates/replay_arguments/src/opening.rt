@@ -1,6 +1,7 @@
 //! The files of a command line, opened before anything else is done.
 
-ghost use Rattle.std.specs.Prelude.{◌≡◌, ◌↔◌, ◌<◌, ◌≤◌, ◌⊎◌, ℕ, map, IfOk, IsErr, OnOk};
+ghost use Rattle.std.specs.Prelude.{◌≡◌, ◌↔◌, ◌<◌, ◌≤◌, ◌⊎◌, ℕ, [], map, length, vec_capacity};
+ghost use Rattle.std.specs.Prelude.{IfOk, IsErr, OnOk};
 ghost use Rattle.std.specs.Io.KnownBytes.{Appends};
 ghost use Rattle.replay_arguments.specs.Opening.{IsFirstRefused, contents_each, opening_line};
 
@@ -47,14 +48,39 @@ pub fn open_files<F: Files>(
     ensures refused { (proxy : ℕ) → result ≡ Err (OpeningError.CannotOpen proxy)
         → IsFirstRefused (F.has_opened files.now) (F.cannot_open files.now)
         (map (λ name. name.now) names.now) proxy }
+    ensures memory { result ≡ Err OpeningError.Memory → 0 < length names.now }
 {
-    let mut readers = Vec::with_capacity(alloc, names.len()).map_err(|_| OpeningError::Memory)?;
+    let readers = Vec::with_capacity(alloc, names.len()).map_err(|_| OpeningError::Memory)?;
+    open_each(files, names, readers)
+}
+
+// Opens them all, into an empty vector with room for their readers. Takes no memory but in the
+// opening of a file.
+fn open_each<F: Files>(
+    files: &F,
+    names: &[&str],
+    room: Vec<F::Reader>,
+) -> Result<Vec<F::Reader>, OpeningError>
+    requires empty { room.items ≡ [] }
+    requires each { length names.now ≤ vec_capacity room }
+    ensures contents { IfOk result (λ readers.
+        map F.Reader.remaining readers.items
+        ≡ contents_each (F.contents files.now) (map (λ name. name.now) names.now)) }
+    ensures refused { (proxy : ℕ) → result ≡ Err (OpeningError.CannotOpen proxy)
+        → IsFirstRefused (F.has_opened files.now) (F.cannot_open files.now)
+        (map (λ name. name.now) names.now) proxy }
+    // A file that can't be opened isn't reported as a failed allocation.
+    ensures memory { result ≡ Err OpeningError.Memory → (proxy : ℕ)
+        × IsFirstRefused (F.has_opened files.now) (F.lacks_memory files.now)
+        (map (λ name. name.now) names.now) proxy }
+{
+    let mut readers = room;
     for (proxy, name) in names.iter().enumerate() {
         let reader = match files.open(name) {
             Ok(reader) => reader,
             Err(error) => return Err(OpeningError::new(proxy, error)),
         };
-        readers.push(reader).map_err(|_| OpeningError::Memory)?;
+        readers.push_reserved(reader);
     }
     Ok(readers)
 }

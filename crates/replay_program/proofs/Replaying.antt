@@ -83,11 +83,11 @@ module _ (options : Options) (files : List (Option (List ℕ))) (received : List
             let failure = found files failures proxy bytes run.failures_count at in
             let clean = all_at IsClean failures proxy failure.0 nothing.proxies failure.1 in
             let served = run.each proxy bytes ls.0 failure.0 at ls.1 failure.1 in
-            let all = served.all_batches whole clean.0 in
+            let all = served.all_batches whole in
             record {
               left = served.left;
-              frames = subst (λ (l : List Batch). TakesFrames bytes served.left l) all.0 served.frames_read;
-              at_end = all.1;
+              frames = subst (λ (l : List Batch). TakesFrames bytes served.left l) all served.frames_read;
+              at_end = served.all_read all clean.0;
             };
         chain = run.chain;
         serializable = run.serializable;

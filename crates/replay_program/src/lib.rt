@@ -28,5 +28,5 @@ pub use replay_output::{
     fail_to_start, print_answers, print_report,
 };
 pub use replay_workers::{
-    AlwaysOpen, Assignment, Finished, Gatekeeper, ShareKeeper, Unshared, work,
+    AlwaysOpen, Assignment, Finished, Gatekeeper, MostUnanswered, ShareKeeper, Unshared, work,
 };

@@ -61,9 +61,8 @@ pub fn replay_over<
         all_sent,
         ..
     } = outcome;
-    // Without a stop no run leaves a batch unsent: a worker hands one back only where its answers
-    // have ended before. That isn't to be seen in what its lanes were given, so such a run counts
-    // as incomplete.
+    // Without a stop, a worker hands a batch back only once its lane has taken as many batches as a
+    // lane takes.
     let ending = Ending::new(account.complete && all_sent, account.stop);
     print_report(alloc, out, error, &mut lines, &mut failures, ending).status
 }

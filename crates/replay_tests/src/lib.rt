@@ -6,7 +6,8 @@
 //! their share; `meeting` holds back two proxies that wait for each other, `watching` when one is
 //! admitted, and `stalling` a reader. `workers` looks at a worker alone, and the others at the
 //! command line and at what is printed. `shell` and `shell_failures` run the complete program, over
-//! the arguments of an environment and the files of a `shelf`, and `checks` those that compare with
+//! the arguments of an environment and the files of a `shelf`, `flushing` over streams that hold all
+//! bytes until they are flushed, and `checks` those that compare with
 //! the replies of another resolver. The tests of `memory` pass whichever one growth is refused;
 //! `.ci/refused-memory` refuses each in turn.
 //!
@@ -29,6 +30,8 @@ mod failing;
 mod failures;
 #[cfg(test)]
 mod files;
+#[cfg(test)]
+mod flushing;
 #[cfg(test)]
 mod lines;
 #[cfg(test)]

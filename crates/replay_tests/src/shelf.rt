@@ -78,6 +78,8 @@ impl Files for Shelf {
 
     ghost cannot_open = { λ _ _. ⊤ };
 
+    ghost lacks_memory = { λ _ _. ⊤ };
+
     fn open(&self, name: &str) -> Result<StdSource<Recorded>, FileError> {
         let Some((_, bytes)) = self.files.iter().find(|(known, _)| *known == name) else {
             return Err(FileError::CannotOpen);

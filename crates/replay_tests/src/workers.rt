@@ -79,13 +79,13 @@ fn send_two(replies: &mut Port<Answer>) -> bool {
 }
 
 // Works on a file with two answers in the reply lane, which is closed. Returns what the worker
-// returns, in words, and whether it has sent nothing and closed its lane.
+// returns, in words, and whether it has closed its lane, if it has sent nothing.
 fn told(
     rt: &impl Wait,
     alloc: Global,
     connected: Connected,
     file: Vec<u8>,
-) -> (Result<String, Unmade>, bool) {
+) -> (Result<String, Unmade>, Option<bool>) {
     let Connected {
         client,
         mut requests,
@@ -100,49 +100,54 @@ fn told(
         reader(file),
         &Unshared(AlwaysOpen),
     );
-    let has_ended = matches!(requests.take(), Taken::End);
-    (handed_back(alloc, &finished), are_sent && has_ended)
+    let is_closed = match requests.take() {
+        Taken::End if are_sent => Some(true),
+        Taken::Empty if are_sent => Some(false),
+        _ => None,
+    };
+    (handed_back(alloc, &finished), is_closed)
 }
 
 // The same over new lanes.
-fn worked(rt: &impl Wait, alloc: Global, file: Vec<u8>) -> Result<(String, bool), Unmade> {
+fn worked(rt: &impl Wait, alloc: Global, file: Vec<u8>) -> Result<(String, Option<bool>), Unmade> {
     let connected = connect(alloc)?;
-    let (text, has_ended) = told(rt, alloc, connected, file);
-    Ok((text?, has_ended))
+    let (text, is_closed) = told(rt, alloc, connected, file);
+    Ok((text?, is_closed))
 }
 
-// Works on the file, and compares what the worker returns after the lines of the two answers. It
-// sends nothing.
+// Works on the file, and compares what the worker returns after the lines of the two answers, and
+// whether it closes its lane. It sends nothing.
 fn hands_back(
     rt: &(impl Abort + Wait),
     alloc: Global,
     file: Vec<u8>,
     expected: &str,
+    closes: bool,
 ) -> Result<(), Fail> {
-    let (text, has_ended) = worked(rt, alloc, file)?;
+    let (text, is_closed) = worked(rt, alloc, file)?;
     assert_eq!(rt;
         text.as_str().strip_prefix("0 1 never\n0 2 held\n"),
         Some(expected)
     );
-    assert!(rt; has_ended);
+    assert_eq!(rt; is_closed, Some(closes));
     Ok(())
 }
 
 #[test]
 fn answers_after_fault(rt: HostRuntime) -> Result<(), Fail> {
     let file = file_of(rt.alloc(), &[], b"\0")?;
-    hands_back(&rt, rt.alloc(), file, "fault 1 Short\n")
+    hands_back(&rt, rt.alloc(), file, "fault 1 Short\n", true)
 }
 
 #[test]
 fn answers_after_end_of_file(rt: HostRuntime) -> Result<(), Fail> {
-    hands_back(&rt, rt.alloc(), Vec::new(rt.alloc()), "")
+    hands_back(&rt, rt.alloc(), Vec::new(rt.alloc()), "", true)
 }
 
 #[test]
 fn stops_sending_at_end_of_answers(rt: HostRuntime) -> Result<(), Fail> {
     let file = file_of(rt.alloc(), &["-1>0"], b"")?;
-    hands_back(&rt, rt.alloc(), file, "unsent 0\n")
+    hands_back(&rt, rt.alloc(), file, "unsent 0\n", false)
 }
 
 // Takes batches up to the end of the lane, and then closes the replies. Returns whether there are
@@ -200,7 +205,11 @@ fn sends_every_batch_in_order(rt: HostRuntime) -> Result<(), Fail> {
                 reader(file),
                 &Unshared(AlwaysOpen),
             );
-            finished.lines.is_empty() && finished.fault.is_none() && finished.unsent.is_none()
+            // Without answers, four batches are within the share. The others are admitted.
+            finished.lines.is_empty()
+                && finished.fault.is_none()
+                && finished.unsent.is_none()
+                && finished.most_unanswered.count() == 4
         },
         || takes_versions(&rt, requests, replies, 20),
     );

@@ -6,13 +6,15 @@ use Rattle.std.proofs.lemmas.Bool.{false≢true}
 use Rattle.std.proofs.lemmas.List.{map-append}
 use Rattle.std.proofs.lemmas.List.Elements.{All-push}
 use Rattle.keyspace.specs.declared.answer.Answer.{Answer}
-use Rattle.lane.specs.Lane.{IntakeView, IntakeGoesOn}
+use Rattle.lane.specs.Lane.{IntakeView}
 use Rattle.replay_output.specs.declared.options.form.Form.{Form}
+use Rattle.replay_workers.specs.declared.ends.Ends.{Ends}
 use Rattle.replay_workers.specs.declared.inbox.Inbox.{Inbox}
 use Rattle.replay_output.specs.declared.line.Line.{Line}
 use Rattle.replay_output.specs.Line.{answer_of, answers_of, IsLineOf}
+use Rattle.replay_workers.specs.Ends.{EndsGoOn}
 use Rattle.replay_workers.specs.Inbox.{KeepsLines, InboxGoesOn}
-use Rattle.replay_workers.proofs.SameLanes.{intake_goes_on}
+use Rattle.replay_workers.proofs.SameLanes.{ends_go_on}
 
 -- the answer's line was kept, behind the others
 abbrev pub IsKept : Form → ℕ → List Line → List Line → Answer → Type 0
@@ -57,34 +59,53 @@ module _ (form : Form) (proxy : ℕ) (before now : List Answer) (answer : Answer
   keeps_also true false keeps stays lost kept = absurd (false≢true (stays refl))
   keeps_also false false keeps stays lost kept = kept_also keeps (kept refl)
 
-pub item_kept : (first old new : Inbox) (replies : IntakeView Answer) (answer : Answer) → InboxGoesOn first old
-    → IntakeGoesOn old.replies replies → replies.taken ≡ old.replies.taken ++ answer ∷ [] → new.replies ≡ replies
+pub item_kept : (first old new : Inbox) (ends : Ends) (answer : Answer) → InboxGoesOn first old
+    → EndsGoOn old.ends ends → ends.replies.taken ≡ old.ends.replies.taken ++ answer ∷ [] → new.ends ≡ ends
     → new.proxy ≡ old.proxy → new.form ≡ old.form → (old.lost ≡ true → new.lost ≡ true)
     → (new.lost ≡ true → new.lines.items ≡ old.lines.items)
     → (new.lost ≡ false → IsKept old.form old.proxy old.lines.items new.lines.items answer) → InboxGoesOn first new
-item_kept first old new replies answer goes on took same_replies same_proxy same_form stays lost kept = record {
-  replies =
-      intake_goes_on first.replies old.replies new.replies goes.replies
-      (subst (λ (r : IntakeView Answer). IntakeGoesOn old.replies r) (sym same_replies) on);
+item_kept first old new ends answer goes on took same_ends same_proxy same_form stays lost kept = record {
+  ends =
+      ends_go_on first.ends old.ends new.ends goes.ends
+      (subst (λ (e : Ends). EndsGoOn old.ends e) (sym same_ends) on);
   proxy = same_proxy ∙ goes.proxy;
   form = same_form ∙ goes.form;
   lines = λ before keeps.
       let also =
-      keeps_also old.form old.proxy before old.replies.taken answer old.lines.items new.lines.items old.lost new.lost
+      keeps_also old.form old.proxy before old.ends.replies.taken answer old.lines.items new.lines.items old.lost new.lost
       (goes.lines before keeps) stays lost kept in
-      let taken : old.replies.taken ++ answer ∷ [] ≡ new.replies.taken =
-      sym took ∙ ap (λ (r : IntakeView Answer). r.taken) (sym same_replies) in
+      let taken : old.ends.replies.taken ++ answer ∷ [] ≡ new.ends.replies.taken =
+      sym took ∙ ap (λ (e : Ends). e.replies.taken) (sym same_ends) in
       subst (λ (now : List Answer). KeepsLines new.form new.proxy before now new.lines.items new.lost) taken
-      (subst (λ (p : ℕ). KeepsLines new.form p before (old.replies.taken ++ answer ∷ []) new.lines.items new.lost)
+      (subst (λ (p : ℕ). KeepsLines new.form p before (old.ends.replies.taken ++ answer ∷ []) new.lines.items new.lost)
       (sym same_proxy)
-      (subst (λ (f : Form). KeepsLines f old.proxy before (old.replies.taken ++ answer ∷ []) new.lines.items new.lost)
+      (subst (λ (f : Form). KeepsLines f old.proxy before (old.ends.replies.taken ++ answer ∷ []) new.lines.items new.lost)
       (sym same_form) also));
 }
 
 pub inbox_goes_on : (a b c : Inbox) → InboxGoesOn a b → InboxGoesOn b c → InboxGoesOn a c
 inbox_goes_on a b c first second = record {
-  replies = intake_goes_on a.replies b.replies c.replies first.replies second.replies;
+  ends = ends_go_on a.ends b.ends c.ends first.ends second.ends;
   proxy = second.proxy ∙ first.proxy;
   form = second.form ∙ first.form;
   lines = λ before keeps. second.lines before (first.lines before keeps);
 }
+
+-- the ends were used otherwise than to take answers
+pub with_ends : (old new : Inbox) → EndsGoOn old.ends new.ends → new.ends.replies ≡ old.ends.replies
+    → new ≡ record old { ends = new.ends } → InboxGoesOn old new
+with_ends old new on same is = subst (InboxGoesOn old) (sym is) (record {
+  ends = on;
+  proxy = refl;
+  form = refl;
+  lines = λ before keeps.
+      subst (λ (r : IntakeView Answer). KeepsLines old.form old.proxy before r.taken old.lines.items old.lost) (sym same)
+      keeps;
+})
+
+-- answers were taken, and then a batch was sent, or not
+pub sends_on : (first old taken new : Inbox) → InboxGoesOn first old → InboxGoesOn old taken
+    → EndsGoOn taken.ends new.ends → new.ends.replies ≡ taken.ends.replies → new ≡ record taken { ends = new.ends }
+    → InboxGoesOn first new
+sends_on first old taken new goes takes on same is =
+    inbox_goes_on first old new goes (inbox_goes_on old taken new takes (with_ends taken new on same is))

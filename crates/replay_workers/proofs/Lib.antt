@@ -7,3 +7,4 @@ pub mod Watching
 pub mod Stopping
 pub mod Runs
 pub mod Keeping
+pub mod Ending

@@ -50,7 +50,8 @@ module _ {S : Type 0} (remaining : S → Option (List ℕ)) (options : Options) 
       subst (λ (p : ℕ). HasWorked options.form p bytes given.0 f) (omega arith) given.2 in
       let here = mapped_at (λ (f : Finished). f.client) finished proxy f there in
       served options.window options.form log (has_ended lanes proxy) outcome.all_sent (sent_to lanes proxy) account
-      bytes proxy given.0 f (ap (λ p. p.sent) client.requests) (ap (λ i. i.taken) client.replies) has_worked
+      bytes proxy given.0 f (ap (λ p. p.sent) client.requests) (ap (λ p. p.closed) client.requests)
+      (ap (λ i. i.taken) client.replies) has_worked
       (settled.each proxy f.client here) (settled.reported proxy f.client here)
       (λ all. all_at (λ (f : Finished). f.unsent ≡ None) finished proxy f (of_finished.all_sent all) there)
       whole
@@ -70,7 +71,8 @@ module _ {S : Type 0} (remaining : S → Option (List ℕ)) (options : Options) 
       let settled_for = settled.each back.place back.worker.client
       (mapped_at (λ (f : Finished). f.client) finished back.place back.worker back.at) in
       let left = left_over options.window options.form log (has_ended lanes back.place) (sent_to lanes back.place) account bytes.0
-      back.place given.0 back.worker back.batch (ap (λ p. p.sent) client.requests) has_worked settled_for yes back.unsent in
+      back.place given.0 back.worker back.batch (ap (λ p. p.sent) client.requests) (ap (λ p. p.closed) client.requests) has_worked settled_for
+      yes back.unsent in
       record {
         proxy = back.place;
         bytes = bytes.0;
@@ -78,6 +80,7 @@ module _ {S : Type 0} (remaining : S → Option (List ℕ)) (options : Options) 
         batch = back.batch;
         left = left.0;
         read = left.1;
+        worn = left.2;
       }
 
   pub is_run : IsRun options (map remaining readers) (map vec_items outcome.lines.items) outcome.failures.items

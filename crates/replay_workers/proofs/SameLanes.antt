@@ -8,6 +8,8 @@ use Rattle.lane.specs.Lane.{PortView, IntakeView, PortGoesOn, IntakeGoesOn}
 use Rattle.resolver.specs.declared.client.Client.{Client}
 use Rattle.resolver.specs.Lanes.{Lanes, Each, LanesGoOn}
 use Rattle.resolver.specs.Resolver.{AreClients}
+use Rattle.replay_workers.specs.declared.ends.Ends.{Ends}
+use Rattle.replay_workers.specs.Ends.{EndsGoOn}
 use Rattle.replay_workers.specs.Worker.{ClientGoesOn}
 use Rattle.replay_workers.proofs.callers.Lists.{found}
 
@@ -26,6 +28,15 @@ intake_goes_on a b c first second = record {
   seen_sent = omega (arith, first.seen_sent, second.seen_sent);
   seen_close = λ seen. second.seen_close (first.seen_close seen);
   looks = omega (arith, first.looks, second.looks);
+}
+
+pub ends_go_on : (a b c : Ends) → EndsGoOn a b → EndsGoOn b c → EndsGoOn a c
+ends_go_on a b c first second = record {
+  requests = port_goes_on a.requests b.requests c.requests first.requests second.requests;
+  replies = intake_goes_on a.replies b.replies c.replies first.replies second.replies;
+  given = second.given ∙ first.given;
+  proxy = second.proxy ∙ first.proxy;
+  share = second.share ∙ first.share;
 }
 
 zipped_at : {X Y : Type 0} (R : X → Y → Type 0) (xs : List X) (ys : List Y) (place : ℕ) (x : X) (y : Y)

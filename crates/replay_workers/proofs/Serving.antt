@@ -1,11 +1,13 @@
 -- What was read, sent, answered and received of one proxy, put together.
-use Rattle.std.specs.Prelude.{◌≡◌, ℕ, ℤ, Bool, true, false, ◌&&◌, List, [], ◌∷◌, ◌++◌, Option, None, Some, option_to_list, Contains}
-use Rattle.std.proofs.Common.{refl, sym, ap, subst, ◌∙◌, append_assoc, append-nil}
+use Rattle.std.specs.Prelude.{◌≡◌, ℕ, ◌<◌, ◌≤◌, ◌⊎◌, ℤ, Bool, true, false, ◌&&◌, List, [], ◌∷◌, ◌++◌, length, Option, None, Some, option_to_list, Contains}
+use Rattle.std.proofs.Common.{refl, sym, ap, subst, ◌∙◌, append_assoc, append-nil, length-append, arith, inl, inr}
 use Rattle.std.proofs.lemmas.Bool.{false≢true}
 use Rattle.std.proofs.lemmas.List.Elements.{Contains-append_left}
 use Rattle.keyspace.specs.declared.batch.Batch.{Batch}
 use Rattle.keyspace.specs.declared.answer.Answer.{Answer}
 use Rattle.keyspace.specs.declared.answer.Answer.TheVariants as answer
+use Rattle.lane.specs.declared.port.TheConstants.{MAX_SENT}
+use Rattle.lane.specs.Lane.{PortView}
 use Rattle.keyspace.specs.Run.{Step, run, answers, part}
 use Rattle.serial.specs.Replies.{IsCommittedAt, ReportsCommitted}
 use Rattle.resolver.specs.declared.client.Client.{Client}
@@ -15,7 +17,7 @@ use Rattle.resolver.specs.Settled.{SettledFor}
 use Rattle.replay_output.specs.declared.options.form.Form.{Form}
 use Rattle.replay_workers.specs.declared.worker.Finished.{Finished}
 use Rattle.replay_output.specs.Line.{answers_of}
-use Rattle.replay_workers.specs.Worker.{HasWorked, TakesFrames}
+use Rattle.replay_workers.specs.Worker.{HasWorked, LeavesLane, TakesFrames}
 use Rattle.replay_workers.specs.Threads.{failure_of}
 use Rattle.replay_workers.specs.Run.{IsServed}
 
@@ -23,15 +25,34 @@ pub both : (a b : Bool) → (a && b) ≡ true → (a ≡ true) × (b ≡ true)
 both true b is = (refl, is)
 both false b is = absurd (false≢true is)
 
+-- a worker that leaves a batch and a closed lane, which was open, has sent as many batches as a lane takes
+worn_lane : (requests : PortView Batch) (batch : Batch) → LeavesLane false requests (Some batch) → requests.closed ≡ true
+    → MAX_SENT ≤ length requests.sent
+worn_lane requests batch (inl left) closed = absurd (false≢true (sym left ∙ closed))
+worn_lane requests batch (inr worn) closed = worn.1
+
+-- fewer were sent, so none is left
+none_worn : (requests : PortView Batch) (unsent : Option Batch) → LeavesLane false requests unsent → requests.closed ≡ true
+    → length requests.sent < MAX_SENT → unsent ≡ None
+none_worn requests None leaves closed few = refl
+none_worn requests (Some batch) leaves closed few = absurd (omega (arith, few, worn_lane requests batch leaves closed))
+
+-- if these are the first batches that were sent, with the one left over they aren't the same
+none_left : (batches held rest : List Batch) (unsent : Option Batch) → batches ≡ held ++ rest
+    → batches ++ option_to_list unsent ≡ held → unsent ≡ None
+none_left batches held rest None is same = refl
+none_left batches held rest (Some batch) is same =
+    absurd (omega (arith, ap length is, ap length same, length-append held rest, length-append batches (batch ∷ [])))
+
 -- the worker was given a client that had sent and taken nothing
 pub served : (window : ℤ) (form : Form) (log : List Step) (ended all_sent : Bool) (answers_sent : List Answer) (account : Account)
-    (bytes : Option (List ℕ)) (proxy : ℕ) (given : Client) (finished : Finished) → given.requests.sent ≡ [] → given.replies.taken ≡ []
-    → HasWorked form proxy bytes given finished → SettledFor window log ended answers_sent account proxy finished.client
+    (bytes : Option (List ℕ)) (proxy : ℕ) (given : Client) (finished : Finished) → given.requests.sent ≡ [] → given.requests.closed ≡ false
+    → given.replies.taken ≡ [] → HasWorked form proxy bytes given finished → SettledFor window log ended answers_sent account proxy finished.client
     → ((version : ℤ) (j : ℕ) → ReportsCommitted finished.client.replies.taken version j
     → IsCommittedAt (run window log).processed proxy version j)
     → (all_sent ≡ true → finished.unsent ≡ None) → (account.stop ≡ None → account.complete ≡ true)
     → IsServed window form log (account.complete && all_sent) account.stop bytes proxy finished.lines.items (failure_of finished)
-served window form log ended all_sent answers_sent account bytes proxy given finished none_sent none_taken worked settled reported none_unsent whole =
+served window form log ended all_sent answers_sent account bytes proxy given finished none_sent fresh none_taken worked settled reported none_unsent whole =
     let sends = worked.sends in
     let keeps = worked.keeps in
     let unsent = option_to_list finished.unsent in
@@ -40,6 +61,9 @@ served window form log ended all_sent answers_sent account bytes proxy given fin
     sends.sent ∙ ap (λ (l : List Batch). l ++ sends.batches) none_sent in
     let taken : finished.client.replies.taken ≡ told ++ keeps.dropped =
     keeps.taken ∙ ap (λ (l : List Answer). l ++ (told ++ keeps.dropped)) none_taken in
+    let all_sent_if : account.complete ≡ true → finished.unsent ≡ None → sends.batches ++ unsent ≡ part log proxy =
+    λ complete none. ap (λ (u : Option Batch). sends.batches ++ option_to_list u) none ∙ append-nil sends.batches ∙ sym sent
+    ∙ sym (settled.all_batches (settled.all_ended complete)) in
     let all_told : finished.lost ≡ false → told ≡ finished.client.replies.taken = λ not_lost.
     sym (append-nil told) ∙ ap (λ (l : List Answer). told ++ l) (sym (keeps.none_dropped not_lost)) ∙ sym taken in
     record {
@@ -51,13 +75,19 @@ served window form log ended all_sent answers_sent account bytes proxy given fin
         ap (λ (l : List Batch). l ++ unsent) (sym sent ∙ settled.batches.1)
             ∙ append_assoc (part log proxy) settled.batches.0 unsent,
       );
-      all_batches = λ all no_fault.
+      all_batches = λ all.
           let parts = both account.complete all_sent all in
-          let none = none_unsent parts.1 in (
-            ap (λ (u : Option Batch). sends.batches ++ option_to_list u) none ∙ append-nil sends.batches ∙ sym sent
-                ∙ sym (settled.all_batches (settled.all_ended parts.0)),
-            sends.all no_fault none,
-          );
+          all_sent_if parts.0 (none_unsent parts.1);
+      all_unless_worn = λ no_stop few.
+          let complete = whole no_stop in
+          let ended = settled.all_ended complete in
+          let leaves = subst (λ (was : Bool). LeavesLane was finished.client.requests finished.unsent) fresh worked.leaves in
+          all_sent_if complete
+          (none_worn finished.client.requests finished.unsent leaves (settled.nothing_after ended)
+          (subst (λ (l : List Batch). length l < MAX_SENT) (settled.all_batches ended) few));
+      all_read = λ same no_fault.
+          sends.all no_fault
+          (none_left sends.batches (part log proxy) settled.batches.0 finished.unsent (sym sent ∙ settled.batches.1) same);
       first_fault = sends.first_fault;
       received = (
         keeps.dropped ++ settled.receives.received.0,
@@ -83,15 +113,21 @@ served window form log ended all_sent answers_sent account bytes proxy given fin
 -- a worker has a batch left that it read and could not send, though no stop was met
 pub left_over : (window : ℤ) (form : Form) (log : List Step) (ended : Bool) (answers_sent : List Answer) (account : Account)
     (bytes : Option (List ℕ)) (proxy : ℕ) (given : Client) (finished : Finished) (batch : Batch) → given.requests.sent ≡ []
-    → HasWorked form proxy bytes given finished → SettledFor window log ended answers_sent account proxy finished.client
+    → given.requests.closed ≡ false → HasWorked form proxy bytes given finished
+    → SettledFor window log ended answers_sent account proxy finished.client
     → account.complete ≡ true → finished.unsent ≡ Some batch
-    → (left : Option (List ℕ)) × TakesFrames bytes left (part log proxy ++ batch ∷ [])
-left_over window form log ended answers_sent account bytes proxy given finished batch none_sent worked settled complete is =
+    → (left : Option (List ℕ)) × TakesFrames bytes left (part log proxy ++ batch ∷ []) × (MAX_SENT ≤ length (part log proxy))
+left_over window form log ended answers_sent account bytes proxy given finished batch none_sent fresh worked settled complete is =
     let sends = worked.sends in
+    let has_ended = settled.all_ended complete in
+    let all = settled.all_batches has_ended in
     let sent : sends.batches ≡ part log proxy =
-    sym (ap (λ (l : List Batch). l ++ sends.batches) none_sent) ∙ sym sends.sent
-    ∙ sym (settled.all_batches (settled.all_ended complete)) in (
+    sym (ap (λ (l : List Batch). l ++ sends.batches) none_sent) ∙ sym sends.sent ∙ sym all in
+    let leaves = subst (λ (u : Option Batch). LeavesLane false finished.client.requests u) is
+    (subst (λ (was : Bool). LeavesLane was finished.client.requests finished.unsent) fresh worked.leaves) in (
       sends.left,
       subst (λ (l : List Batch). TakesFrames bytes sends.left (l ++ batch ∷ [])) sent
           (subst (λ (u : Option Batch). TakesFrames bytes sends.left (sends.batches ++ option_to_list u)) is sends.frames),
+      subst (λ (l : List Batch). MAX_SENT ≤ length l) (sym all)
+          (worn_lane finished.client.requests batch leaves (settled.nothing_after has_ended)),
     )

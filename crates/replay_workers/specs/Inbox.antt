@@ -2,10 +2,10 @@
 use Rattle.std.specs.Prelude.{◌≡◌, ℕ, Bool, false, List, [], ◌++◌}
 use Rattle.std.specs.List.{All}
 use Rattle.keyspace.specs.declared.answer.Answer.{Answer}
-use Rattle.lane.specs.Lane.{IntakeGoesOn}
 use Rattle.replay_output.specs.declared.options.form.Form.{Form}
 use Rattle.replay_output.specs.declared.line.Line.{Line}
 use Rattle.replay_workers.specs.declared.inbox.Inbox.{Inbox}
+use Rattle.replay_workers.specs.Ends.{EndsGoOn}
 use Rattle.replay_output.specs.Line.{answers_of, IsLineOf}
 
 -- These lines are of the answers taken since `before`, in order. After a loss the last of them have no line.
@@ -18,11 +18,11 @@ pub record KeepsLines (form : Form) (proxy : ℕ) (before now : List Answer) (li
 
 -- the inbox has the lines of what it has taken since
 abbrev pub Keeps : List Answer → Inbox → Type 0
-Keeps before inbox = KeepsLines inbox.form inbox.proxy before inbox.replies.taken inbox.lines.items inbox.lost
+Keeps before inbox = KeepsLines inbox.form inbox.proxy before inbox.ends.replies.taken inbox.lines.items inbox.lost
 
 -- the same inbox later
 pub record InboxGoesOn (old new : Inbox) : Type 0 where
-  pub replies : IntakeGoesOn old.replies new.replies
+  pub ends : EndsGoOn old.ends new.ends
   pub proxy : new.proxy ≡ old.proxy
   pub form : new.form ≡ old.form
   pub lines : (before : List Answer) → Keeps before old → Keeps before new

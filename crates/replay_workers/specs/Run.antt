@@ -1,6 +1,6 @@
 -- A run, beside the reference resolver: what was read of each file, and what its proxy was answered. This project's
 -- own.
-use Rattle.std.specs.Prelude.{◌≡◌, ◌≢◌, ℕ, ℤ, Bool, true, false, ◌&&◌, List, [], ◌∷◌, ◌++◌, length, Option, None, Some, IfSome, slice_get}
+use Rattle.std.specs.Prelude.{◌≡◌, ◌≢◌, ℕ, ◌<◌, ◌≤◌, ℤ, Bool, true, false, ◌&&◌, List, [], ◌∷◌, ◌++◌, length, Option, None, Some, IfSome, slice_get}
 use Rattle.std.specs.List.{All}
 use Rattle.std.specs.Io.KnownBytes.{IsAtEnd}
 use Rattle.keyspace.specs.declared.batch.Batch.{Batch}
@@ -8,6 +8,7 @@ use Rattle.keyspace.specs.Chain.{IsChain}
 use Rattle.keyspace.specs.Run.{Step, run, answers, part}
 use Rattle.serial.specs.Serial.{IsSerializable}
 use Rattle.serial.specs.Replies.{IsCommittedAt, ReportsCommitted}
+use Rattle.lane.specs.declared.port.TheConstants.{MAX_SENT}
 use Rattle.wire.specs.declared.error.WireError.TheVariants as wire
 use Rattle.wire.specs.NextFrame.{IsFaultOf}
 use Rattle.resolver.specs.declared.client.Client.{Client}
@@ -40,9 +41,13 @@ pub record IsServed (window : ℤ) (form : Form) (log : List Step) (complete : B
   pub read : List Batch
   pub left : Option (List ℕ)
   pub frames_read : TakesFrames bytes left read
-  -- the log holds them once, in order; where all is complete and no fault was met, all of the file
+  -- the log holds them once, in order; all of them if all is complete, whatever fault the file has
   pub batches : IsBeginning (part log proxy) read
-  pub all_batches : complete ≡ true → failure.fault ≡ None → (read ≡ part log proxy) × IsAtEnd left
+  pub all_batches : complete ≡ true → read ≡ part log proxy
+  -- also all of them if no stop was met, unless the proxy's lane has taken as many batches as a lane takes
+  pub all_unless_worn : stop ≡ None → length (part log proxy) < MAX_SENT → read ≡ part log proxy
+  -- if the log holds all that was read, reading ended at the file's end or at its fault
+  pub all_read : read ≡ part log proxy → failure.fault ≡ None → IsAtEnd left
   -- a fault other than these two is that of the bytes left
   pub first_fault : IfSome failure.fault (λ e. e ≢ wire.Memory → e ≢ wire.Read → IfSome left (IsFaultOf e))
   -- the lines are those of the answers of the reference resolver, in order and once; of all where no stop was met and
@@ -59,7 +64,8 @@ pub record IsServed (window : ℤ) (form : Form) (log : List Step) (complete : B
       → IsCommittedAt (run window log).processed proxy version j
   pub lines_told : All (IsLineOf form proxy) lines
 
--- Of some file, a batch was read that the log doesn't take: it was the last that was read, and could not be sent.
+-- Of some file, a batch was read that the log doesn't take: it was the last that was read, and could not be sent, since its
+-- proxy's lane has taken as many batches as a lane takes. The log holds these.
 pub record LeavesBatch (files : List (Option (List ℕ))) (log : List Step) : Type 0 where
   pub proxy : ℕ
   pub bytes : Option (List ℕ)
@@ -67,6 +73,7 @@ pub record LeavesBatch (files : List (Option (List ℕ))) (log : List Step) : Ty
   pub batch : Batch
   pub left : Option (List ℕ)
   pub read : TakesFrames bytes left (part log proxy ++ batch ∷ [])
+  pub worn : MAX_SENT ≤ length (part log proxy)
 
 -- What became of all files, whose readers told these bytes, beside one log of the reference resolver. `received` and
 -- `failures` are of each proxy, at its number.
@@ -87,7 +94,7 @@ pub record IsRun (options : Options) (files : List (Option (List ℕ))) (receive
   pub serializable : IsSerializable (run options.window log).processed
   -- where no stop was met, no batch is left unanswered
   pub finish : stop ≡ None → FinishesLast log
-  -- where all is complete, no stop was met; where neither is so, a batch could not be sent
+  -- If all is complete, no stop was met. If neither is so, a lane has taken as many batches as a lane takes.
   pub no_stop : complete ≡ true → stop ≡ None
   pub incomplete : complete ≡ false → stop ≡ None → LeavesBatch files log
   -- the stop is that of the log

@@ -1,5 +1,5 @@
 -- What a worker does. This project's own.
-use Rattle.std.specs.Prelude.{◌≡◌, ◌≢◌, ℕ, ◌<◌, ◌≤◌, ◌⊎◌, true, List, [], ◌∷◌, ◌++◌, length, Option, None, Some, IfSome, option_to_list}
+use Rattle.std.specs.Prelude.{◌≡◌, ◌≢◌, ℕ, ◌<◌, ◌≤◌, ◌⊎◌, Bool, true, false, List, [], ◌∷◌, ◌++◌, length, Option, None, Some, IfSome, option_to_list}
 use Rattle.std.specs.Io.KnownBytes.{IsAtEnd}
 use Rattle.keyspace.specs.declared.batch.Batch.{Batch}
 use Rattle.keyspace.specs.declared.answer.Answer.{Answer}
@@ -10,28 +10,44 @@ use Rattle.wire.specs.declared.error.WireError.TheVariants as wire
 use Rattle.wire.specs.NextFrame.{TakesFrame, IsFaultOf}
 use Rattle.resolver.specs.declared.client.Client.{Client}
 use Rattle.replay_output.specs.declared.options.form.Form.{Form}
+use Rattle.replay_workers.specs.declared.worker.Assignment.{Assignment}
 use Rattle.replay_workers.specs.declared.worker.Finished.{Finished}
 use Rattle.replay_workers.specs.declared.worker.FileEnd.{FileEnd}
-use Rattle.replay_workers.specs.declared.worker.FileEnd.TheVariants.{Reached, Fault, Unsent}
+use Rattle.replay_workers.specs.declared.worker.FileEnd.TheVariants.{Reached, Fault, Leaves}
+use Rattle.replay_workers.specs.declared.worker.Leftover.{Leftover}
+use Rattle.replay_workers.specs.declared.worker.Leftover.TheVariants.{CutShort, Worn}
 use Rattle.replay_workers.specs.Inbox.{KeepsLines}
-use Rattle.flow.specs.declared.told.Stand.{Stand}
-use Rattle.flow.specs.Share.{unanswered}
 
 -- the same client later: its ends are of the same lanes
 pub record ClientGoesOn (old new : Client) : Type 0 where
   pub requests : PortGoesOn old.requests new.requests
   pub replies : IntakeGoesOn old.replies new.replies
 
+-- the batch that could not be sent
+abbrev pub batch_of : Leftover → Batch
+batch_of (CutShort batch) = batch
+batch_of (Worn batch) = batch
+
 -- the fault that ended a file, and the batch that could not be sent
 abbrev pub fault_of : FileEnd → Option WireError
 fault_of Reached = None
 fault_of (Fault e) = Some e
-fault_of (Unsent batch) = None
+fault_of (Leaves leftover) = None
 
 abbrev pub unsent_of : FileEnd → Option Batch
 unsent_of Reached = None
 unsent_of (Fault e) = None
-unsent_of (Unsent batch) = Some batch
+unsent_of (Leaves leftover) = Some (batch_of leftover)
+
+-- the answers ended before the file
+abbrev pub was_cut_short : Leftover → Bool
+was_cut_short (CutShort batch) = true
+was_cut_short (Worn batch) = false
+
+abbrev pub is_cut_short : FileEnd → Bool
+is_cut_short Reached = false
+is_cut_short (Fault e) = false
+is_cut_short (Leaves leftover) = was_cut_short leftover
 
 -- the frames of these batches are at the front, in order, and just those frames leave
 abbrev pub TakesFrames : Option (List ℕ) → Option (List ℕ) → List Batch → Type 0
@@ -51,10 +67,23 @@ pub record SendsFrames (bytes : Option (List ℕ)) (before now : List Batch) (fa
   -- a fault other than these two is that of the bytes left
   pub first_fault : IfSome fault (λ e. e ≢ wire.Memory → e ≢ wire.Read → IfSome left (IsFaultOf e))
 
--- No more can be sent: the answers have ended, or the lane takes no more.
-abbrev pub CannotSend : PortView Batch → IntakeView Answer → Type 0
-CannotSend requests replies =
-    HasEnded replies ⊎ ((requests.closed ≡ true) ⊎ (MAX_SENT ≤ length requests.sent))
+-- why the batch can't be sent: the answers have ended, or the lane takes no more
+abbrev pub CannotSend : Leftover → PortView Batch → IntakeView Answer → Type 0
+CannotSend (CutShort batch) requests replies = HasEnded replies
+CannotSend (Worn batch) requests replies = (requests.closed ≡ true) ⊎ (MAX_SENT ≤ length requests.sent)
+
+-- a fact of what is left over of a file
+abbrev pub IfLeaves : FileEnd → (Leftover → Type 0) → Type 0
+IfLeaves Reached P = Unit {0}
+IfLeaves (Fault e) P = Unit {0}
+IfLeaves (Leaves leftover) P = P leftover
+
+-- How a worker leaves its request lane, which was closed or not before, by the batch that could not be sent. It closes the
+-- lane. If a batch is unsent, either the answers had ended, and the lane is left as it was; or the lane takes no more.
+abbrev pub LeavesLane : Bool → PortView Batch → Option Batch → Type 0
+LeavesLane was requests None = requests.closed ≡ true
+LeavesLane was requests (Some batch) =
+    (requests.closed ≡ was) ⊎ ((requests.closed ≡ true) × (MAX_SENT ≤ length requests.sent))
 
 -- What a worker has done that was given this proxy's client, and a reader with these bytes left: it sent the batches that it
 -- read, its lines are those of the answers that it took, and it has closed its lane and taken answers to their end.
@@ -65,13 +94,13 @@ pub record HasWorked (form : Form) (proxy : ℕ) (bytes : Option (List ℕ)) (gi
       SendsFrames bytes given.requests.sent finished.client.requests.sent finished.fault finished.unsent
   pub keeps :
       KeepsLines form proxy given.replies.taken finished.client.replies.taken finished.lines.items finished.lost
-  pub closed : finished.client.requests.closed ≡ true
+  pub leaves : LeavesLane given.requests.closed finished.client.requests finished.unsent
   pub ended : HasEnded finished.client.replies
 
--- by what these ends have sent and taken, the share isn't used up
-abbrev pub IsBelowShare : ℕ → PortView Batch → IntakeView Answer → Type 0
-IsBelowShare share requests replies = unanswered (length requests.sent) (length replies.taken) < share
-
--- the report with this batch ready
-abbrev pub stand_with : Batch → IntakeView Answer → Stand
-stand_with batch replies = record { previous = batch.previous; answered = length replies.taken }
+-- From the client that was given to the one that is returned, no batch that nobody admitted was sent while the share was used
+-- up: right after each other batch, so many batches at most were unanswered.
+pub record IsWithinShare (assignment : Assignment) (given : Client) (finished : Finished) : Type 0 where
+  pub from : finished.most_unanswered.given.value ≡ given
+  pub to : finished.most_unanswered.left.value ≡ finished.client
+  pub proxy : finished.most_unanswered.proxy ≡ assignment.proxy
+  pub within : finished.most_unanswered.count ≤ assignment.share

@@ -27,7 +27,7 @@ pub trait ShareKeeper {
     fn stands(&self, proxy: usize, stand: Stand) -> bool
         ensures through { IsTrue result → lets_through self.now proxy stand };
 
-    /// Tells that the proxy has closed its lane.
+    /// Tells that the proxy sends no more: it has closed its lane, or its answers have ended.
     fn closed(&self, proxy: usize);
 
     /// Returns what the proxy has told.

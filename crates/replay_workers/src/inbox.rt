@@ -3,21 +3,25 @@
 ghost use Rattle.std.specs.Prelude.{◌≡◌, [], ◌∷◌, ◌++◌, true, false};
 ghost use Rattle.lane.specs.Lane.{HasEnded};
 ghost use Rattle.replay_output.specs.Line.{answer_of, IsLineOf};
+ghost use Rattle.replay_workers.specs.Ends.{SendsNothing};
 ghost use Rattle.replay_workers.specs.Inbox.{Keeps, InboxGoesOn};
 ghost use Rattle.replay_output.specs.declared.line.Line.{Line as LineOfAnswer};
 
+use crate::ends::Ends;
 use crate::gatekeeper::Gatekeeper;
 use crate::pause::pause;
+use crate::worker::Assignment;
 use keyspace::Answer;
-use lane::{Intake, Taken};
+use lane::Taken;
 use replay_output::{Form, Line};
+use resolver::Client;
 use std::alloc::Global;
 use std::sync::Wait;
 
 /// Takes the answers of one proxy and keeps their lines.
 #[derive(Drop)]
 pub struct Inbox {
-    pub replies: Intake<Answer>,
+    pub ends: Ends,
     /// The lines of the answers, in the order taken.
     pub lines: Vec<Line>,
     /// The line of an answer could not be kept. Later answers are dropped too.
@@ -32,14 +36,19 @@ pub struct Inbox {
 
 impl Inbox {
     /// Creates an inbox that has kept nothing.
-    pub fn new(alloc: Global, form: Form, proxy: usize, replies: Intake<Answer>) -> Self
-        ensures replies { result.replies ≡ replies }
-        ensures proxy { result.proxy ≡ proxy }
-        ensures form { result.form ≡ form }
-        ensures lines { Keeps replies.taken result }
+    pub fn new(alloc: Global, assignment: Assignment, client: Client) -> Self
+        ensures requests { result.ends.requests ≡ client.requests }
+        ensures replies { result.ends.replies ≡ client.replies }
+        ensures given { result.ends.given.value ≡ client }
+        ensures asks_as { result.ends.proxy ≡ assignment.proxy }
+        ensures share { result.ends.share ≡ assignment.share }
+        ensures proxy { result.proxy ≡ assignment.proxy }
+        ensures form { result.form ≡ assignment.form }
+        ensures lines { Keeps client.replies.taken result }
     {
+        let Assignment { proxy, form, .. } = assignment;
         Inbox {
-            replies,
+            ends: Ends::new(assignment, client),
             lines: Vec::new(alloc),
             lost: false,
             proxy,
@@ -52,10 +61,11 @@ impl Inbox {
     /// Takes all answers that have come. Returns whether the lane is at its end.
     pub fn take_all<G: Gatekeeper, R: Wait>(&mut self, rt: &R, gatekeeper: &G) -> bool
         ensures inbox { InboxGoesOn self.old self.new }
-        ensures end { result ≡ true → HasEnded self.new.replies }
+        ensures nothing_sent { SendsNothing self.old.ends self.new.ends }
+        ensures end { result ≡ true → HasEnded self.new.ends.replies }
     {
         for _ in rt.forever() {
-            match self.replies.take() {
+            match self.ends.take() {
                 Taken::Item(answer) => {
                     self.keep(answer);
                     gatekeeper.answered(self.proxy, self.place);
@@ -69,9 +79,11 @@ impl Inbox {
     }
 
     /// Takes answers until the lane is at its end.
+    #[tactic(auto, using(crate::proofs::Keeping::inbox_goes_on))]
     pub fn take_to_end<G: Gatekeeper, R: Wait>(&mut self, rt: &R, gatekeeper: &G)
         ensures inbox { InboxGoesOn self.old self.new }
-        ensures end { HasEnded self.new.replies }
+        ensures nothing_sent { SendsNothing self.old.ends self.new.ends }
+        ensures end { HasEnded self.new.ends.replies }
     {
         for _ in rt.forever() {
             if self.take_all(rt, gatekeeper) {
@@ -84,7 +96,7 @@ impl Inbox {
 
     // Keeps the line of an answer, unless one was lost before.
     fn keep(&mut self, answer: Answer)
-        ensures replies { self.new.replies ≡ self.old.replies }
+        ensures ends { self.new.ends ≡ self.old.ends }
         ensures proxy { self.new.proxy ≡ self.old.proxy }
         ensures form { self.new.form ≡ self.old.form }
         ensures loss_stays { self.old.lost ≡ true → self.new.lost ≡ true }

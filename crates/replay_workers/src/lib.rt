@@ -5,11 +5,12 @@
 //! answers. A [`Gatekeeper`] says when workers may send, and a [`ShareKeeper`] whose batch goes
 //! first where all have used up their share.
 //!
-//! In reading order: `running`, `threads`, `worker`, `inbox`, `gatekeeper`, `watch`, `outcome`,
+//! In reading order: `running`, `threads`, `worker`, `inbox`, `ends`, `gatekeeper`, `watch`, `outcome`,
 //! `pause`. What became of the files is `IsRun`, in `specs/Run.antt`. What one worker has done is
 //! `HasWorked`, in `specs/Worker.antt`.
 #![tactic(auto)]
 
+mod ends;
 mod gatekeeper;
 mod inbox;
 mod outcome;
@@ -19,6 +20,7 @@ mod threads;
 mod watch;
 mod worker;
 
+pub use ends::MostUnanswered;
 pub use gatekeeper::{AlwaysOpen, Gatekeeper, ShareKeeper, Unshared};
 pub use outcome::Outcome;
 pub use running::run;

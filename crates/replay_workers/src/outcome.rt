@@ -59,6 +59,7 @@ impl Outcome {
             fault,
             lost,
             unsent,
+            ..
         } = finished;
         self.clients.push_reserved(client);
         self.lines.push_reserved(lines);

@@ -1,22 +1,24 @@
 //! A worker reads the file of one proxy, sends its batches and takes its answers, in its own
 //! thread.
 
-ghost use Rattle.std.specs.Prelude.{◌≡◌, ◌<◌, ◌≤◌, ◌↔◌, ◌⊎◌, [], ◌∷◌, ◌++◌, true, length, None};
-ghost use Rattle.std.specs.Prelude.{Some, IsSome, IsTrue, Err, OnOk, OnErr, IfErr};
+ghost use Rattle.std.specs.Prelude.{◌≡◌, ◌<◌, ◌≤◌, ◌↔◌, Bool, [], ◌∷◌, ◌++◌, true, length};
+ghost use Rattle.std.specs.Prelude.{None, Some, Err, OnOk, OnErr, IfErr};
 ghost use Rattle.lane.specs.declared.port.TheConstants.{MAX_SENT};
-ghost use Rattle.lane.specs.Lane.{PortGoesOn};
+ghost use Rattle.lane.specs.Lane.{HasEnded};
 ghost use Rattle.lane.specs.Refused.{item_of};
 ghost use Rattle.wire.specs.Frames.{frames_reader, refusal_of};
+ghost use Rattle.replay_workers.specs.Ends.{EndsGoOn};
 ghost use Rattle.replay_workers.specs.Inbox.{Keeps, InboxGoesOn};
-ghost use Rattle.replay_workers.specs.Worker.{HasWorked, SendsFrames, CannotSend, IsBelowShare};
-ghost use Rattle.replay_workers.specs.Worker.{fault_of, stand_with, unsent_of};
+ghost use Rattle.replay_workers.specs.Worker.{HasWorked, IsWithinShare, SendsFrames, CannotSend};
+ghost use Rattle.replay_workers.specs.Worker.{IfLeaves, LeavesLane, batch_of, fault_of};
+ghost use Rattle.replay_workers.specs.Worker.{is_cut_short, unsent_of};
 
+use crate::ends::MostUnanswered;
 use crate::gatekeeper::{Gatekeeper, ShareKeeper};
 use crate::inbox::Inbox;
 use crate::pause::pause;
-use flow::{Stand, is_below_share};
 use keyspace::Batch;
-use lane::{Port, Refused};
+use lane::Refused;
 use replay_output::{Form, Line};
 use resolver::Client;
 use std::alloc::Global;
@@ -45,8 +47,11 @@ pub struct Finished {
     pub fault: Option<WireError>,
     /// The line of an answer could not be kept. The answers after it were dropped.
     pub lost: bool,
-    /// The batch that was read last, where the answers ended before it could be sent.
+    /// The batch that was read last, if it could not be sent: the answers had ended, and the lane is
+    /// left open, or the lane takes no more.
     pub unsent: Option<Batch>,
+    /// How many batches were unanswered at most, after one was sent that nobody had admitted.
+    pub most_unanswered: MostUnanswered,
 }
 
 // How the reading of a file ended.
@@ -55,24 +60,38 @@ enum FileEnd {
     // All of it was read and sent.
     Reached,
     Fault(WireError),
-    // The batch read last can't be sent any more.
-    Unsent(Batch),
+    Leaves(Leftover),
 }
 
-// A proxy's ends of its lanes.
+// The batch that was read last and can't be sent.
+#[derive(Drop)]
+enum Leftover {
+    // The answers ended first.
+    CutShort(Batch),
+    // The lane takes no more.
+    Worn(Batch),
+}
+
+impl FileEnd {
+    // Returns whether the answers ended before the file.
+    fn is_cut_short(&self) -> bool
+        ensures cut_short { result ≡ is_cut_short self.now }
+    {
+        matches!(self, FileEnd::Leaves(Leftover::CutShort(_)))
+    }
+}
+
+// A proxy's ends of its lanes, and its answers.
 #[derive(Drop)]
 struct Worker {
-    requests: Port<Batch>,
     inbox: Inbox,
-    proxy: usize,
-    share: u64,
-    // the place of the next batch
+    // The place of the next batch. It stops at `u64::MAX`, which no lane comes to.
     place: u64,
-    ghost counted: { place ≤ length requests.sent },
 }
 
 /// Sends the batches of the frames of a file, in order, up to the file's end or its fault, closes
-/// the lane and takes answers to their end. If the answers end earlier, it stops sending.
+/// the lane and takes answers to their end. If the answers end earlier, as after a stop, it stops
+/// sending and leaves the lane open: so a lane that is closed says that no batch was cut off.
 ///
 /// If as many of its batches are unanswered as its share, it stands: it sends the next one only if
 /// the gatekeeper lets it through, or once it has taken an answer.
@@ -85,36 +104,33 @@ pub fn work<S: Source + Drop, G: Gatekeeper + ShareKeeper, R: Wait>(
     gatekeeper: &G,
 ) -> Finished
     ensures worked { HasWorked assignment.form assignment.proxy (S.remaining reader) client result }
+    ensures within_share { IsWithinShare assignment client result }
 {
     let mut worker = Worker::new(alloc, assignment, client);
     let end = worker.send_frames(rt, gatekeeper, &mut read_frames(alloc, reader));
-    worker.requests.close();
-    gatekeeper.closed(assignment.proxy);
-    worker.inbox.take_to_end(rt, gatekeeper);
+    worker.close(rt, gatekeeper, &end);
     worker.finish(end)
 }
 
 impl Worker {
     fn new(alloc: Global, assignment: Assignment, client: Client) -> Self
-        ensures requests { result.requests ≡ client.requests }
-        ensures replies { result.inbox.replies ≡ client.replies }
+        ensures requests { result.inbox.ends.requests ≡ client.requests }
+        ensures replies { result.inbox.ends.replies ≡ client.replies }
+        ensures given { result.inbox.ends.given.value ≡ client }
+        ensures asks_as { result.inbox.ends.proxy ≡ assignment.proxy }
+        ensures share { result.inbox.ends.share ≡ assignment.share }
         ensures proxy { result.inbox.proxy ≡ assignment.proxy }
         ensures form { result.inbox.form ≡ assignment.form }
-        ensures share { result.share ≡ assignment.share }
         ensures lines { Keeps client.replies.taken result.inbox }
     {
-        let Assignment { proxy, share, form } = assignment;
-        let Client { requests, replies } = client;
         Worker {
-            requests,
-            inbox: Inbox::new(alloc, form, proxy, replies),
-            proxy,
-            share,
+            inbox: Inbox::new(alloc, assignment, client),
             place: 0,
         }
     }
 
     // Sends the batches of the frames, in order.
+    #[tactic(auto, using(crate::proofs::Keeping::inbox_goes_on))]
     fn send_frames<S: Source, G: Gatekeeper + ShareKeeper, R: Wait>(
         &mut self,
         rt: &R,
@@ -122,20 +138,22 @@ impl Worker {
         frames: &mut Frames<S>,
     ) -> FileEnd
         requires fresh { refusal_of frames.old ≡ None }
-        ensures requests { PortGoesOn self.old.requests self.new.requests }
         ensures inbox { InboxGoesOn self.old.inbox self.new.inbox }
-        ensures sent { SendsFrames (S.remaining (frames_reader frames.old)) self.old.requests.sent
-            self.new.requests.sent (fault_of result) (unsent_of result) }
+        ensures sent { SendsFrames (S.remaining (frames_reader frames.old))
+            self.old.inbox.ends.requests.sent self.new.inbox.ends.requests.sent (fault_of result)
+            (unsent_of result) }
+        ensures closed_stays { self.new.inbox.ends.requests.closed
+            ≡ self.old.inbox.ends.requests.closed }
         ensures read { fault_of result ≡ Some WireError.Read
             ↔ (S.failures (frames_reader frames.old) < S.failures (frames_reader frames.new)) }
-        ensures unsent { IsSome (unsent_of result)
-            → CannotSend self.new.requests self.new.inbox.replies }
+        ensures gives_up { IfLeaves result (λ leftover. CannotSend leftover
+            self.new.inbox.ends.requests self.new.inbox.ends.replies) }
     {
         for _ in rt.forever() {
             match frames.next() {
                 Ok(Some(batch)) => {
-                    if let Err(unsent) = self.send(rt, gatekeeper, batch) {
-                        return FileEnd::Unsent(unsent);
+                    if let Err(leftover) = self.send(rt, gatekeeper, batch) {
+                        return FileEnd::Leaves(leftover);
                     }
                 }
                 Ok(None) => return FileEnd::Reached,
@@ -145,30 +163,38 @@ impl Worker {
         unreachable!()
     }
 
-    // Sends a batch as soon as the gatekeeper and the lane let it, and takes answers before each
-    // try. Hands the batch back where the answers have ended, or where the lane takes no more.
+    // Sends a batch as soon as the gatekeeper, the share and the lane let it, and takes answers
+    // before each try. Hands the batch back where the answers have ended, or where the lane takes no
+    // more.
+    #[tactic(auto, using(crate::proofs::Keeping::inbox_goes_on, crate::proofs::Keeping::sends_on))]
     fn send<G: Gatekeeper + ShareKeeper, R: Wait>(
         &mut self,
         rt: &R,
         gatekeeper: &G,
         batch: Batch,
-    ) -> Result<(), Batch>
-        ensures requests { PortGoesOn self.old.requests self.new.requests }
+    ) -> Result<(), Leftover>
         ensures inbox { InboxGoesOn self.old.inbox self.new.inbox }
-        ensures sent { OnOk result (self.new.requests.sent ≡ self.old.requests.sent ++ batch ∷ []) }
-        ensures unchanged { OnErr result (self.new.requests.sent ≡ self.old.requests.sent) }
-        ensures handed_back { IfErr result (λ unsent. unsent ≡ batch) }
-        ensures gives_up { OnErr result (CannotSend self.new.requests self.new.inbox.replies) }
+        ensures sent { OnOk result (self.new.inbox.ends.requests.sent
+            ≡ self.old.inbox.ends.requests.sent ++ batch ∷ []) }
+        ensures unchanged { OnErr result (self.new.inbox.ends.requests.sent
+            ≡ self.old.inbox.ends.requests.sent) }
+        ensures closed_stays { self.new.inbox.ends.requests.closed
+            ≡ self.old.inbox.ends.requests.closed }
+        ensures handed_back { IfErr result (λ leftover. batch_of leftover ≡ batch) }
+        ensures gives_up { IfErr result (λ leftover. CannotSend leftover
+            self.new.inbox.ends.requests self.new.inbox.ends.replies) }
     {
         let mut waiting = batch;
         for _ in rt.forever() {
             if self.inbox.take_all(rt, gatekeeper) {
-                return Err(waiting);
+                return Err(Leftover::CutShort(waiting));
             }
             waiting = match self.try_send(gatekeeper, waiting) {
                 Ok(()) => return Ok(()),
                 Err(Refused::Full(refused)) => refused,
-                Err(Refused::Closed(refused) | Refused::Worn(refused)) => return Err(refused),
+                Err(Refused::Closed(refused) | Refused::Worn(refused)) => {
+                    return Err(Leftover::Worn(refused));
+                }
             };
             pause(rt);
         }
@@ -181,87 +207,89 @@ impl Worker {
         gatekeeper: &G,
         batch: Batch,
     ) -> Result<(), Refused<Batch>>
-        ensures requests { PortGoesOn self.old.requests self.new.requests }
-        ensures inbox { self.new.inbox ≡ self.old.inbox }
-        ensures sent { OnOk result (self.new.requests.sent ≡ self.old.requests.sent ++ batch ∷ []) }
-        ensures unchanged { OnErr result (self.new.requests.sent ≡ self.old.requests.sent) }
+        ensures ends { EndsGoOn self.old.inbox.ends self.new.inbox.ends }
+        ensures replies { self.new.inbox.ends.replies ≡ self.old.inbox.ends.replies }
+        ensures inbox { self.new.inbox ≡ record self.old.inbox { ends = self.new.inbox.ends } }
+        ensures sent { OnOk result (self.new.inbox.ends.requests.sent
+            ≡ self.old.inbox.ends.requests.sent ++ batch ∷ []) }
+        ensures unchanged { OnErr result (self.new.inbox.ends.requests.sent
+            ≡ self.old.inbox.ends.requests.sent) }
+        ensures closed_stays { self.new.inbox.ends.requests.closed
+            ≡ self.old.inbox.ends.requests.closed }
         ensures handed_back { IfErr result (λ refused. item_of refused ≡ batch) }
-        ensures closed { result ≡ Err (Refused.Closed batch) → self.new.requests.closed ≡ true }
+        ensures closed { result ≡ Err (Refused.Closed batch)
+            → self.new.inbox.ends.requests.closed ≡ true }
         ensures worn { result ≡ Err (Refused.Worn batch)
-            → MAX_SENT ≤ length self.new.requests.sent }
-        ensures share { OnOk result (IsBelowShare self.old.share self.old.requests
-            self.old.inbox.replies
-            ⊎ G.lets_through gatekeeper.now self.old.proxy
-            (stand_with batch self.old.inbox.replies)) }
+            → MAX_SENT ≤ length self.new.inbox.ends.requests.sent }
     {
-        if !self.may_send(gatekeeper, &batch) {
+        if !gatekeeper.may_send(self.inbox.proxy, self.place) {
             return Err(Refused::Full(batch));
         }
-        self.requests.send(batch)?;
-        self.place += 1;
+        self.inbox.ends.send(gatekeeper, batch)?;
+        self.place = self.place.saturating_add(1);
         Ok(())
     }
 
-    // Returns whether the batch may be sent now: it may where the share isn't used up, and else
-    // where the gatekeeper lets it through.
-    fn may_send<G: Gatekeeper + ShareKeeper>(&self, gatekeeper: &G, batch: &Batch) -> bool
-        ensures share { IsTrue result → IsBelowShare self.now.share self.now.requests
-            self.now.inbox.replies
-            ⊎ G.lets_through gatekeeper.now self.now.proxy
-            (stand_with batch.now self.now.inbox.replies) }
+    // Closes the lane and takes the remaining answers, unless these ended before the file: then the
+    // lane stays open.
+    fn close<G: Gatekeeper + ShareKeeper, R: Wait>(
+        &mut self,
+        rt: &R,
+        gatekeeper: &G,
+        end: &FileEnd,
+    )
+        requires gives_up { IfLeaves end.now (λ leftover. CannotSend leftover
+            self.old.inbox.ends.requests self.old.inbox.ends.replies) }
+        ensures inbox { InboxGoesOn self.old.inbox self.new.inbox }
+        ensures nothing_sent { self.new.inbox.ends.requests.sent
+            ≡ self.old.inbox.ends.requests.sent }
+        ensures leaves { (was : Bool) → self.old.inbox.ends.requests.closed ≡ was
+            → LeavesLane was self.new.inbox.ends.requests (unsent_of end.now) }
+        ensures ended { HasEnded self.new.inbox.ends.replies }
     {
-        gatekeeper.may_send(self.proxy, self.place)
-            && (self.is_below_share() || gatekeeper.stands(self.proxy, self.stand(batch)))
-    }
-
-    // Returns whether the share isn't used up.
-    fn is_below_share(&self) -> bool
-        ensures below { IsTrue result ↔ IsBelowShare self.now.share self.now.requests
-            self.now.inbox.replies }
-    {
-        is_below_share(self.requests.sent(), self.inbox.replies.taken(), self.share)
-    }
-
-    // Returns the report that this batch is ready.
-    fn stand(&self, batch: &Batch) -> Stand
-        ensures stand { result ≡ stand_with batch.now self.now.inbox.replies }
-    {
-        Stand {
-            previous: batch.previous,
-            answered: self.inbox.replies.taken(),
+        if end.is_cut_short() {
+            gatekeeper.closed(self.inbox.proxy);
+            return;
         }
+        self.inbox.ends.close();
+        gatekeeper.closed(self.inbox.proxy);
+        self.inbox.take_to_end(rt, gatekeeper);
     }
 
     fn finish(self, end: FileEnd) -> Finished
-        ensures requests { result.client.requests ≡ self.requests }
-        ensures inbox { (result.client.replies ≡ self.inbox.replies)
-            × (result.lines ≡ self.inbox.lines)
-            × (result.lost ≡ self.inbox.lost) }
+        ensures requests { result.client.requests ≡ self.inbox.ends.requests }
+        ensures replies { result.client.replies ≡ self.inbox.ends.replies }
+        ensures lines { result.lines ≡ self.inbox.lines }
+        ensures lost { result.lost ≡ self.inbox.lost }
         ensures fault { result.fault ≡ fault_of end }
         ensures unsent { result.unsent ≡ unsent_of end }
+        ensures from { result.most_unanswered.given.value ≡ self.inbox.ends.given.value }
+        ensures to { result.most_unanswered.left.value ≡ result.client }
+        ensures proxy { result.most_unanswered.proxy ≡ self.inbox.ends.proxy }
+        ensures within_share { result.most_unanswered.count ≤ self.inbox.ends.share }
     {
         let (fault, unsent) = match end {
             FileEnd::Reached => (None, None),
             FileEnd::Fault(fault) => (Some(fault), None),
-            FileEnd::Unsent(batch) => (None, Some(batch)),
+            FileEnd::Leaves(Leftover::CutShort(batch) | Leftover::Worn(batch)) => {
+                (None, Some(batch))
+            }
         };
-        let Worker {
-            requests,
-            inbox,
-            ..
-        } = self;
+        let Worker { inbox, .. } = self;
         let Inbox {
-            replies,
+            ends,
             lines,
             lost,
             ..
         } = inbox;
+        let (client, most_unanswered) = ends.into_parts();
         Finished {
-            client: Client { requests, replies },
+            client,
             lines,
             fault,
             lost,
             unsent,
+            most_unanswered,
         }
     }
 }

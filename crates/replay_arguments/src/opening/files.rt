@@ -29,10 +29,14 @@ pub trait Files {
     // The file of this name can't be opened.
     ghost cannot_open: { Self → List ℕ → Type 0 };
 
+    // Memory is refused in the opening of the file of this name.
+    ghost lacks_memory: { Self → List ℕ → Type 0 };
+
     /// Opens the file of this name, to be read from its beginning.
     fn open(&self, name: &str) -> Result<Self::Reader, FileError>
         ensures contents { IfOk result (λ reader. Self.Reader.remaining reader
             ≡ contents self.now name.now) }
         ensures opened { OnOk result (has_opened self.now name.now) }
-        ensures refused { result ≡ Err FileError.CannotOpen → cannot_open self.now name.now };
+        ensures refused { result ≡ Err FileError.CannotOpen → cannot_open self.now name.now }
+        ensures memory { result ≡ Err FileError.Memory → lacks_memory self.now name.now };
 }

@@ -8,6 +8,7 @@ use Rattle.keyspace.proofs.reply.Reply.TheSendSync as reply
 use Rattle.wire.proofs.error.WireError.TheSendSync as fault
 use Rattle.resolver.proofs.client.Client.TheSendSync as client
 use Rattle.replay_output.specs.contracts.line.Line as Line
+use Rattle.replay_workers.specs.contracts.ends.MostUnanswered as MostUnanswered
 use Rattle.replay_workers.specs.contracts.worker.Finished as Finished
 use Rattle.replay_workers.proofs.threads.start.Goals as goal
 
@@ -30,6 +31,16 @@ line_field_send = struct_send (shape Line.the_type) line_fields_send
 line_send : IsSend Line.the_row
 line_send = search (recorded_send, line_field_send) depth 10
 
+-- so do a count of unanswered batches and the snapshots beside it
+most_fields_send : AllSend (shape MostUnanswered.the_type).fields
+most_fields_send = (
+  search (sendable, crosses) depth 20,
+  (search (sendable, crosses) depth 20, (search sendable, (search sendable, tt))),
+)
+
+most_field_send : IsSend (MostUnanswered.the_field).row
+most_field_send = struct_send (shape MostUnanswered.the_type) most_fields_send
+
 -- the types of the fields of what a worker hands back
 fields_send : AllSend (shape Finished.the_type).fields
 fields_send = (
@@ -40,7 +51,10 @@ fields_send = (
       search (sendable, crosses, fault.the_send, option.the_field_send) depth 20,
       (
         search sendable,
-        (search (sendable, crosses, batch.the_send, option.the_field_send) depth 20, tt),
+        (
+          search (sendable, crosses, batch.the_send, option.the_field_send) depth 20,
+          (most_field_send, tt),
+        ),
       ),
     ),
   ),

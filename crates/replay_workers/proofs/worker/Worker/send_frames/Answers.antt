@@ -28,8 +28,8 @@ loop-preserved g c =
     let frame = rw c.in-Ok-Some.field-0-is at c.in-Ok-Some.ensures.batch in
     let batches = before.sent.0 ++ c.in-Ok-Some.batch ∷ [] in
     record {
-      requests = search rules;
       inbox = search rules;
+      closed = search rules;
       fresh = search rules;
       steady = c.in-Ok-Some.ensures.steady ∙ before.steady;
       sent = (
