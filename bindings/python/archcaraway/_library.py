@@ -21,10 +21,8 @@ class RangeRecord(Structure):  # archcaraway_range
 
 
 class TransactionRecord(Structure):  # archcaraway_txn
-    _fields_ = [("snapshot", c_int64)]
-    _fields_ += [("reads", POINTER(RangeRecord)), ("read_count", c_size_t)]
-    _fields_ += [("writes", POINTER(RangeRecord)), ("write_count", c_size_t)]
-    _fields_ += [("report", c_bool)]
+    _fields_ = [("snapshot", c_int64), ("reads", POINTER(RangeRecord)), ("read_count", c_size_t)]
+    _fields_ += [("writes", POINTER(RangeRecord)), ("write_count", c_size_t), ("report", c_bool)]
 
 
 class Writer(Structure):  # archcaraway_writer

@@ -95,13 +95,13 @@ def test_wrong_types_and_numbers_are_refused() -> None:
     batch = Batch()
     for transaction in (Transaction(0, ["k"]), Transaction(0, [3]), Transaction("0")):
         with pytest.raises(TypeError):
-            batch.add(transaction)  # type: ignore[arg-type]
+            batch.add(transaction)
     for snapshot in (2**63, -(2**63) - 1):
         with pytest.raises(ValueError):
             batch.add(Transaction(snapshot))
     for keys in ((b"a",), (b"a", b"b", b"c")):
         with pytest.raises(ValueError):
-            batch.add(Transaction(0, [keys]))  # type: ignore[list-item]
+            batch.add(Transaction(0, [keys]))
     assert len(batch) == 0
     with ConflictSet() as conflicts, Core(1) as core:
         for version in (2**63, 2**64 + 1):
