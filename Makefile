@@ -87,7 +87,7 @@ uninstall:
 library-test: library
 	.ci/library-test
 
-# Tests the library of BUILT in each language: C, C++, Python, Go, Rust; their examples, and the snippets of docs/EMBEDDING.md.
+# Tests the library of BUILT in each language: C, C++, Python, Go, Rust; their examples, and the snippets of documents.
 languages-test:
 	.ci/languages-test
 

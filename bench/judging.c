@@ -1,11 +1,12 @@
 // SPDX-License-Identifier: Apache-2.0
 // Times a set on batches of small transactions: by frames, which it writes and whose replies it reads, and by values.
 //
-//     judging [TRANSACTIONS [BATCHES [ROUNDS [KEYS]]]]
+//     judging [TRANSACTIONS [BATCHES [ROUNDS [KEYS [READS [WRITES]]]]]]
 //
-// A transaction reads two of KEYS keys and writes two, of 16 bytes each. Both ways judge the same chain, each by its own set, in turn;
-// of ROUNDS rounds the fastest counts. It prints the microseconds per transaction of both, and their quotient; and of frames the part
-// for writing them, decoding them and reading the replies, without which there would be no less to do by values.
+// A transaction reads two of KEYS keys and writes two, or READS and WRITES of them, of 16 bytes each. Both ways judge the same chain,
+// each by its own set, in turn; of ROUNDS rounds the fastest counts. It prints the microseconds per transaction of both, and their
+// quotient; and of frames the part for writing them, decoding them and reading the replies, without which there would be no less to do
+// by values.
 //     cc -O2 -Iinclude bench/judging.c out/quick/libarchcaraway.a -o judging
 #include <inttypes.h>
 #include <stdio.h>
@@ -14,7 +15,7 @@
 
 #include "archcaraway_frames.h"
 
-enum { KEY = 16, READS = 2, WRITES = 2, RANGES = READS + WRITES };
+enum { KEY = 16 };
 
 static void demand(bool holds, const char *what) {
     if (holds) return;
@@ -37,13 +38,13 @@ static uint64_t random_below(uint64_t *state, uint64_t limit) {
 typedef struct {
     uint8_t (*keys)[KEY];
     int64_t version, snapshot;
-    size_t count, choice;
+    size_t count, choice, reads, ranges;
 } Drawn;
 
 static void draw(Drawn *drawn, uint64_t *state) {
     drawn->version += 1000;
     drawn->snapshot = drawn->version > 5000 ? drawn->version - 5000 : 0;
-    for (size_t i = 0; i < drawn->count * RANGES; i++) {
+    for (size_t i = 0; i < drawn->count * drawn->ranges; i++) {
         char text[KEY + 1];
         snprintf(text, sizeof text, "key/%012" PRIu64, random_below(state, drawn->choice));
         memcpy(drawn->keys[i], text, KEY);
@@ -61,8 +62,9 @@ static void by_frame(archcaraway_set *set, archcaraway_writer *writer, uint8_t *
     archcaraway_batch_begin(writer, -1, drawn->version, -1);
     for (size_t t = 0; t < drawn->count; t++) {
         archcaraway_batch_transaction(writer, drawn->snapshot, false);
-        for (int r = 0; r < READS; r++) archcaraway_batch_read_key(writer, drawn->keys[RANGES * t + r], KEY);
-        for (int w = READS; w < RANGES; w++) archcaraway_batch_write_key(writer, drawn->keys[RANGES * t + w], KEY);
+        uint8_t(*keys)[KEY] = drawn->keys + drawn->ranges * t;
+        for (size_t r = 0; r < drawn->reads; r++) archcaraway_batch_read_key(writer, keys[r], KEY);
+        for (size_t w = drawn->reads; w < drawn->ranges; w++) archcaraway_batch_write_key(writer, keys[w], KEY);
     }
     demand(archcaraway_batch_end(writer) == 0, "a frame");
     double written = now();
@@ -75,13 +77,14 @@ static void by_frame(archcaraway_set *set, archcaraway_writer *writer, uint8_t *
 }
 
 static void by_value(archcaraway_set *set, archcaraway_range *ranges, archcaraway_txn *txns, const Drawn *drawn, uint8_t *verdicts) {
-    for (size_t i = 0; i < drawn->count * RANGES; i++) {
+    for (size_t i = 0; i < drawn->count * drawn->ranges; i++) {
         ranges[i].begin.bytes = drawn->keys[i];
         ranges[i].begin.length = KEY;
         ranges[i].single = true;
     }
     for (size_t t = 0; t < drawn->count; t++) {
-        archcaraway_txn txn = {drawn->snapshot, &ranges[RANGES * t], READS, &ranges[RANGES * t + READS], WRITES, false};
+        const archcaraway_range *reads = ranges + drawn->ranges * t, *writes = reads + drawn->reads;
+        archcaraway_txn txn = {drawn->snapshot, reads, drawn->reads, writes, drawn->ranges - drawn->reads, false};
         txns[t] = txn;
     }
     demand(archcaraway_set_judge(set, drawn->version, txns, drawn->count, verdicts, NULL) == 0, "verdicts");
@@ -91,10 +94,12 @@ int main(int words, char **word) {
     const size_t count = words > 1 ? strtoull(word[1], NULL, 10) : 64, batches = words > 2 ? strtoull(word[2], NULL, 10) : 2000;
     const int rounds = words > 3 ? atoi(word[3]) : 5;
     const size_t choice = words > 4 ? strtoull(word[4], NULL, 10) : 100000;
+    const size_t reads = words > 5 ? strtoull(word[5], NULL, 10) : 2, writes = words > 6 ? strtoull(word[6], NULL, 10) : 2;
+    const size_t all = count * (reads + writes);
     uint8_t *buffer = malloc(ARCHCARAWAY_MAX_REPLY), *one = malloc(count), *two = malloc(count);
-    archcaraway_range *ranges = calloc(count * RANGES, sizeof *ranges);
+    archcaraway_range *ranges = calloc(all, sizeof *ranges);
     archcaraway_txn *txns = calloc(count, sizeof *txns);
-    Drawn drawn = {malloc(count * RANGES * KEY), 0, 0, count, choice};
+    Drawn drawn = {malloc(all * KEY), 0, 0, count, choice, reads, reads + writes};
     demand(buffer && one && two && ranges && txns && drawn.keys, "memory");
     double least_frames = 1e9, least_values = 1e9;
     for (int round = 0; round < rounds; round++) {
