@@ -5,6 +5,7 @@ import importlib.machinery
 import importlib.util
 import pathlib
 import sys
+import tempfile
 import types
 import unittest
 
@@ -238,7 +239,7 @@ rt: a line of something else
 
 
 class MoreEdits(unittest.TestCase):
-    """What `rt must-fail` prints, and which crates are copied."""
+    """What `rt` prints of edits, and what is copied."""
 
     def test_results(self) -> None:
         found = more_edits.parse_results(SAID)
@@ -265,6 +266,16 @@ class MoreEdits(unittest.TestCase):
         self.assertEqual(
             more_edits.summary(found[:1]), "1 edits: 1 refused, 0 not refused, 0 bad"
         )
+
+    def test_paths_to_copy(self) -> None:
+        with tempfile.TemporaryDirectory() as folder:
+            crates = pathlib.Path(folder)
+            for part in ("keys/src", "keys/out", "wire/must-fail", "wire/src", "wire/specs"):
+                (crates / part).mkdir(parents=True)
+            self.assertEqual(
+                more_edits.paths_to_copy(crates),
+                ["crates.txt", "HANDLES", "crates/keys/src", "crates/wire/specs", "crates/wire/src"],
+            )
 
     def test_edit_without_result(self) -> None:
         edits = ["keys/lost", "keys/tie"]
