@@ -235,6 +235,7 @@ rt: must-fail wire/form.edit: BAD EDIT: it did not reach the prover; the first l
 src/form.rt:1:1: error[E1]: no such name
 rt: must-fail wire/last.edit: NOT TRIED: its check was killed
 rt: a line of something else
+4 passed, 2 failed (keys wire and the crates below alone: not the gate)
 """
 
 
@@ -255,6 +256,7 @@ class MoreEdits(unittest.TestCase):
         )
         self.assertEqual(found[0].reason, ": src/tie.rt:3:1: error: ensures sorted")
         self.assertTrue(found[3].reason.endswith("\n  src/form.rt:1:1: error[E1]: no such name"))
+        self.assertEqual(found[4].reason, ": its check was killed")
 
     def test_summary(self) -> None:
         found = more_edits.parse_results(SAID)
