@@ -190,7 +190,7 @@ class Comparison(unittest.TestCase):
             lines,
             [
                 "crates proved in this run: 1, 3.0 minutes (gate.csv: 2.0)",
-                "crates kept from earlier runs, not compared: 3;"
+                "crates not proved in this run, so not compared: 3;"
                 " with their figures from gate.csv, 8.0 minutes in all",
             ],
         )
