@@ -120,7 +120,7 @@ check:
 test:
 	rt ci
 
-# Tries the edits of edits/, which `make test` leaves out: all, or those of CRATES='NAME..'. Best after `make check`.
+# Tries the edits of edits/, which `make test` leaves out: all, or those of CRATES='NAME..'. Best after `make test`, whose proofs it takes.
 more-edits:
 	.ci/more-edits $(CRATES)
 
