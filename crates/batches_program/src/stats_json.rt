@@ -1,0 +1,66 @@
+//! What batches add up to, as one object of JSON.
+
+ghost use Rattle.std.specs.Prelude.{◌≡◌, ◌++◌, codes, decimal, IfOk, OnOk};
+ghost use Rattle.batches_program.specs.StatsJson.{number_member, spread_member, stats_json};
+ghost use Rattle.batches_program.specs.StatsJson.{versions_member};
+
+use crate::failure::Failure;
+use crate::spread::Spread;
+use crate::stats::Stats;
+use crate::stats_text::tenths_of;
+use std::alloc::Global;
+use std::io::Write;
+
+/// Returns the line of JSON of what batches add up to.
+pub fn json_of_stats(alloc: Global, stats: &Stats) -> Result<Vec<u8>, Failure>
+    ensures text { IfOk result (λ text. text.items ≡ stats_json stats.now) }
+{
+    let mut out = Vec::new(alloc);
+    let txns = &stats.of_txns;
+    let (batches, bytes) = (stats.txns.count, stats.bytes);
+    write!(out, "{{\"batches\":{batches},\"bytes\":{bytes}")?;
+    put_versions(&mut out, stats.versions)?;
+    put_number(&mut out, "transactions", stats.txns.total)?;
+    put_number(&mut out, "reports", txns.marked)?;
+    put_spread(&mut out, "transactions_per_batch", &stats.txns)?;
+    put_number(&mut out, "reads", txns.reads.total)?;
+    put_spread(&mut out, "reads_per_transaction", &txns.reads)?;
+    put_number(&mut out, "writes", txns.writes.total)?;
+    put_spread(&mut out, "writes_per_transaction", &txns.writes)?;
+    put_number(&mut out, "keys", stats.keys.count)?;
+    put_spread(&mut out, "key_bytes", &stats.keys)?;
+    writeln!(out, "}}")?;
+    Ok(out)
+}
+
+fn put_number(out: &mut Vec<u8>, name: &str, number: u64) -> Result<(), Failure>
+    ensures text { OnOk result (out.new.items ≡ out.old.items ++ number_member name.now number) }
+{
+    Ok(write!(out, ",\"{name}\":{number}")?)
+}
+
+fn put_versions(out: &mut Vec<u8>, versions: Option<(i64, i64)>) -> Result<(), Failure>
+    ensures text { OnOk result (out.new.items ≡ out.old.items ++ versions_member versions) }
+{
+    match versions {
+        None => Ok(write!(out, ",\"versions\":null")?),
+        Some((least, greatest)) => Ok(write!(out, ",\"versions\":[{least},{greatest}]")?),
+    }
+}
+
+fn put_spread(out: &mut Vec<u8>, name: &str, spread: &Spread) -> Result<(), Failure>
+    ensures text { OnOk result (out.new.items
+        ≡ out.old.items ++ spread_member name.now spread.now) }
+{
+    let Some((least, greatest)) = spread.ends else {
+        return Ok(write!(out, ",\"{name}\":null")?);
+    };
+    let Some(tenths) = tenths_of(spread) else {
+        return Err(Failure::Memory);
+    };
+    let (whole, tenth) = (tenths / 10, tenths % 10);
+    Ok(write!(
+        out,
+        ",\"{name}\":{{\"least\":{least},\"mean\":{whole}.{tenth},\"greatest\":{greatest}}}"
+    )?)
+}
