@@ -1,7 +1,9 @@
 -- The batch that starts a chain at a version. This project's own.
-use Rattle.std.specs.Prelude.{ℕ, ℤ, pos, negsuc, false, List, [], ◌∷◌, replicate}
+use Rattle.std.specs.Prelude.{◌≡◌, ℕ, ℤ, pos, negsuc, false, List, [], ◌∷◌, replicate}
 use Rattle.keys.specs.declared.key.TheConstants.{MAX_KEY_LENGTH}
-use Rattle.wire.specs.Fields.{RangeFields, TxnFields, BatchFields}
+use Rattle.keys.specs.declared.range.Range.{Range}
+use Rattle.keys.specs.Range.{IsEmpty, Meets}
+use Rattle.wire.specs.Fields.{RangeFields, TxnFields, BatchFields, range_fields}
 use Rattle.wire.specs.Spelling.{batch_body, frame}
 use Rattle.wire.specs.declared.version.WireVersion.TheVariants.{Two}
 
@@ -29,3 +31,7 @@ opening_fields version = record {
 -- its frame, of wire version 2
 abbrev pub opening_frame : ℤ → List ℕ
 opening_frame version = frame (batch_body Two (opening_fields version))
+
+-- the range overlaps every range that isn't empty
+abbrev pub MeetsEveryRange : Type 0
+MeetsEveryRange = (every range : Range) → range_fields every ≡ every_key → ¬ IsEmpty range → Meets every range

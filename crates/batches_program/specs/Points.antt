@@ -1,6 +1,6 @@
 -- Split points as lines: each is a key in its printed form.
-use Rattle.std.specs.Prelude.{◌≡◌, ◌⊎◌, ℕ, List, [], ◌∷◌, ◌++◌, flat_map, Some}
-use Rattle.std.specs.Io.BufRead.{take_through}
+use Rattle.std.specs.Prelude.{◌≡◌, ◌⊎◌, ℕ, List, [], ◌∷◌, ◌++◌, flat_map, Option, Some, IfSome}
+use Rattle.std.specs.Io.BufRead.{take_through, drop_through}
 use Rattle.keys.specs.declared.key.TheConstants.{MAX_KEY_LENGTH}
 use Rattle.json_lines.specs.KeyForm.{key_form}
 use Rattle.json_lines.specs.Ranges.{key_within}
@@ -23,3 +23,7 @@ ArePointLines bytes [] = bytes ≡ []
 ArePointLines bytes (key ∷ keys) =
     (rest : List ℕ) × (bytes ≡ take_through 10 bytes ++ rest) × IsPointLine (take_through 10 bytes) key
     × ArePointLines rest keys
+
+-- the first line spells the key, and just that line leaves
+abbrev pub TakesPoint : Option (List ℕ) → Option (List ℕ) → List ℕ → Type 0
+TakesPoint old new key = IfSome old (λ bytes. IsPointLine (take_through 10 bytes) key × (new ≡ Some (drop_through 10 bytes)))

@@ -6,7 +6,7 @@ ghost use Rattle.batches_program.specs.Told.{TellsLine};
 
 use crate::clipper::clip_frames;
 use crate::counter::count_frames;
-use crate::failure::{Failure, fail_in};
+use crate::failure::{Failure, fail, fail_in};
 use crate::job::STANDARD_INPUT;
 use crate::points::read_points;
 use crate::sample::{read_batches, split_points};
@@ -106,6 +106,7 @@ pub fn write_clips<R: Files<File = File> + Input + AllocGlobal, O: Sink, E: Sink
     }
     match clip_file(rt, &split, shard, file, out) {
         Ok(()) => Status::Done,
+        Err(Failure::Write) => fail_in(error, alloc, OUTPUT, &Failure::Write),
         Err(failure) => fail_in(error, alloc, file.unwrap_or(INPUT), &failure),
     }
 }
@@ -128,7 +129,7 @@ fn print<R: AllocGlobal, O: Sink, E: Sink>(
             Ok(()) => Status::Done,
             Err(_) => fail_in(error, rt.alloc(), OUTPUT, &Failure::Write),
         },
-        Err(failure) => fail_in(error, rt.alloc(), INPUT, &failure),
+        Err(failure) => fail(error, rt.alloc(), &failure),
     }
 }
 

@@ -20,6 +20,7 @@ mod frame;
 mod job;
 mod jobs;
 mod kind;
+pub mod laws;
 mod opening;
 mod points;
 mod printer;

@@ -2,7 +2,7 @@
 
 ghost use Rattle.std.specs.Prelude.{◌≡◌, ◌≢◌, ◌<◌, ◌≤ℤ◌, pos, List, ℕ, IfErr, IfOk, OnOk};
 ghost use Rattle.std.specs.Io.KnownBytes.{Appends};
-ghost use Rattle.wire.specs.Fields.{batch_fields};
+ghost use Rattle.wire.specs.Fields.{batch_fields, range_fields};
 ghost use Rattle.batches_program.specs.Opening.{opening_fields, opening_frame, every_key};
 ghost use Rattle.batches_program.specs.declared.failure.Failure.TheVariants.{Write};
 
@@ -55,6 +55,7 @@ fn opening(alloc: Global, version: i64) -> Result<Batch, Failure>
 }
 
 // Returns the range from the empty key to the greatest key.
+#[tactic(auto, unfolding(crate::specs::Opening::greatest_key))]
 fn range_of_every_key(alloc: Global) -> Result<Range, Failure>
     ensures range { IfOk result (λ range. range_fields range ≡ every_key) }
     ensures memory { IfErr result (λ e. e ≢ Write) }

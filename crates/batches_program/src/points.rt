@@ -1,7 +1,8 @@
 //! Split points as lines.
 
-ghost use Rattle.std.specs.Prelude.{◌≡◌, IfOk, IfSome};
-ghost use Rattle.batches_program.specs.Points.{ArePointLines, IsPointLine, point_lines};
+ghost use Rattle.std.specs.Prelude.{◌≡◌, IfNone, IfOk, IfSome};
+ghost use Rattle.std.specs.Io.KnownBytes.{IsAtEnd};
+ghost use Rattle.batches_program.specs.Points.{ArePointLines, IsPointLine, TakesPoint, point_lines};
 
 use crate::failure::Failure;
 use json_lines::{Refusal, put_key_form, read_key};
@@ -15,7 +16,8 @@ pub fn lines_of_points(alloc: Global, points: &SplitPoints) -> Result<Vec<u8>, A
     ensures lines { IfOk result (λ lines. lines.items ≡ point_lines points.now) }
 {
     let mut lines = Vec::new(alloc);
-    for point in points.points() {
+    let keys = points.points();
+    for point in keys {
         put_key_form(&mut lines, point.as_bytes())?;
         lines.push(b'\n')?;
     }
@@ -30,14 +32,31 @@ pub fn read_points<R: BufRead>(alloc: Global, reader: &mut R) -> Result<SplitPoi
     let mut points = Vec::new(alloc);
     let mut line = Vec::new(alloc);
     for number in 1..u64::MAX {
-        line.clear();
-        if reader.read_until(b'\n', &mut line)? == 0 {
+        let Some(point) = next_point(alloc, number, reader, &mut line)? else {
             return checked(points);
-        }
-        points.push(point_of(alloc, number, &line)?)?;
+        };
+        points.push(point)?;
     }
     // The number of one line more wouldn't fit. No input is so long.
     Err(Failure::Memory)
+}
+
+// Reads the next line, which has this number, and returns its key, or none at the end of the input.
+fn next_point<R: BufRead>(
+    alloc: Global,
+    number: u64,
+    reader: &mut R,
+    line: &mut Vec<u8>,
+) -> Result<Option<Key>, Failure>
+    ensures point { IfOk result (λ found. IfSome found
+        (TakesPoint (R.remaining reader.old) (R.remaining reader.new))) }
+    ensures end { IfOk result (λ found. IfNone found (IsAtEnd (R.remaining reader.old))) }
+{
+    line.clear();
+    if reader.read_until(b'\n', line)? == 0 {
+        return Ok(None);
+    }
+    Ok(Some(point_of(alloc, number, line)?))
 }
 
 // Returns the key that a line, which has this number, spells.
