@@ -38,7 +38,7 @@ at_most_greatest key is = ap not (not_after MAX_KEY_LENGTH key is.bytes is.short
 
 pub length-greatest_key : length greatest_key ≡ MAX_KEY_LENGTH
 unfolding greatest_key
-length-greatest_key = length-replicate MAX_KEY_LENGTH 255
+length-greatest_key = length-replicate {A = ℕ} MAX_KEY_LENGTH 255
 
 filled : (every : Range) → range_fields every ≡ every_key → ¬ IsEmpty every
 filled every is empty =

@@ -1,14 +1,18 @@
 -- The failure of a line or a frame is that of the bytes left.
 use Rattle.std.proofs.Common.{◌≡◌, ◌≢◌, ◌⊎◌, inl, inr, ℕ, ◌<◌, List, [], length, Option, Some, None, sym, subst, ◌∙◌}
-use Rattle.std.specs.Prelude.{IfSome, IsTrue, not}
+use Rattle.std.specs.Prelude.{IfSome, IsSomeAnd, IsTrue, not, slice_get}
 use Rattle.std.specs.Io.BufRead.{take_through}
 use Rattle.std.specs.Io.KnownBytes.{Consumes, IsAtEnd}
+use Rattle.keyspace.specs.declared.batch.Batch.{Batch}
+use Rattle.serial.specs.Shards.{Shard, shards}
+use Rattle.shards.specs.Clips.{IsBatchClip, IsClipped}
+use Rattle.shards.specs.declared.clipped.Clipped.{Clipped}
 use Rattle.wire.specs.declared.error.WireError.{WireError}
 use Rattle.wire.specs.FrameLength.{frame_length}
 use Rattle.wire.proofs.callers.Frames.{is_fault, is_reply_fault}
 use Rattle.batches_program.specs.Lines.{is_blank}
 use Rattle.batches_program.specs.Failing.{BeginsWithLine, FailsFrame, FailsLine, IsFailureOfFrame, IsFailureOfLine, IsFirstFault, SpellsNothing, SpellsTooMuch, fault_of}
-use Rattle.batches_program.specs.Clipping.{BeginsTooLong, ClipsTooLong, FailsClip, IsFailureOfClip}
+use Rattle.batches_program.specs.Clipping.{BeginsTooLong, ClipsTooLong, FailsClip, IsClipAt, IsFailureOfClip}
 use Rattle.batches_program.specs.declared.failure.Failure.{Failure}
 use Rattle.batches_program.specs.declared.failure.Failure.TheVariants as failure
 use Rattle.batches_program.specs.declared.kind.Kind.{Kind}
@@ -37,6 +41,16 @@ frame_fails kind number left now frame failure.NotText taken some end fails = ab
 frame_fails kind number left now frame failure.Memory taken some end fails = tt
 frame_fails kind number left now frame failure.Read taken some end fails = absurd fails
 frame_fails kind number left now frame failure.Write taken some end fails = absurd fails
+
+some_weaker : {A : Type 0} (P Q : A → Type 0) (found : Option A) → ((x : A) → P x → Q x) → IsSomeAnd found P → IsSomeAnd found Q
+some_weaker P Q None weaker holds = absurd holds
+some_weaker P Q (Some x) weaker holds = weaker x holds
+
+pub clip_at : (points : List (List ℕ)) (number : ℕ) (batch : Batch) (clipped : Clipped)
+    → IsSomeAnd (slice_get (shards points) number) (λ shard. IsClipped shard batch clipped) → IsClipAt points number batch clipped.batch
+clip_at points number batch clipped holds =
+    some_weaker (λ (shard : Shard). IsClipped shard batch clipped) (λ (shard : Shard). IsBatchClip shard batch clipped.batch)
+    (slice_get (shards points) number) (λ shard is. is.batch) holds
 
 too_long : (points : List (List ℕ)) (shard : ℕ) (left now : Option (List ℕ)) (frame : List ℕ) → Consumes left now frame
     → ClipsTooLong points shard frame → IfSome left (BeginsTooLong points shard)

@@ -34,10 +34,10 @@ pub record FramesSoFar (left now : Option (List ℕ)) (number : ℕ) : Type 0 wh
   pub read : Consumes left now bytes
   pub counted : number ≡ length batches + 1
 
-pub no_frames : (left : Option (List ℕ)) → FramesSoFar left left 1
+abbrev pub no_frames : (left : Option (List ℕ)) → FramesSoFar left left 1
 no_frames left = record { bytes = []; batches = []; frames = refl; read = consumes_none left; counted = refl }
 
-pub one_frame_more : (left now next : Option (List ℕ)) (number : ℕ) (part : List ℕ) (batch : Batch)
+abbrev pub one_frame_more : (left now next : Option (List ℕ)) (number : ℕ) (part : List ℕ) (batch : Batch)
     → FramesSoFar left now number → Consumes now next part → IsFrameOf part batch → FramesSoFar left next (number + 1)
 one_frame_more left now next number part batch so_far read is = record {
   bytes = so_far.bytes ++ part;

@@ -1,6 +1,6 @@
 -- Lines of split points, one after another.
 use Rattle.std.proofs.Common.{◌≡◌, ℕ, Bool, true, false, List, [], ◌∷◌, ◌++◌, Option, Some, None, refl, sym, ap, subst, ◌∙◌, append_assoc}
-use Rattle.std.specs.Prelude.{IfSome, ◌==◌, if◌then◌else◌}
+use Rattle.std.specs.Prelude.{Result, Ok, Err, IfOk, IfSome, ◌==◌, if◌then◌else◌}
 use Rattle.std.proofs.lemmas.List.{append-nil}
 use Rattle.std.specs.Io.BufRead.{take_through, drop_through}
 use Rattle.std.specs.Io.KnownBytes.{IsAtEnd}
@@ -49,8 +49,7 @@ all_keys left now keys so_far end =
     subst (λ (ks : List (List ℕ)). IfSome left (λ bytes. ArePointLines bytes ks)) (append-nil keys)
     (so_far [] (at_end_none now end))
 
--- a line that was read into an empty buffer
-pub takes_point : (now next : Option (List ℕ)) (line key : List ℕ) → IfSome now (λ xs. line ≡ [] ++ take_through 10 xs)
-    → IfSome now (λ xs. next ≡ Some (drop_through 10 xs)) → IsPointLine line key → TakesPoint now next key
-takes_point None next line key read rest is = tt
-takes_point (Some xs) next line key read rest is = (subst (λ (l : List ℕ). IsPointLine l key) read is, rest)
+-- what is known of a value, weakened
+pub if_ok_weaker : {T E : Type 0} (P Q : T → Type 0) (r : Result T E) → ((x : T) → P x → Q x) → IfOk r P → IfOk r Q
+if_ok_weaker P Q (Ok x) weaker holds = weaker x holds
+if_ok_weaker P Q (Err e) weaker holds = tt

@@ -26,9 +26,12 @@ spread_object spread (Some ends) =
 abbrev pub spread_member : List ℕ → Spread → List ℕ
 spread_member name spread = member_name name ++ spread_object spread spread.ends
 
+abbrev pub first_members : ℕ → ℕ → List ℕ
+first_members batches bytes = codes "{\"batches\":" ++ decimal batches ++ codes ",\"bytes\":" ++ decimal bytes
+
 abbrev pub stats_json : Stats → List ℕ
 stats_json stats =
-    codes "{\"batches\":" ++ decimal stats.txns.count ++ codes ",\"bytes\":" ++ decimal stats.bytes
+    first_members stats.txns.count stats.bytes
     ++ versions_member stats.versions
     ++ number_member (codes "transactions") stats.txns.total
     ++ number_member (codes "reports") stats.of_txns.marked

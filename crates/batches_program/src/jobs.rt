@@ -41,10 +41,8 @@ pub fn print_stats<R: Files<File = File> + Input + AllocGlobal, O: Sink, E: Sink
 {
     let alloc = rt.alloc();
     let mut stats = Stats::new();
-    for name in files {
-        if let Err(failure) = count_file(rt, name, &mut stats) {
-            return fail_in(error, alloc, shown(name), &failure);
-        }
+    if let Err((name, failure)) = count_files(rt, files, &mut stats) {
+        return fail_in(error, alloc, name, &failure);
     }
     let text = if json {
         json_of_stats(alloc, &stats)
@@ -71,10 +69,8 @@ pub fn print_points<R: Files<File = File> + Input + AllocGlobal, O: Sink, E: Sin
 {
     let alloc = rt.alloc();
     let mut batches = Vec::new(alloc);
-    for name in files {
-        if let Err(failure) = collect_file(rt, name, &mut batches) {
-            return fail_in(error, alloc, shown(name), &failure);
-        }
+    if let Err((name, failure)) = collect_files(rt, files, &mut batches) {
+        return fail_in(error, alloc, name, &failure);
     }
     print(rt, split_points(alloc, &batches, resolvers), out, error)
 }
@@ -131,6 +127,34 @@ fn print<R: AllocGlobal, O: Sink, E: Sink>(
         },
         Err(failure) => fail(error, rt.alloc(), &failure),
     }
+}
+
+// Counts the batches of the files, in order. An error names the file.
+fn count_files<'a, R: Files<File = File> + Input + AllocGlobal>(
+    rt: &R,
+    files: &[&'a str],
+    stats: &mut Stats,
+) -> Result<(), (&'a str, Failure)> {
+    for name in files {
+        if let Err(failure) = count_file(rt, name, stats) {
+            return Err((shown(name), failure));
+        }
+    }
+    Ok(())
+}
+
+// Reads the batches of the files, in order. An error names the file.
+fn collect_files<'a, R: Files<File = File> + Input + AllocGlobal>(
+    rt: &R,
+    files: &[&'a str],
+    batches: &mut Vec<Batch>,
+) -> Result<(), (&'a str, Failure)> {
+    for name in files {
+        if let Err(failure) = collect_file(rt, name, batches) {
+            return Err((shown(name), failure));
+        }
+    }
+    Ok(())
 }
 
 fn shown(name: &str) -> &str {

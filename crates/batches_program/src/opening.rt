@@ -1,15 +1,17 @@
 //! The batch that starts a chain at a version.
 
-ghost use Rattle.std.specs.Prelude.{◌≡◌, ◌≢◌, ◌<◌, ◌≤ℤ◌, pos, List, ℕ, IfErr, IfOk, OnOk};
+ghost use Rattle.std.specs.Prelude.{◌≡◌, ◌≢◌, ◌<◌, ◌≤ℤ◌, pos, IfErr, IfOk, OnOk, vec_len};
 ghost use Rattle.std.specs.Io.KnownBytes.{Appends};
+ghost use Rattle.keys.specs.declared.key.TheConstants.{MAX_KEY_LENGTH};
 ghost use Rattle.wire.specs.Fields.{batch_fields, range_fields};
-ghost use Rattle.batches_program.specs.Opening.{opening_fields, opening_frame, every_key};
+ghost use Rattle.batches_program.specs.Opening.{every_key, greatest_key, opening_fields};
+ghost use Rattle.batches_program.specs.Opening.{opening_frame};
 ghost use Rattle.batches_program.specs.declared.failure.Failure.TheVariants.{Write};
 
 use crate::failure::Failure;
 use keys::{Key, MAX_KEY_LENGTH, Range};
 use keyspace::{Batch, Sequence, Txn, Txns};
-use std::alloc::Global;
+use std::alloc::{AllocError, Global};
 use wire::{Sink, encode_batch, write_and_flush};
 
 /// Writes the frame of the batch that starts a chain at this version, and flushes the output. The
@@ -55,11 +57,18 @@ fn opening(alloc: Global, version: i64) -> Result<Batch, Failure>
 }
 
 // Returns the range from the empty key to the greatest key.
-#[tactic(auto, unfolding(crate::specs::Opening::greatest_key))]
 fn range_of_every_key(alloc: Global) -> Result<Range, Failure>
     ensures range { IfOk result (λ range. range_fields range ≡ every_key) }
     ensures memory { IfErr result (λ e. e ≢ Write) }
 {
-    let greatest = vec![in alloc; 255; MAX_KEY_LENGTH]?;
+    let greatest = bytes_of_greatest(alloc)?;
     Ok(Range::new(Key::new(Vec::new(alloc)), Key::new(greatest)))
+}
+
+#[tactic(auto, unfolding(crate::specs::Opening::greatest_key))]
+fn bytes_of_greatest(alloc: Global) -> Result<Vec<u8>, AllocError>
+    ensures bytes { IfOk result (λ bytes. bytes.items ≡ greatest_key) }
+    ensures count { IfOk result (λ bytes. vec_len bytes ≡ MAX_KEY_LENGTH) }
+{
+    vec![in alloc; 255; MAX_KEY_LENGTH]
 }

@@ -1,6 +1,7 @@
 //! What batches add up to.
 
-ghost use Rattle.std.specs.Prelude.{◌≡◌, ◌+◌, ◌∷◌, ◌++◌, [], List, ℕ, OnSome, flat_map, length, map};
+ghost use Rattle.std.specs.Prelude.{◌≡◌, ◌+◌, ◌∷◌, ◌++◌, [], List, ℕ, ℤ, OnSome, flat_map, length};
+ghost use Rattle.std.specs.Prelude.{map};
 ghost use Rattle.keyspace.specs.declared.batch.Batch.{Batch as BatchValue};
 ghost use Rattle.keyspace.specs.declared.txn.Txn.{Txn as TxnValue};
 ghost use Rattle.batches_program.specs.Stats.{keys_of_range, spread_of, stats_of, txn_counts_of};

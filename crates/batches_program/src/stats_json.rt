@@ -1,8 +1,8 @@
 //! What batches add up to, as one object of JSON.
 
 ghost use Rattle.std.specs.Prelude.{◌≡◌, ◌++◌, codes, decimal, IfOk, OnOk};
-ghost use Rattle.batches_program.specs.StatsJson.{number_member, spread_member, stats_json};
-ghost use Rattle.batches_program.specs.StatsJson.{versions_member};
+ghost use Rattle.batches_program.specs.StatsJson.{first_members, number_member};
+ghost use Rattle.batches_program.specs.StatsJson.{spread_member, stats_json, versions_member};
 
 use crate::failure::Failure;
 use crate::spread::Spread;
@@ -17,8 +17,7 @@ pub fn json_of_stats(alloc: Global, stats: &Stats) -> Result<Vec<u8>, Failure>
 {
     let mut out = Vec::new(alloc);
     let txns = &stats.of_txns;
-    let (batches, bytes) = (stats.txns.count, stats.bytes);
-    write!(out, "{{\"batches\":{batches},\"bytes\":{bytes}")?;
+    put_sizes(&mut out, stats.txns.count, stats.bytes)?;
     put_versions(&mut out, stats.versions)?;
     put_number(&mut out, "transactions", stats.txns.total)?;
     put_number(&mut out, "reports", txns.marked)?;
@@ -29,8 +28,21 @@ pub fn json_of_stats(alloc: Global, stats: &Stats) -> Result<Vec<u8>, Failure>
     put_spread(&mut out, "writes_per_transaction", &txns.writes)?;
     put_number(&mut out, "keys", stats.keys.count)?;
     put_spread(&mut out, "key_bytes", &stats.keys)?;
-    writeln!(out, "}}")?;
+    put_end(&mut out)?;
     Ok(out)
+}
+
+// Writes the begin of the object, and its first members.
+fn put_sizes(out: &mut Vec<u8>, batches: u64, bytes: u64) -> Result<(), Failure>
+    ensures text { OnOk result (out.new.items ≡ out.old.items ++ first_members batches bytes) }
+{
+    Ok(write!(out, "{{\"batches\":{batches},\"bytes\":{bytes}")?)
+}
+
+fn put_end(out: &mut Vec<u8>) -> Result<(), Failure>
+    ensures text { OnOk result (out.new.items ≡ out.old.items ++ codes "}\n") }
+{
+    Ok(writeln!(out, "}}")?)
 }
 
 fn put_number(out: &mut Vec<u8>, name: &str, number: u64) -> Result<(), Failure>

@@ -127,8 +127,10 @@ fn file_of<'a>(matches: &ArgMatches<'a>) -> Option<&'a str> {
 
 // Returns the names of the files, of which standard input is one if none is given.
 fn files_of<'a>(alloc: Global, matches: &ArgMatches<'a>) -> Result<Vec<&'a str>, AllocError> {
-    match matches.get_strs("FILE") {
-        Some(files) => Vec::from_slice(alloc, files),
-        None => Vec::from_slice(alloc, &[STANDARD_INPUT]),
+    if let Some(files) = matches.get_strs("FILE") {
+        return Vec::from_slice(alloc, files);
     }
+    let mut files = Vec::new(alloc);
+    files.push(STANDARD_INPUT)?;
+    Ok(files)
 }

@@ -1,10 +1,10 @@
 use Rattle.std.proofs.Common.{◌≡◌, ◌≢◌, ◌<◌, ℕ, List, [], length, vec_len, refl, ap, subst, arith, rules}
-use Rattle.std.specs.Io.KnownBytes.{IsAtEnd}
+use Rattle.std.specs.Io.KnownBytes.{Appends, IsAtEnd}
 use Rattle.std.proofs.lemmas.List.{nil_from_length}
 use Rattle.std.proofs.lemmas.Result.{err_from_is_err_and}
 use Rattle.wire.proofs.callers.Frames.{at_least_four}
 use Rattle.wire.proofs.callers.Known.{none_before}
-use Rattle.batches_program.specs.Clipping.{IsFailureOfClip}
+use Rattle.batches_program.specs.Clipping.{BecomesClip, IsFailureOfClip}
 use Rattle.batches_program.proofs.Failures.{clip_fails}
 use Rattle.batches_program.proofs.clipper.clip_next.Goals as goal
 
@@ -33,3 +33,16 @@ returns-in_err-clip-clause-fails g c =
     c.in_err-clip.ensures.fails in
     rw (p.1, p.2) (clip_fails c.args.points.now c.args.shard c.args.number old new held e c.in_ok-next_frame.ensures.taken some
     (λ lt. c.in_ok-next_frame.ensures.end (omega (arith, len, lt))) fails)
+
+pub returns-clause-clipped : goal.returns-clause-clipped
+returns-clause-clipped g c some =
+    let clip = c.in_ok-clip.clip.items in
+    let before = g.W.Sink.given c.args.writer.now in
+    let after = g.W.Sink.given c.write_all.new.writer in (
+      c.next_frame.new.frame.items,
+      clip,
+      c.in_ok-next_frame.ensures.taken,
+      subst (λ (bytes : List ℕ). BecomesClip c.args.points.now c.args.shard bytes clip) c.deref.ensures.value
+          c.in_ok-clip.ensures.clip,
+      subst (λ (bytes : List ℕ). Appends before after bytes) c.deref-2.ensures.value c.in_ok-write_all.ensures.whole,
+    )
