@@ -12,7 +12,7 @@ use Rattle.batches_program.specs.Failing.{FailsFrame}
 use Rattle.batches_program.specs.declared.failure.Failure.{Failure}
 use Rattle.batches_program.specs.declared.kind.Kind.TheVariants.{Batches}
 
-frames_last : (bytes part : List ℕ) (batches : List Batch) (batch : Batch) → AreFrames bytes batches → IsFrameOf part batch
+pub frames_last : (bytes part : List ℕ) (batches : List Batch) (batch : Batch) → AreFrames bytes batches → IsFrameOf part batch
     → AreFrames (bytes ++ part) (batches ++ batch ∷ [])
 frames_last bytes part [] batch frames is =
     (part, [], ap (λ (t : List ℕ). t ++ part) frames ∙ sym (append-nil part), is, refl)
