@@ -26,6 +26,7 @@ mod points;
 mod printer;
 mod program;
 mod progress;
+mod put;
 mod sample;
 mod spread;
 mod stats;

@@ -1,13 +1,14 @@
 //! What batches add up to, as one object of JSON.
 
-ghost use Rattle.std.specs.Prelude.{◌≡◌, ◌++◌, codes, decimal, IfOk, OnOk};
+ghost use Rattle.std.specs.Prelude.{◌≡◌, ◌++◌, codes, IfOk, OnOk, Some};
 ghost use Rattle.batches_program.specs.StatsJson.{first_members, number_member};
-ghost use Rattle.batches_program.specs.StatsJson.{spread_member, stats_json, versions_member};
+ghost use Rattle.batches_program.specs.StatsJson.{spread_member, spread_object, stats_json};
+ghost use Rattle.batches_program.specs.StatsJson.{versions_member};
 
 use crate::failure::Failure;
+use crate::put::{put_decimal, put_mean, put_text};
 use crate::spread::Spread;
 use crate::stats::Stats;
-use crate::stats_text::tenths_of;
 use std::alloc::Global;
 use std::io::Write;
 
@@ -36,7 +37,10 @@ pub fn json_of_stats(alloc: Global, stats: &Stats) -> Result<Vec<u8>, Failure>
 fn put_sizes(out: &mut Vec<u8>, batches: u64, bytes: u64) -> Result<(), Failure>
     ensures text { OnOk result (out.new.items ≡ out.old.items ++ first_members batches bytes) }
 {
-    Ok(write!(out, "{{\"batches\":{batches},\"bytes\":{bytes}")?)
+    put_text(out, "{\"batches\":")?;
+    put_decimal(out, batches)?;
+    put_text(out, ",\"bytes\":")?;
+    put_decimal(out, bytes)
 }
 
 fn put_end(out: &mut Vec<u8>) -> Result<(), Failure>
@@ -64,15 +68,31 @@ fn put_spread(out: &mut Vec<u8>, name: &str, spread: &Spread) -> Result<(), Fail
     ensures text { OnOk result (out.new.items
         ≡ out.old.items ++ spread_member name.now spread.now) }
 {
-    let Some((least, greatest)) = spread.ends else {
-        return Ok(write!(out, ",\"{name}\":null")?);
-    };
-    let Some(tenths) = tenths_of(spread) else {
-        return Err(Failure::Memory);
-    };
-    let (whole, tenth) = (tenths / 10, tenths % 10);
-    Ok(write!(
-        out,
-        ",\"{name}\":{{\"least\":{least},\"mean\":{whole}.{tenth},\"greatest\":{greatest}}}"
-    )?)
+    put_text(out, ",\"")?;
+    put_text(out, name)?;
+    put_text(out, "\":")?;
+    put_value(out, spread)
+}
+
+fn put_value(out: &mut Vec<u8>, spread: &Spread) -> Result<(), Failure>
+    ensures text { OnOk result
+        (out.new.items ≡ out.old.items ++ spread_object spread.now spread.now.ends) }
+{
+    match spread.ends {
+        None => put_text(out, "null"),
+        Some((least, greatest)) => put_ends(out, spread, least, greatest),
+    }
+}
+
+fn put_ends(out: &mut Vec<u8>, spread: &Spread, least: u64, greatest: u64) -> Result<(), Failure>
+    ensures text { OnOk result
+        (out.new.items ≡ out.old.items ++ spread_object spread.now (Some (least, greatest))) }
+{
+    put_text(out, "{\"least\":")?;
+    put_decimal(out, least)?;
+    put_text(out, ",\"mean\":")?;
+    put_mean(out, spread)?;
+    put_text(out, ",\"greatest\":")?;
+    put_decimal(out, greatest)?;
+    put_text(out, "}")
 }

@@ -1,10 +1,11 @@
 //! What batches add up to, as lines.
 
-ghost use Rattle.std.specs.Prelude.{◌≡◌, ◌++◌, codes, decimal, IfOk, IfSome, OnOk};
-ghost use Rattle.batches_program.specs.StatsText.{number_line, spread_line, stats_text, tenths_of};
+ghost use Rattle.std.specs.Prelude.{◌≡◌, ◌++◌, IfOk, OnOk, Some};
+ghost use Rattle.batches_program.specs.StatsText.{number_line, spread_line, spread_with, stats_text};
 ghost use Rattle.batches_program.specs.StatsText.{versions_line};
 
 use crate::failure::Failure;
+use crate::put::{put_decimal, put_mean, put_text};
 use crate::spread::Spread;
 use crate::stats::Stats;
 use std::alloc::Global;
@@ -49,26 +50,30 @@ fn put_versions(out: &mut Vec<u8>, versions: Option<(i64, i64)>) -> Result<(), F
 fn put_spread(out: &mut Vec<u8>, name: &str, spread: &Spread) -> Result<(), Failure>
     ensures line { OnOk result (out.new.items ≡ out.old.items ++ spread_line name.now spread.now) }
 {
-    let Some((least, greatest)) = spread.ends else {
-        return Ok(writeln!(out, "{name}: none")?);
-    };
-    let Some(tenths) = tenths_of(spread) else {
-        return Err(Failure::Memory);
-    };
-    let (whole, tenth) = (tenths / 10, tenths % 10);
-    Ok(writeln!(
-        out,
-        "{name}: least {least}, mean {whole}.{tenth}, greatest {greatest}"
-    )?)
+    put_text(out, name)?;
+    put_text(out, ": ")?;
+    put_value(out, spread)?;
+    put_text(out, "\n")
 }
 
-/// Returns the mean in tenths, rounded to the nearest one, and up from the middle. There is none if
-/// there is no number, or if ten times the sum of the numbers doesn't fit.
-pub fn tenths_of(spread: &Spread) -> Option<u64>
-    ensures tenths { IfSome result (λ tenths. tenths ≡ tenths_of spread.now) }
+fn put_value(out: &mut Vec<u8>, spread: &Spread) -> Result<(), Failure>
+    ensures text { OnOk result
+        (out.new.items ≡ out.old.items ++ spread_with spread.now spread.now.ends) }
 {
-    let ten_times = spread.total.checked_mul(10)?;
-    ten_times
-        .checked_add(spread.count / 2)?
-        .checked_div(spread.count)
+    match spread.ends {
+        None => put_text(out, "none"),
+        Some((least, greatest)) => put_ends(out, spread, least, greatest),
+    }
+}
+
+fn put_ends(out: &mut Vec<u8>, spread: &Spread, least: u64, greatest: u64) -> Result<(), Failure>
+    ensures text { OnOk result
+        (out.new.items ≡ out.old.items ++ spread_with spread.now (Some (least, greatest))) }
+{
+    put_text(out, "least ")?;
+    put_decimal(out, least)?;
+    put_text(out, ", mean ")?;
+    put_mean(out, spread)?;
+    put_text(out, ", greatest ")?;
+    put_decimal(out, greatest)
 }
