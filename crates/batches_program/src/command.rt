@@ -12,7 +12,9 @@ const EXAMPLE: &str =
 pub fn command<'a>(alloc: Global) -> Result<Command<'a>, AllocError> {
     let command = Command::new(alloc, "batches")
         .version("0.2.0")
-        .about("Turns lines of JSON into frames of batches or replies and back, and looks at frames")
+        .about(
+            "Turns lines of JSON into frames of batches or replies and back, and looks at frames",
+        )
         .after_long_help(EXAMPLE)
         .subcommand_required(true)
         .arg_required_else_help(true);
@@ -49,8 +51,9 @@ fn show<'a>(alloc: Global) -> Result<Command<'a>, AllocError> {
 }
 
 fn opening<'a>(alloc: Global) -> Result<Command<'a>, AllocError> {
-    let version = number(alloc, "version", "V", ValueParser::signed(0, i64::MAX))
-        .help("The version of the batch: every read below it conflicts");
+    let version = number(alloc, "version", "V", ValueParser::signed(0, i64::MAX)).help(
+        "The version of the batch: every read below it conflicts",
+    );
     Command::new(alloc, "opening")
         .about("Writes the frame of the batch that starts a chain at a version")
         .arg(version)
@@ -69,8 +72,9 @@ fn stats<'a>(alloc: Global) -> Result<Command<'a>, AllocError> {
 
 fn split_points<'a>(alloc: Global) -> Result<Command<'a>, AllocError> {
     let parser = ValueParser::unsigned(1, MAX_SPLIT_POINTS as u64 + 1);
-    let resolvers = number(alloc, "resolvers", "K", parser)
-        .help("How many resolvers share the keys, from 1 to 64");
+    let resolvers = number(alloc, "resolvers", "K", parser).help(
+        "How many resolvers share the keys, from 1 to 64",
+    );
     Command::new(alloc, "split-points")
         .about("Reads frames of batches and prints keys that split their ranges evenly, one a line")
         .arg(resolvers)?
@@ -84,8 +88,7 @@ fn clip<'a>(alloc: Global) -> Result<Command<'a>, AllocError> {
         .required(true)
         .help("The file of the split points, one key a line");
     let parser = ValueParser::unsigned(0, MAX_SPLIT_POINTS as u64);
-    let shard = number(alloc, "shard", "I", parser)
-        .help("The number of the shard, from 0");
+    let shard = number(alloc, "shard", "I", parser).help("The number of the shard, from 0");
     Command::new(alloc, "clip")
         .about("Reads frames of batches and writes those of one resolver's shard")
         .arg(points)?
@@ -94,12 +97,7 @@ fn clip<'a>(alloc: Global) -> Result<Command<'a>, AllocError> {
 }
 
 // A required option that is a number.
-fn number<'a>(
-    alloc: Global,
-    name: &'a str,
-    value: &'a str,
-    parser: ValueParser<'a>,
-) -> Arg<'a> {
+fn number<'a>(alloc: Global, name: &'a str, value: &'a str, parser: ValueParser<'a>) -> Arg<'a> {
     Arg::new(alloc, name)
         .long(name)
         .value_name(value)
@@ -126,7 +124,7 @@ fn file<'a>(alloc: Global) -> Arg<'a> {
 }
 
 fn files<'a>(alloc: Global) -> Arg<'a> {
-    Arg::new(alloc, "FILE")
-        .action(ArgAction::Append)
-        .help("The files to read; standard input where none is given, or -")
+    Arg::new(alloc, "FILE").action(ArgAction::Append).help(
+        "The files to read; standard input where none is given, or -",
+    )
 }

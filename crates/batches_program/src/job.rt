@@ -14,7 +14,10 @@ pub enum Job<'a> {
     /// The batch that starts a chain at this version, 0 or more.
     Opening(i64),
     /// What the batches of files add up to.
-    Stats { files: Vec<&'a str>, json: bool },
+    Stats {
+        files: Vec<&'a str>,
+        json: bool,
+    },
     /// Split points that spread the batches of files evenly over so many resolvers.
     SplitPoints {
         files: Vec<&'a str>,

@@ -6,5 +6,4 @@ ghost use Rattle.batches_program.specs.Opening.{MeetsEveryRange};
 /// version conflicts, unless its range is empty.
 pub fn opening_meets_every_range()
     ensures law { MeetsEveryRange }
-{
-}
+{}

@@ -16,8 +16,15 @@ pub returns-clause-fails : goal.returns-clause-fails
 returns-clause-fails c =
     let is_clip = clip_at c.args.points.now c.args.shard c.in_ok-batch.batch c.in_ok-clipped.clipped c.in_ok-clipped.ensures.clip in
     elim c.of_clip.ensures.which [
-      | inl long ↦ subst (IsFailureOfClip c.args.points.now c.args.shard c.args.number c.args.frame.now) (sym long.1)
-          (refl, (c.in_ok-batch.batch, c.in_ok-clipped.clipped.batch, c.in_ok-batch.ensures.batch, is_clip,
-            c.in-Err.ensures.long.0 (ap Err long.0)))
+      | inl long ↦ subst (IsFailureOfClip c.args.points.now c.args.shard c.args.number c.args.frame.now) (sym long.1) (
+        refl,
+        (
+          c.in_ok-batch.batch,
+          c.in_ok-clipped.clipped.batch,
+          c.in_ok-batch.ensures.batch,
+          is_clip,
+          c.in-Err.ensures.long.0 (ap Err long.0),
+        ),
+      )
       | inr other ↦ subst (IsFailureOfClip c.args.points.now c.args.shard c.args.number c.args.frame.now) (sym other.1) tt
     ]

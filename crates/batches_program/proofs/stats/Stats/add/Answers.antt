@@ -26,5 +26,5 @@ returns c =
           (more (map length (flat_map keys_in before)) (ap (λ (s : Stats). s.keys) from)
           ∙ ap (λ (rs : List Range). spread_of (map length (flat_map keys_in before) ++ map length (flat_map keys_of_range rs)))
           c.ranges-2.ensures.ranges))
-      c.add_keys.ensures.added;
+          c.add_keys.ensures.added;
     }
