@@ -232,12 +232,7 @@ impl Worker {
 
     // Closes the lane and takes the remaining answers, unless these ended before the file: then the
     // lane stays open.
-    fn close<G: Gatekeeper + ShareKeeper, R: Wait>(
-        &mut self,
-        rt: &R,
-        gatekeeper: &G,
-        end: &FileEnd,
-    )
+    fn close<G: Gatekeeper + ShareKeeper, R: Wait>(&mut self, rt: &R, gatekeeper: &G, end: &FileEnd)
         requires gives_up { IfLeaves end.now (λ leftover. CannotSend leftover
             self.old.inbox.ends.requests self.old.inbox.ends.replies) }
         ensures inbox { InboxGoesOn self.old.inbox self.new.inbox }
