@@ -26,12 +26,14 @@ spread_object spread (Some ends) =
 abbrev pub spread_member : List ℕ → Spread → List ℕ
 spread_member name spread = member_name name ++ spread_object spread spread.ends
 
-abbrev pub first_members : ℕ → ℕ → List ℕ
-first_members batches bytes = codes "{\"batches\":" ++ decimal batches ++ codes ",\"bytes\":" ++ decimal bytes
+-- the begin of the object, and its first member
+abbrev pub first_member : ℕ → List ℕ
+first_member batches = codes "{\"batches\":" ++ decimal batches
 
 abbrev pub stats_json : Stats → List ℕ
 stats_json stats =
-    first_members stats.txns.count stats.bytes
+    first_member stats.txns.count
+    ++ number_member (codes "bytes") stats.bytes
     ++ versions_member stats.versions
     ++ number_member (codes "transactions") stats.txns.total
     ++ number_member (codes "reports") stats.of_txns.marked

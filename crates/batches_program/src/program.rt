@@ -57,22 +57,50 @@ fn do_job<R: Files<File = File> + Input + AllocGlobal, O: Sink, E: Sink>(
         → TellsLine (E.given error.old) (E.given error.new) (E.failures error.old)
         (E.failures error.new) }
 {
-    let done = match job {
-        Job::Convert(line) => do_line(rt, line, watched, out, error),
-        Job::Opening(version) => write_opening(rt.alloc(), *version, out),
-        Job::Stats { files, json } => return print_stats(rt, files, *json, out, error),
-        Job::SplitPoints { files, resolvers } => {
-            return print_points(rt, files, *resolvers, out, error);
-        }
+    match job {
+        Job::Convert(line) => convert_file(rt, line, watched, out, error),
+        Job::Opening(version) => open_chain(rt.alloc(), *version, out, error),
+        Job::Stats { files, json } => print_stats(rt, files, *json, out, error),
+        Job::SplitPoints { files, resolvers } => print_points(rt, files, *resolvers, out, error),
         Job::Clip {
             points,
             shard,
             file,
-        } => return write_clips(rt, points, *shard, *file, out, error),
-    };
-    match done {
+        } => write_clips(rt, points, *shard, *file, out, error),
+    }
+}
+
+// Does a conversion, and tells why if it can't.
+fn convert_file<R: Files<File = File> + Input + AllocGlobal, O: Sink, E: Sink>(
+    rt: &R,
+    line: &CommandLine<'_>,
+    watched: bool,
+    out: &mut O,
+    error: &mut E,
+) -> Status
+    ensures ok { result ≡ Status.Done → O.failures out.new ≡ O.failures out.old }
+    ensures quiet { result ≡ Status.Done → IsTrue (not watched) → error.new ≡ error.old }
+    ensures told { result ≡ Status.Failed
+        → TellsLine (E.given error.old) (E.given error.new) (E.failures error.old)
+        (E.failures error.new) }
+{
+    match do_line(rt, line, watched, out, error) {
         Ok(()) => Status::Done,
         Err(failure) => fail(error, rt.alloc(), &failure),
+    }
+}
+
+// Writes the batch that starts a chain at the version, and tells why if it can't.
+fn open_chain<O: Sink, E: Sink>(alloc: Global, version: i64, out: &mut O, error: &mut E) -> Status
+    ensures ok { result ≡ Status.Done → O.failures out.new ≡ O.failures out.old }
+    ensures quiet { result ≡ Status.Done → error.new ≡ error.old }
+    ensures told { result ≡ Status.Failed
+        → TellsLine (E.given error.old) (E.given error.new) (E.failures error.old)
+        (E.failures error.new) }
+{
+    match write_opening(alloc, version, out) {
+        Ok(()) => Status::Done,
+        Err(failure) => fail(error, alloc, &failure),
     }
 }
 

@@ -1,7 +1,7 @@
 //! What batches add up to, as one object of JSON.
 
 ghost use Rattle.std.specs.Prelude.{◌≡◌, ◌++◌, codes, IfOk, OnOk, Some};
-ghost use Rattle.batches_program.specs.StatsJson.{first_members, number_member};
+ghost use Rattle.batches_program.specs.StatsJson.{first_member, number_member};
 ghost use Rattle.batches_program.specs.StatsJson.{spread_member, spread_object, stats_json};
 ghost use Rattle.batches_program.specs.StatsJson.{versions_member};
 
@@ -18,7 +18,8 @@ pub fn json_of_stats(alloc: Global, stats: &Stats) -> Result<Vec<u8>, Failure>
 {
     let mut out = Vec::new(alloc);
     let txns = &stats.of_txns;
-    put_sizes(&mut out, stats.txns.count, stats.bytes)?;
+    put_first(&mut out, stats.txns.count)?;
+    put_number(&mut out, "bytes", stats.bytes)?;
     put_versions(&mut out, stats.versions)?;
     put_number(&mut out, "transactions", stats.txns.total)?;
     put_number(&mut out, "reports", txns.marked)?;
@@ -33,14 +34,11 @@ pub fn json_of_stats(alloc: Global, stats: &Stats) -> Result<Vec<u8>, Failure>
     Ok(out)
 }
 
-// Writes the begin of the object, and its first members.
-fn put_sizes(out: &mut Vec<u8>, batches: u64, bytes: u64) -> Result<(), Failure>
-    ensures text { OnOk result (out.new.items ≡ out.old.items ++ first_members batches bytes) }
+// Writes the begin of the object, and its first member.
+fn put_first(out: &mut Vec<u8>, batches: u64) -> Result<(), Failure>
+    ensures text { OnOk result (out.new.items ≡ out.old.items ++ first_member batches) }
 {
-    put_text(out, "{\"batches\":")?;
-    put_decimal(out, batches)?;
-    put_text(out, ",\"bytes\":")?;
-    put_decimal(out, bytes)
+    Ok(write!(out, "{{\"batches\":{batches}")?)
 }
 
 fn put_end(out: &mut Vec<u8>) -> Result<(), Failure>
