@@ -8,7 +8,7 @@ import threading
 from dataclasses import dataclass
 from typing import Any, Optional, TypeVar
 
-from ._errors import Stop, check
+from ._errors import ARENA_FULL, Stop, check
 from ._library import LIBRARY, Handle, StatsRecord
 from ._values import Key, Reply, as_bytes, as_integer, decode
 
@@ -101,6 +101,19 @@ class ConflictSet(_Owner):
         """Judges the batch of a frame. After FrameError and VersionError the set is as before."""
         frame = as_bytes(batch)
         return decode(self._fill("resolve", frame, len(frame), ()))
+
+    def try_resolve(self, batch: Key) -> Optional[Reply]:
+        """Like resolve, but returns None if the batch doesn't fit the limit.
+
+        Then the set is as before. A set that has met its limit in resolve always returns None.
+        """
+        frame = as_bytes(batch)
+        try:
+            return decode(self._fill("try_resolve", frame, len(frame), ()))
+        except Stop as refused:
+            if refused.status != ARENA_FULL:
+                raise
+            return None
 
     @property
     def boundaries(self) -> int:

@@ -4,3 +4,4 @@ pub mod Joining
 pub mod Appending
 pub mod Dropping
 pub mod NextOwed
+pub mod WhenFull
