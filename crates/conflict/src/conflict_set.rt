@@ -15,7 +15,7 @@ use crate::error::SetStop;
 use crate::scratch::Scratch;
 use crate::unknown::write_every_key;
 use keyspace::Batch;
-use std::alloc::Global;
+use std::alloc::{AllocError, Global};
 use std::marker::Model;
 use stepmap::StepMap;
 
@@ -116,6 +116,17 @@ impl ConflictSet {
             stop: None,
             scratch: Scratch::new(alloc),
         })
+    }
+
+    /// Gives memory back that the set doesn't need for its boundaries: they move into memory of their
+    /// own, and what was kept from batch to batch is dropped. The set stays as it is. If memory is
+    /// refused for the copy, it keeps the memory that it had. It takes about as long as writing each
+    /// boundary. The filter of single keys keeps its memory.
+    pub fn trim(&mut self) -> Result<(), AllocError>
+        ensures same { self.new ≡ self.old }
+    {
+        self.scratch = Scratch::new(self.alloc);
+        self.map.trim(self.alloc)
     }
 
     /// Returns the number of boundaries, that at the empty key included. It never exceeds the

@@ -1,11 +1,11 @@
--- A range is written, run by run: first its boundaries are taken out, and at last it is written over.
-use Rattle.std.proofs.Common.{◌≡◌, ℕ, suc, ◌+◌, ◌<◌, ◌≤◌, arith, true, false, [], ◌∷◌, length, Option, None, Some, is_some, option_map, unwrap_or, refl, ◌∙◌}
+-- A range is written, run by run: first its boundaries are taken out, and at last it is written over. The boundaries are to be these.
+use Rattle.std.proofs.Common.{◌≡◌, ℕ, suc, ◌+◌, ◌<◌, ◌≤◌, arith, true, false, List, [], ◌∷◌, length, Option, None, Some, is_some, option_map, unwrap_or, refl, ◌∙◌}
 use Rattle.std.specs.Prelude.{ℤ, IfSome}
 use Rattle.arena.specs.Arena.{wanted_of}
 use Rattle.keys.specs.declared.range.Range.{Range}
-use Rattle.stepmap.specs.Boundary.{AreBoundaries, value_at}
+use Rattle.stepmap.specs.Boundary.{Boundary, AreBoundaries, value_at}
 use Rattle.stepmap.specs.Stored.{Stored, spare_in}
-use Rattle.stepmap.specs.Writing.{written, written_to}
+use Rattle.stepmap.specs.Writing.{written_to}
 
 -- how many runs there can be before the range is written
 abbrev pub runs_left : Stored → Option ℤ → ℕ
@@ -17,21 +17,21 @@ runs_fewer now new None result some fewer = absurd (cc some)
 runs_fewer now new (Some given) None some fewer = omega arith
 runs_fewer now new (Some given) (Some more) some fewer = omega (arith, fewer)
 
-module _ (range : Range) (version : ℤ) (old : Stored) where
+module _ (range : Range) (version : ℤ) (old : Stored) (target : List Boundary) where
   -- how many slots of the size the keys of the range take
   abbrev wanted : ℕ → ℕ
   wanted size = wanted_of (length range.begin ∷ length range.end ∷ []) size
 
   -- the range can be written as at first, with this version at its end
   pub record IsToWrite (given : ℤ) (now : Stored) : Type 0 where
-    pub same : written_to range version given now.boundaries ≡ written range version old.boundaries
+    pub same : written_to range version given now.boundaries ≡ target
     pub boundaries : AreBoundaries now.boundaries
     pub few : length now.boundaries ≤ length old.boundaries
     pub spare : (size : ℕ) → spare_in old size ≤ spare_in now size
 
   -- it is written
   pub record IsWrittenOver (now : Stored) : Type 0 where
-    pub is : now.boundaries ≡ written range version old.boundaries
+    pub is : now.boundaries ≡ target
     pub spare : (size : ℕ) → spare_in old size ≤ spare_in now size + wanted size
 
   -- one of them, by whether a version is told for its end

@@ -56,19 +56,19 @@ impl<const N: usize> Model for Boundaries<N> {
 }
 
 impl<const N: usize> Boundaries<N> {
-    // Makes the one boundary of the function that is -1 everywhere. Nodes of the tree have at most
-    // `N` entries each.
-    pub fn new(alloc: Global) -> Result<Self, ArenaError>
+    // Makes the one boundary of the function that has this version everywhere. Nodes of the tree
+    // have at most `N` entries each.
+    pub fn new(alloc: Global, version: i64) -> Result<Self, ArenaError>
         requires fan_out { 4 ≤ N }
         requires few { N ≤ 65536 }
         ensures first { IfOk result (λ b. b.boundaries
-            ≡ (record { key = []; version = negsuc 0 }) ∷ []) }
+            ≡ (record { key = []; version = version }) ∷ []) }
         ensures room { IfOk result (λ b. 1 ≤ b.room) }
         ensures memory { IsOkUnless result ArenaError.Memory }
     {
         let mut keys = Arena::new(alloc);
         let empty = keys.place((), &[])?;
-        let tree = Tree::new(alloc, empty, -1)?;
+        let tree = Tree::new(alloc, empty, version)?;
         Ok(Boundaries {
             wanted: Vec::new(alloc),
             keys,
@@ -169,6 +169,24 @@ impl<const N: usize> Boundaries<N> {
         ensures room { self.new.room ≡ self.old.room }
     {
         let mut at_end = self.write_or_clear(range, version, None);
+        while at_end.is_some() {
+            at_end = self.write_or_clear(range, version, at_end);
+        }
+    }
+
+    // Writes the version on the range, which isn't empty, with another version at its end, unless
+    // that is a boundary already. It takes no memory.
+    pub fn write_to(&mut self, range: &HashedRange<'_>, version: i64, at_end: i64)
+        requires boundaries { AreBoundaries self.old.boundaries }
+        requires filled { ¬ IsEmpty range.now }
+        requires keys { HasRoomFor (spare_in self.old)
+            (length range.now.begin ∷ length range.now.end ∷ []) }
+        requires nodes { length self.old.boundaries + 2 ≤ self.old.room }
+        ensures boundaries { self.new.boundaries
+            ≡ written_to range.now version at_end self.old.boundaries }
+        ensures room { self.new.room ≡ self.old.room }
+    {
+        let mut at_end = Some(at_end);
         while at_end.is_some() {
             at_end = self.write_or_clear(range, version, at_end);
         }

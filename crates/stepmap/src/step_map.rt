@@ -92,7 +92,7 @@ impl StepMap {
     {
         let cursor = Vec::with_capacity(alloc, MAX_KEY_LENGTH)?;
         let filter = Filter::new(alloc)?;
-        let boundaries = Boundaries::new(alloc).map_err(|_| AllocError)?;
+        let boundaries = Boundaries::new(alloc, -1).map_err(|_| AllocError)?;
         Ok(StepMap {
             boundaries,
             filter,

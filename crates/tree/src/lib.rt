@@ -13,6 +13,7 @@ mod descent;
 mod entry;
 mod expiring;
 mod greatest_version;
+mod listing;
 mod node;
 mod overwrite;
 mod question;

@@ -16,6 +16,7 @@ use crate::bound::Bound;
 use crate::entry::Entry;
 use crate::expiring::{Expiring, Removal};
 use crate::greatest_version::greatest;
+use crate::listing::push_entries;
 use crate::node::Node;
 use crate::overwrite::{Overwrite, Written};
 use crate::question::{Question, SIDE};
@@ -27,7 +28,7 @@ use crate::walk::RaisedLeaf;
 use crate::way::Way;
 use arena::{Arena, ArenaError, Slot};
 use arrayvec::ArrayVec;
-use std::alloc::Global;
+use std::alloc::{AllocError, Global};
 use std::fmt;
 use std::marker::Model;
 
@@ -194,6 +195,16 @@ impl<const N: usize> Tree<N> {
             last: before,
         };
         count_unexpired(&self.nodes, slot, height, 0, edge, none).count
+    }
+
+    /// Returns the entries of the items, in order.
+    pub fn entries(&self, alloc: Global) -> Result<Vec<Entry>, AllocError>
+        ensures items { IfOk result (λ entries. map item_of entries.items ≡ self.now.items) }
+    {
+        let Root { slot, height } = self.root;
+        let mut entries = Vec::with_capacity(alloc, self.len)?;
+        push_entries(&self.nodes, slot, height, &mut entries)?;
+        Ok(entries)
     }
 
     /// Replaces the items from one bound to another by an item. Adds a second one after it, with

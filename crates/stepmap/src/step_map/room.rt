@@ -16,7 +16,7 @@ use super::{FAN_OUT, MAX_LIMIT, StepMap};
 use crate::boundaries::Boundaries;
 use crate::key_lengths::{KeyLengths, keep};
 use filter::Filter;
-use std::alloc::AllocError;
+use std::alloc::{AllocError, Global};
 use std::collections::VecDeque;
 
 // So many cells of the filter there are at most while it has one for each boundary: 1.5 MiB.
@@ -79,6 +79,20 @@ impl StepMap {
         self.end_round();
         let count = self.boundaries.len();
         self.sweep(count);
+    }
+
+    /// Moves the boundaries into memory of their own, which has room for few more, and gives the
+    /// memory that they had back. The map stays as it is, whether or not that succeeds. It takes about
+    /// as long as writing each boundary. Nothing is done while ranges are ready to be written, or if
+    /// there are [`MAX_LIMIT`] boundaries.
+    pub fn trim(&mut self, alloc: Global) -> Result<(), AllocError>
+        ensures same { self.new ≡ self.old }
+    {
+        if self.ready.is_empty() && self.boundaries.len() < MAX_LIMIT {
+            self.boundaries = self.boundaries.copied(alloc)?;
+            self.ready = VecDeque::new(alloc);
+        }
+        Ok(())
     }
 
     // Ends the round under way, if there is one: the next sweep begins at the front.
