@@ -51,6 +51,17 @@ check_rule = record (new_rule (codes "check")) {
   action = Some Append;
 }
 
+abbrev pub stream_rule : Rule
+stream_rule = record (new_rule (codes "stream")) { long = Some (codes "stream"); action = Some SetTrue }
+
+-- an option `--replies OUT`, any number of times
+abbrev pub replies_rule : Rule
+replies_rule = record (new_rule (codes "replies")) {
+  long = Some (codes "replies");
+  value_names = 1;
+  action = Some Append;
+}
+
 -- the files: one word or more, anywhere among the options
 abbrev pub file_rule : Rule
 file_rule = record (new_rule (codes "FILE")) { action = Some Append; required = true }
@@ -58,13 +69,13 @@ file_rule = record (new_rule (codes "FILE")) { action = Some Append; required = 
 abbrev pub plain_app : App
 plain_app = new_app (codes "replay")
 
--- `replay [--capacity N] [--window N] [--limit N] [--frames] [--json] [--check REPLIES].. FILE..`, with `--help` and
--- `--version`
+-- `replay [--capacity N] [--window N] [--limit N] [--frames] [--json] [--check REPLIES].. [--stream] [--replies OUT].. FILE..`,
+-- with `--help` and `--version`
 unfoldable pub replay_app : App
 replay_app =
-    with_rule (with_rule (with_rule (with_rule (with_rule (with_rule (with_rule (record plain_app {
+    with_rule (with_rule (with_rule (with_rule (with_rule (with_rule (with_rule (with_rule (with_rule (record plain_app {
       top = record plain_app.top { has_version = true };
-    }) capacity_rule) window_rule) limit_rule) frames_rule) json_rule) check_rule) file_rule
+    }) capacity_rule) window_rule) limit_rule) frames_rule) json_rule) check_rule) stream_rule) replies_rule) file_rule
 
 abbrev pub is_frames : Form → Bool
 is_frames Frames = true

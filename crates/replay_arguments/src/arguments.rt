@@ -32,6 +32,11 @@ pub struct CommandLine<'a> {
     /// The names of the files of replies, one per file if replies are kept to be checked, and
     /// otherwise none.
     pub replies: Vec<&'a str>,
+    /// Answers are printed as they come.
+    pub is_streamed: bool,
+    /// The names of the files for records of answers, one per file if they are requested, and
+    /// otherwise none.
+    pub records: Vec<&'a str>,
     pub options: Options,
 }
 
@@ -75,10 +80,17 @@ pub fn read_words<'a>(alloc: Global, words: &'a [String]) -> Result<CommandLine<
         return Err(refuse(alloc, ErrorKind::ArgumentConflict, message)?);
     }
     let replies = replies_of(alloc, &matches, form, files.len())?;
+    let Some(is_streamed) = is_streamed(&matches, form) else {
+        let message = "--stream is wanted without --check";
+        return Err(refuse(alloc, ErrorKind::ArgumentConflict, message)?);
+    };
+    let records = records_of(alloc, &matches, is_streamed, files.len())?;
     let files = Vec::from_slice(alloc, files)?;
     Ok(CommandLine {
         files,
         replies,
+        is_streamed,
+        records,
         options,
     })
 }
@@ -157,6 +169,36 @@ fn named_replies<'m, 'a>(matches: &'m ArgMatches<'a>, files: usize) -> Option<&'
         return None;
     }
     Some(replies)
+}
+
+// Returns whether answers are printed as they come, unless they are to be compared too.
+fn is_streamed(matches: &ArgMatches, form: Form) -> Option<bool> {
+    let is_streamed: bool = matches.get_one("stream")?;
+    if is_streamed && form.is_kept() {
+        return None;
+    }
+    Some(is_streamed)
+}
+
+// Returns the files for records of answers, one per file, or none. Only a stream has any.
+fn records_of<'a>(
+    alloc: Global,
+    matches: &ArgMatches<'a>,
+    is_streamed: bool,
+    files: usize,
+) -> Result<Vec<&'a str>, Refusal> {
+    let Some(names) = matches.get_strs("replies") else {
+        return Ok(Vec::new(alloc));
+    };
+    if !is_streamed {
+        let message = "--replies OUT is wanted with --stream";
+        return Err(refuse(alloc, ErrorKind::MissingRequiredArgument, message)?);
+    }
+    if names.len() != files {
+        let message = "--replies OUT is wanted once a file";
+        return Err(refuse(alloc, ErrorKind::WrongNumberOfValues, message)?);
+    }
+    Ok(Vec::from_slice(alloc, names)?)
 }
 
 // Returns the form of printed answers, unless two forms are requested.

@@ -4,6 +4,7 @@ ghost use Rattle.std.specs.Prelude.{◌≡◌, ◌↔◌, ◌<◌, ◌≤◌, �
 ghost use Rattle.std.specs.Io.KnownBytes.{Appends};
 ghost use Rattle.replay_arguments.specs.Opening.{IsFirstRefused, contents_each, opening_line};
 
+use itoa::Buffer;
 use replay_output::{StartError, Status, begin_line, print_start_error};
 use std::alloc::{AllocError, Global};
 use wire::{Failed, Sink, write_all};
@@ -57,6 +58,43 @@ pub fn open_files<F: Files>(
         readers.push(reader).map_err(|_| OpeningError::Memory)?;
     }
     Ok(readers)
+}
+
+/// Opens the files of these names to be written, of which each is for the answers to the proxy at
+/// its place. The first that can't be opened is the error.
+pub fn create_files<F: Files>(
+    alloc: Global,
+    files: &F,
+    names: &[&str],
+) -> Result<Vec<F::Writer>, OpeningError> {
+    let mut writers = Vec::with_capacity(alloc, names.len()).map_err(|_| OpeningError::Memory)?;
+    for (proxy, name) in names.iter().enumerate() {
+        let writer = match files.create(name) {
+            Ok(writer) => writer,
+            Err(error) => return Err(OpeningError::new(proxy, error)),
+        };
+        writers.push(writer).map_err(|_| OpeningError::Memory)?;
+    }
+    Ok(writers)
+}
+
+/// Prints the line of a file for records that can't be opened, and returns how the program ends. A
+/// failed write changes nothing. Takes no memory.
+pub fn fail_to_create<W: Sink>(error: &mut W, cause: OpeningError) -> Status {
+    let _ = print_creating_error(error, cause);
+    Status::Failed
+}
+
+fn print_creating_error<W: Sink>(error: &mut W, cause: OpeningError) -> Result<(), Failed> {
+    match cause {
+        OpeningError::CannotOpen(proxy) => {
+            let mut buffer = Buffer::new();
+            write_all(error, b"replay: replies ")?;
+            write_all(error, buffer.format(proxy).as_bytes())?;
+            write_all(error, b": cannot open\n")
+        }
+        OpeningError::Memory => print_start_error(error, StartError::Memory),
+    }
 }
 
 /// Prints the line of the cause, and returns how the program ends. A failed write changes nothing.

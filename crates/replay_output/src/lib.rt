@@ -11,15 +11,21 @@
 mod failures;
 mod line;
 mod options;
+mod record;
 mod report;
 mod start;
 mod status;
+mod stream;
+mod unwritten;
 
 pub use failures::{
     Ending, ProxyFailure, begin_line, fault_text, note_loss, nothing_failed, print_failures,
 };
 pub use line::{Line, PackedText};
 pub use options::{Form, Options};
+pub use record::write_record;
 pub use report::{PrintError, Report, print_answers, print_report};
 pub use start::{StartError, fail_to_start, print_start_error};
 pub use status::Status;
+pub use stream::{AnswerError, print_line};
+pub use unwritten::{all_written, print_unwritten};

@@ -40,6 +40,8 @@ mod options;
 #[cfg(test)]
 mod proxies;
 #[cfg(test)]
+mod records;
+#[cfg(test)]
 mod report;
 #[cfg(test)]
 mod reports;

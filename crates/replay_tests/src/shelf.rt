@@ -71,6 +71,7 @@ impl Shelf {
 
 impl Files for Shelf {
     type Reader = StdSource<Recorded>;
+    type Writer = StdSink<Vec<u8>>;
 
     ghost contents = { λ _ _. None };
 
@@ -84,6 +85,10 @@ impl Files for Shelf {
         };
         let bytes = bytes.clone().map_err(|_| FileError::Memory)?;
         Ok(StdSource::new(Recorded(Cursor::new(bytes))))
+    }
+
+    fn create(&self, _name: &str) -> Result<StdSink<Vec<u8>>, FileError> {
+        Ok(StdSink::new(Vec::new(self.alloc)))
     }
 }
 

@@ -7,3 +7,5 @@ pub mod Watching
 pub mod Stopping
 pub mod Runs
 pub mod Keeping
+pub mod Recording
+pub mod Outlets

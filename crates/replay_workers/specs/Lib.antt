@@ -1,7 +1,11 @@
 -- In reading order.
 pub mod Inbox
 pub mod Worker
+pub mod Sender
+pub mod Recorder
+pub mod Outlet
 pub mod Watch
 pub mod Threads
 pub mod Stops
 pub mod Run
+pub mod Streaming

@@ -49,13 +49,14 @@ pub struct Finished {
     pub unsent: Option<Batch>,
 }
 
-// How the reading of a file ended.
+/// How the reading of a file ended.
 #[derive(Drop)]
-enum FileEnd {
-    // All of it was read and sent.
+pub(crate) enum FileEnd {
+    /// All of it was read and sent.
     Reached,
+    /// The file has this fault.
     Fault(WireError),
-    // The batch read last can't be sent any more.
+    /// The batch read last can't be sent any more.
     Unsent(Batch),
 }
 

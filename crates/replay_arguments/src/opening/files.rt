@@ -2,7 +2,7 @@
 
 ghost use Rattle.std.specs.Prelude.{◌≡◌, ℕ, List, Option, IfOk, OnOk};
 
-use wire::Source;
+use wire::{Sink, Source};
 
 /// The name of standard input, which is read instead of a file.
 pub const STANDARD_INPUT: &str = "-";
@@ -19,6 +19,7 @@ pub enum FileError {
 /// Opens files by their names, and standard input by its own, [`STANDARD_INPUT`].
 pub trait Files {
     type Reader: Source + Send + Drop + 'static;
+    type Writer: Sink + Send + Drop + 'static;
 
     // The bytes of the file of this name, if they are reported.
     ghost contents: { Self → List ℕ → Option (List ℕ) };
@@ -35,4 +36,7 @@ pub trait Files {
             ≡ contents self.now name.now) }
         ensures opened { OnOk result (has_opened self.now name.now) }
         ensures refused { result ≡ Err FileError.CannotOpen → cannot_open self.now name.now };
+
+    /// Opens the file of this name, to be written from its beginning. Creates it, if there is none.
+    fn create(&self, name: &str) -> Result<Self::Writer, FileError>;
 }

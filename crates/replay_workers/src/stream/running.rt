@@ -1,0 +1,137 @@
+//! A stream: senders read and send, and recorders write records, while this thread turns the
+//! resolver and prints the answers.
+
+ghost use Rattle.std.specs.Prelude.{◌≡◌, ℕ, true, Some, slice_get, IsTrue};
+ghost use Rattle.resolver.specs.Core.{GoesOn};
+ghost use Rattle.resolver.specs.Lanes.{Lanes, Each, LanesGoOn};
+ghost use Rattle.resolver.specs.Resolver.{IsResolving, IsThrough};
+ghost use Rattle.replay_workers.specs.Outlet.{AreNumbered, HavePassedAll, StreamsOn};
+ghost use Rattle.replay_workers.specs.Stops.{IsAccountedFor};
+
+use crate::gatekeeper::{Gatekeeper, ShareKeeper};
+use crate::running::let_through;
+use crate::stream::outlet::{Outlet, Passed, Printer};
+use crate::stream::proxies::{connect_all, join_all, start_all};
+use crate::stream::streamed::Streamed;
+use crate::watch::Watch;
+use replay_output::{Options, StartError};
+use resolver::{Account, Resolver, Turn, open};
+use std::alloc::Global;
+use std::sync::{Arc, Wait};
+use std::thread;
+use std::thread::Threads;
+use wire::{Sink, Source};
+
+/// Runs a sender for each reader, and a recorder for each writer of records, each in its own
+/// thread. Turns the resolver until it is done or has stopped, and prints each answer as it comes.
+/// `records` has the writer of each proxy, if there is one, at its number.
+///
+/// Returns what became of the proxies, and the account of the resolver. Once a thread was started,
+/// this one takes no memory but in turns, in starting threads and for the line of an answer. After
+/// an error no thread is joined.
+pub fn stream<
+    S: Source + Send + Drop + 'static,
+    W: Sink + Send + Drop + 'static,
+    G: Gatekeeper + ShareKeeper + Send + Sync + Drop + 'static,
+    R: Threads + Wait + Copy + Send + 'static,
+    O: Sink,
+>(
+    rt: &R,
+    alloc: Global,
+    readers: Vec<S>,
+    records: Vec<Option<W>>,
+    options: Options,
+    gatekeeper: &Arc<G, Global>,
+    out: &mut O,
+) -> Result<(Streamed, Account), StartError> {
+    let proxies = readers.len();
+    let mut streamed = Streamed::with_room(alloc, proxies)?;
+    let mut watch = Watch::new(alloc, proxies)?;
+    let Options {
+        capacity,
+        window,
+        limit,
+        form,
+    } = options;
+    let (mut resolver, clients) = open(alloc, proxies, capacity, window, limit)?;
+    let (tasks, mut outlets) =
+        connect_all(alloc, options, readers, records, clients, gatekeeper)?;
+    let threads = start_all(rt, alloc, tasks)?;
+    let mut printer = Printer::new(alloc, form);
+    turn_to_end(
+        rt,
+        &mut resolver,
+        &**gatekeeper,
+        &mut watch,
+        &mut outlets,
+        &mut printer,
+        out,
+    );
+    streamed.failed = printer.failed;
+    let mut streamed = join_all(rt, threads, outlets, streamed);
+    let account = resolver.settle(streamed.clients.as_mut_slice());
+    Ok((streamed, account))
+}
+
+// Turns the resolver until it is done; after a stop, until a turn leaves nothing owed. Before each
+// turn it passes on what has come. If all proxies wait for each other, a batch is admitted. Returns
+// once all answers were passed on.
+fn turn_to_end<G: Gatekeeper + ShareKeeper, R: Wait, O: Sink>(
+    rt: &R,
+    resolver: &mut Resolver,
+    gatekeeper: &G,
+    watch: &mut Watch,
+    outlets: &mut [Outlet],
+    printer: &mut Printer,
+    out: &mut O,
+)
+    requires numbered { AreNumbered outlets.old }
+    ensures through { IsThrough resolver.new }
+    ensures closed { (proxy : ℕ) (l : Lanes) → slice_get resolver.new.lanes proxy ≡ Some l
+        → l.replies.closed ≡ true }
+    ensures accounted { IsAccountedFor resolver.old → IsAccountedFor resolver.new }
+    ensures resolving { IsResolving resolver.old → IsResolving resolver.new }
+    ensures goes_on { GoesOn resolver.old.core resolver.new.core }
+    ensures lanes { Each (λ _ l m. LanesGoOn l m) resolver.old.lanes resolver.new.lanes }
+    ensures streams { StreamsOn printer.old.form printer.old.failed printer.new.failed
+        (O.given out.old) (O.given out.new) outlets.old outlets.new }
+    ensures passed { HavePassedAll outlets.new }
+{
+    for _ in rt.forever() {
+        let ended = pass_each(outlets, printer, out, gatekeeper);
+        match resolver.turn() {
+            Ok(Turn::Took(_)) => watch.forget(),
+            Ok(Turn::Idle) => {
+                let_through(resolver, gatekeeper, watch);
+                thread::yield_now();
+            }
+            Ok(Turn::Done) if ended => return,
+            Err(_) if ended && resolver.owed() == 0 => return,
+            Ok(Turn::Done) | Err(_) => thread::yield_now(),
+        }
+    }
+    unreachable!()
+}
+
+// Passes on at most one answer of each proxy. Returns whether all outlets have ended.
+fn pass_each<G: Gatekeeper, O: Sink>(
+    outlets: &mut [Outlet],
+    printer: &mut Printer,
+    out: &mut O,
+    gatekeeper: &G,
+) -> bool
+    requires numbered { AreNumbered outlets.old }
+    ensures form { printer.new.form ≡ printer.old.form }
+    ensures numbered { AreNumbered outlets.new }
+    ensures streams { StreamsOn printer.old.form printer.old.failed printer.new.failed
+        (O.given out.old) (O.given out.new) outlets.old outlets.new }
+    ensures passed { IsTrue result → HavePassedAll outlets.new }
+{
+    let mut ended = true;
+    for proxy in 0..outlets.len() {
+        if outlets[proxy].pass(printer, out, gatekeeper) != Passed::Ended {
+            ended = false;
+        }
+    }
+    ended
+}
