@@ -199,11 +199,38 @@ inputs_of (Some names) = count_inputs names
 abbrev pub HasInputOnce : List Row → Type 0
 HasInputOnce rows = inputs_of (all_of (codes "FILE") rows) + inputs_of (all_of (codes "check") rows) ≤ 1
 
+-- whether answers are printed as they come
+abbrev pub HoldsStream : List Row → Bool → Type 0
+HoldsStream rows is_streamed = one_of (codes "stream") rows ≡ Some (bool_text is_streamed)
+
+-- the names that are given, or none
+abbrev pub named : Option (List (List ℕ)) → List (List ℕ)
+named None = []
+named (Some names) = names
+
+-- answers that are to be compared aren't printed as they come
+abbrev pub HasStream : List Row → Type 0
+HasStream rows = (is_streamed : Bool) × HoldsStream rows is_streamed
+    × (is_streamed ≡ true → is_some (all_of (codes "check") rows) ≡ false)
+
+-- answers are printed as they come, and as many files for records are found as there are files
+pub record HasRecords (files : ℕ) (rows : List Row) : Type 0 where
+  pub names : List (List ℕ)
+  pub found : all_of (codes "replies") rows ≡ Some names
+  pub streamed : HoldsStream rows true
+  pub as_many : length names ≡ files
+
+-- the same where some are found
+abbrev pub HasRecordsEach : List Row → Type 0
+HasRecordsEach rows = is_some (all_of (codes "replies") rows) ≡ true
+    → IfSome (all_of (codes "FILE") rows) (λ names. HasRecords (length names) rows)
+
 -- the arguments that are found are of no use: two forms, a number out of its range, no files or too many, other than one file of replies
--- a file, or standard input twice
+-- a file, standard input twice, answers that are to be compared as they come, or other than one file for records a file
 abbrev pub IsOfNoUse : List Row → Type 0
 IsOfNoUse rows = (¬ HasForm rows)
-    ⊎ ((¬ HasNumbers rows) ⊎ ((¬ HasFiles rows) ⊎ ((¬ HasRepliesEach rows) ⊎ (¬ HasInputOnce rows))))
+    ⊎ ((¬ HasNumbers rows) ⊎ ((¬ HasFiles rows) ⊎ ((¬ HasRepliesEach rows) ⊎ ((¬ HasInputOnce rows)
+    ⊎ ((¬ HasStream rows) ⊎ (¬ HasRecordsEach rows))))))
 
 -- The words are mistaken: `clap` finds a mistake, or else the arguments that it finds are of no use.
 abbrev pub IsMistaken : List (List ℕ) → Type 0

@@ -11,7 +11,7 @@
 mod failures;
 mod line;
 mod options;
-mod record;
+mod records;
 mod report;
 mod start;
 mod status;
@@ -23,7 +23,7 @@ pub use failures::{
 };
 pub use line::{Line, PackedText};
 pub use options::{Form, Options};
-pub use record::write_record;
+pub use records::write_record;
 pub use report::{PrintError, Report, print_answers, print_report};
 pub use start::{StartError, fail_to_start, print_start_error};
 pub use status::Status;

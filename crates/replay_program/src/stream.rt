@@ -6,7 +6,7 @@ use replay_output::{
     Ending, Options, ProxyFailure, Status, all_written, fail_to_start, nothing_failed,
     print_failures, print_unwritten,
 };
-use replay_workers::{Gatekeeper, ShareKeeper, Streamed, stream};
+use replay_workers::{Gatekeeper, ShareKeeper, Streamed, run_stream};
 use resolver::MAX_PROXIES;
 use std::alloc::Global;
 use std::sync::{Arc, Wait};
@@ -43,7 +43,7 @@ pub fn stream_over<
     ensures ends { result ≢ Status.Usage }
     ensures same { result ≢ Status.Differs }
 {
-    let (streamed, account) = match stream(rt, alloc, readers, records, options, gatekeeper, out) {
+    let (streamed, account) = match run_stream(rt, alloc, readers, records, options, gatekeeper, out) {
         Ok(ended) => ended,
         Err(cause) => return fail_to_start(error, cause),
     };

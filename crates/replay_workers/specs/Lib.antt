@@ -4,6 +4,7 @@ pub mod Worker
 pub mod Sender
 pub mod Recorder
 pub mod Outlet
+pub mod Proxies
 pub mod Watch
 pub mod Threads
 pub mod Stops

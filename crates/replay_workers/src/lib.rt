@@ -23,5 +23,5 @@ mod worker;
 pub use gatekeeper::{AlwaysOpen, Gatekeeper, ShareKeeper, Unshared};
 pub use outcome::Outcome;
 pub use running::run;
-pub use stream::{Streamed, stream};
+pub use stream::{Recorder, Streamed, run_stream};
 pub use worker::{Assignment, Finished, work};

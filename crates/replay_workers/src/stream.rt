@@ -17,5 +17,6 @@ mod sender;
 mod streamed;
 mod threads;
 
-pub use running::stream;
+pub use recorder::Recorder;
+pub use running::run_stream;
 pub use streamed::Streamed;

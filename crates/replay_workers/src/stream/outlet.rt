@@ -105,7 +105,7 @@ impl Outlet {
         match self.replies.take() {
             Taken::Item(answer) => {
                 self.print(printer, out, &answer);
-                self.record(answer);
+                self.pass_on(answer);
                 self.tell(gatekeeper);
                 Passed::Took
             }
@@ -126,7 +126,7 @@ impl Outlet {
         ensures none { result ≡ false → self.new.waiting ≡ None }
     {
         if let Some(answer) = self.waiting.take() {
-            self.record(answer);
+            self.pass_on(answer);
         }
         self.waiting.is_some()
     }
@@ -151,7 +151,7 @@ impl Outlet {
 
     // Passes an answer on to the recorder, or lets it wait. A lane that is worn takes none, so the
     // answer waits for good.
-    fn record(&mut self, answer: Answer)
+    fn pass_on(&mut self, answer: Answer)
         requires none_waits { self.old.waiting ≡ None }
         ensures others { self.new ≡ record self.old {
             records = self.new.records; waiting = self.new.waiting } }

@@ -1,14 +1,15 @@
-//! The proxies of a stream: their lanes and threads.
+//! The proxies of a stream: their lanes, outlets and threads.
 
 use crate::gatekeeper::{Gatekeeper, ShareKeeper};
 use crate::stream::outlet::Outlet;
 use crate::stream::progress::Progress;
+use crate::stream::recorder::Recorder;
 use crate::stream::streamed::Streamed;
 use crate::stream::threads::{
     RecorderTask, SenderTask, StartedRecorder, StartedSender, start_recorder, start_sender,
 };
 use crate::worker::Assignment;
-use lane::lane;
+use lane::{agree, lane};
 use replay_output::{Options, StartError};
 use resolver::{Client, share};
 use std::alloc::{AllocError, Global};
@@ -16,21 +17,24 @@ use std::sync::{Arc, Wait};
 use std::thread::Threads;
 use wire::{Sink, Source};
 
-/// What the threads of a proxy are started with.
+/// The outlet of a proxy, and what its threads are started with.
 #[derive(Drop)]
 pub struct Task<S, W, G> {
-    sender: SenderTask<S, G>,
-    recorder: Option<RecorderTask<W>>,
+    pub outlet: Outlet,
+    pub sender: SenderTask<S, G>,
+    pub recorder: Option<RecorderTask<W>>,
 }
 
-/// The threads of a proxy.
+/// The outlet of a proxy, and its threads.
 #[derive(Drop)]
-pub struct Started<S: Source, W: Sink> {
-    sender: StartedSender<S>,
-    recorder: Option<StartedRecorder<W>>,
+pub struct Proxy<S: Source, W: Sink> {
+    pub outlet: Outlet,
+    pub sender: StartedSender<S>,
+    pub recorder: Option<StartedRecorder<W>>,
 }
 
-/// Puts together what the threads of each proxy are started with, and makes its outlet.
+/// Makes the outlet of each proxy, and puts together what its threads are started with. Takes all
+/// memory that is needed before the first thread is started.
 pub fn connect_all<S: Drop, W: Drop, G: Drop>(
     alloc: Global,
     options: Options,
@@ -38,14 +42,16 @@ pub fn connect_all<S: Drop, W: Drop, G: Drop>(
     records: Vec<Option<W>>,
     clients: Vec<Client>,
     gatekeeper: &Arc<G, Global>,
-) -> Result<(Vec<Task<S, W, G>>, Vec<Outlet>), StartError> {
+) -> Result<Vec<Task<S, W, G>>, AllocError> {
     let share = share(readers.len());
     let mut tasks = Vec::with_capacity(alloc, clients.len())?;
-    let mut outlets = Vec::with_capacity(alloc, clients.len())?;
     let mut readers = readers.into_iter();
     let mut records = records.into_iter();
     for client in clients {
-        let (Some(reader), Some(out)) = (readers.next(), records.next()) else {
+        let Some(reader) = readers.next() else {
+            unreachable!()
+        };
+        let Some(out) = records.next() else {
             unreachable!()
         };
         let assignment = Assignment {
@@ -54,7 +60,7 @@ pub fn connect_all<S: Drop, W: Drop, G: Drop>(
             form: options.form,
         };
         let gatekeeper = Arc::try_clone(gatekeeper)?;
-        let (task, outlet) = connect(
+        tasks.push_reserved(connect(
             alloc,
             options.capacity,
             assignment,
@@ -62,11 +68,9 @@ pub fn connect_all<S: Drop, W: Drop, G: Drop>(
             reader,
             out,
             gatekeeper,
-        )?;
-        tasks.push_reserved(task);
-        outlets.push_reserved(outlet);
+        )?);
     }
-    Ok((tasks, outlets))
+    Ok(tasks)
 }
 
 // Makes the outlet of a proxy. If it has a writer of records, a lane leads to its recorder.
@@ -78,31 +82,30 @@ fn connect<S: Drop, W: Drop, G: Drop>(
     reader: S,
     out: Option<W>,
     gatekeeper: Arc<G, Global>,
-) -> Result<(Task<S, W, G>, Outlet), AllocError> {
+) -> Result<Task<S, W, G>, AllocError> {
     let Client { requests, replies } = client;
     let progress = Arc::new(alloc, Progress::new())?;
-    let (records, recorder) = match out {
-        None => (None, None),
-        Some(out) => {
-            let (port, answers) = lane(alloc, capacity).map_err(|_| AllocError)?;
-            let progress = Arc::try_clone(&progress)?;
-            (
-                Some(port),
-                Some(RecorderTask {
-                    answers,
-                    out,
-                    progress,
-                }),
-            )
-        }
-    };
-    let outlet = Outlet {
+    let mut outlet = Outlet {
         replies,
-        records,
+        records: None,
         waiting: None,
         proxy: assignment.proxy,
         lost: false,
         progress: Arc::try_clone(&progress)?,
+    };
+    let recorder = match out {
+        None => None,
+        Some(out) => {
+            let Ok((port, answers)) = lane(alloc, capacity) else {
+                return Err(AllocError);
+            };
+            outlet.records = Some(port);
+            Some(RecorderTask {
+                answers,
+                out,
+                progress: Arc::try_clone(&progress)?,
+            })
+        }
     };
     let sender = SenderTask {
         assignment,
@@ -111,7 +114,11 @@ fn connect<S: Drop, W: Drop, G: Drop>(
         gatekeeper,
         progress,
     };
-    Ok((Task { sender, recorder }, outlet))
+    Ok(Task {
+        outlet,
+        sender,
+        recorder,
+    })
 }
 
 /// Starts the threads of all proxies. After an error the threads that were started are not joined.
@@ -124,39 +131,70 @@ pub fn start_all<
     rt: &R,
     alloc: Global,
     tasks: Vec<Task<S, W, G>>,
-) -> Result<Vec<Started<S, W>>, StartError> {
-    let mut threads = Vec::with_capacity(alloc, tasks.len())?;
+) -> Result<Vec<Proxy<S, W>>, StartError> {
+    let mut proxies = Vec::with_capacity(alloc, tasks.len())?;
     for task in tasks {
-        let Task { sender, recorder } = task;
-        let recorder = match recorder {
-            None => None,
-            Some(recorder) => Some(start_recorder(rt, alloc, recorder)?),
-        };
-        threads.push_reserved(Started {
-            sender: start_sender(rt, alloc, sender)?,
-            recorder,
-        });
+        proxies.push_reserved(start(rt, alloc, task)?);
     }
-    Ok(threads)
+    Ok(proxies)
+}
+
+// Starts the threads of a proxy.
+fn start<
+    S: Source + Send + Drop + 'static,
+    W: Sink + Send + Drop + 'static,
+    G: Gatekeeper + ShareKeeper + Send + Sync + Drop + 'static,
+    R: Threads + Wait + Copy + Send + 'static,
+>(rt: &R, alloc: Global, task: Task<S, W, G>) -> Result<Proxy<S, W>, StartError> {
+    let Task {
+        outlet,
+        sender,
+        recorder,
+    } = task;
+    let recorder = match recorder {
+        None => None,
+        Some(recorder) => Some(start_recorder(rt, alloc, recorder)?),
+    };
+    Ok(Proxy {
+        outlet,
+        sender: start_sender(rt, alloc, sender)?,
+        recorder,
+    })
 }
 
 /// Joins all threads, and puts their results and the outlets into the outcome, in order. Takes no
 /// memory.
 pub fn join_all<S: Source, W: Sink, R: Threads>(
     rt: &R,
-    threads: Vec<Started<S, W>>,
-    outlets: Vec<Outlet>,
-    streamed: Streamed,
-) -> Streamed {
+    proxies: Vec<Proxy<S, W>>,
+    streamed: Streamed<W>,
+) -> Streamed<W> {
     let mut streamed = streamed;
-    let mut outlets = outlets.into_iter();
-    for started in threads {
-        let Some(outlet) = outlets.next() else {
-            unreachable!()
-        };
-        let Started { sender, recorder } = started;
-        let recorder = recorder.map(|recorder| recorder.join(rt));
+    for proxy in proxies {
+        let Proxy {
+            outlet,
+            sender,
+            recorder,
+        } = proxy;
+        let mut outlet = outlet;
+        let recorder = join_recorder(rt, &mut outlet, recorder);
         streamed.push(sender.join(rt), outlet, recorder);
     }
     streamed
+}
+
+// Joins the recorder of a proxy, if it has one. Both ends of its lane agree then.
+fn join_recorder<W: Sink, R: Threads>(
+    rt: &R,
+    outlet: &mut Outlet,
+    recorder: Option<StartedRecorder<W>>,
+) -> Option<Recorder<W>> {
+    let Some(recorder) = recorder else {
+        return None;
+    };
+    let mut recorder = recorder.join(rt);
+    if let Some(port) = &mut outlet.records {
+        agree(port, &mut recorder.answers);
+    }
+    Some(recorder)
 }

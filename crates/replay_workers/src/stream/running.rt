@@ -1,17 +1,18 @@
 //! A stream: senders read and send, and recorders write records, while this thread turns the
 //! resolver and prints the answers.
 
-ghost use Rattle.std.specs.Prelude.{◌≡◌, ℕ, true, Some, slice_get, IsTrue};
+ghost use Rattle.std.specs.Prelude.{◌≡◌, ℕ, true, Some, map, slice_get, IsTrue};
 ghost use Rattle.resolver.specs.Core.{GoesOn};
 ghost use Rattle.resolver.specs.Lanes.{Lanes, Each, LanesGoOn};
 ghost use Rattle.resolver.specs.Resolver.{IsResolving, IsThrough};
 ghost use Rattle.replay_workers.specs.Outlet.{AreNumbered, HavePassedAll, StreamsOn};
+ghost use Rattle.replay_workers.specs.Proxies.{outlets_of, threads_of};
 ghost use Rattle.replay_workers.specs.Stops.{IsAccountedFor};
 
 use crate::gatekeeper::{Gatekeeper, ShareKeeper};
 use crate::running::let_through;
-use crate::stream::outlet::{Outlet, Passed, Printer};
-use crate::stream::proxies::{connect_all, join_all, start_all};
+use crate::stream::outlet::{Passed, Printer};
+use crate::stream::proxies::{Proxy, connect_all, join_all, start_all};
 use crate::stream::streamed::Streamed;
 use crate::watch::Watch;
 use replay_output::{Options, StartError};
@@ -29,7 +30,7 @@ use wire::{Sink, Source};
 /// Returns what became of the proxies, and the account of the resolver. Once a thread was started,
 /// this one takes no memory but in turns, in starting threads and for the line of an answer. After
 /// an error no thread is joined.
-pub fn stream<
+pub fn run_stream<
     S: Source + Send + Drop + 'static,
     W: Sink + Send + Drop + 'static,
     G: Gatekeeper + ShareKeeper + Send + Sync + Drop + 'static,
@@ -43,32 +44,30 @@ pub fn stream<
     options: Options,
     gatekeeper: &Arc<G, Global>,
     out: &mut O,
-) -> Result<(Streamed, Account), StartError> {
-    let proxies = readers.len();
-    let mut streamed = Streamed::with_room(alloc, proxies)?;
-    let mut watch = Watch::new(alloc, proxies)?;
+) -> Result<(Streamed<W>, Account), StartError> {
+    let mut streamed = Streamed::with_room(alloc, readers.len())?;
+    let mut watch = Watch::new(alloc, readers.len())?;
     let Options {
         capacity,
         window,
         limit,
         form,
     } = options;
-    let (mut resolver, clients) = open(alloc, proxies, capacity, window, limit)?;
-    let (tasks, mut outlets) =
-        connect_all(alloc, options, readers, records, clients, gatekeeper)?;
-    let threads = start_all(rt, alloc, tasks)?;
+    let (mut resolver, clients) = open(alloc, readers.len(), capacity, window, limit)?;
+    let tasks = connect_all(alloc, options, readers, records, clients, gatekeeper)?;
+    let mut proxies = start_all(rt, alloc, tasks)?;
     let mut printer = Printer::new(alloc, form);
     turn_to_end(
         rt,
         &mut resolver,
         &**gatekeeper,
         &mut watch,
-        &mut outlets,
+        &mut proxies,
         &mut printer,
         out,
     );
     streamed.failed = printer.failed;
-    let mut streamed = join_all(rt, threads, outlets, streamed);
+    let mut streamed = join_all(rt, proxies, streamed);
     let account = resolver.settle(streamed.clients.as_mut_slice());
     Ok((streamed, account))
 }
@@ -76,16 +75,16 @@ pub fn stream<
 // Turns the resolver until it is done; after a stop, until a turn leaves nothing owed. Before each
 // turn it passes on what has come. If all proxies wait for each other, a batch is admitted. Returns
 // once all answers were passed on.
-fn turn_to_end<G: Gatekeeper + ShareKeeper, R: Wait, O: Sink>(
+fn turn_to_end<S: Source, W: Sink, G: Gatekeeper + ShareKeeper, R: Wait, O: Sink>(
     rt: &R,
     resolver: &mut Resolver,
     gatekeeper: &G,
     watch: &mut Watch,
-    outlets: &mut [Outlet],
+    proxies: &mut [Proxy<S, W>],
     printer: &mut Printer,
     out: &mut O,
 )
-    requires numbered { AreNumbered outlets.old }
+    requires numbered { AreNumbered (outlets_of proxies.old) }
     ensures through { IsThrough resolver.new }
     ensures closed { (proxy : ℕ) (l : Lanes) → slice_get resolver.new.lanes proxy ≡ Some l
         → l.replies.closed ≡ true }
@@ -94,11 +93,12 @@ fn turn_to_end<G: Gatekeeper + ShareKeeper, R: Wait, O: Sink>(
     ensures goes_on { GoesOn resolver.old.core resolver.new.core }
     ensures lanes { Each (λ _ l m. LanesGoOn l m) resolver.old.lanes resolver.new.lanes }
     ensures streams { StreamsOn printer.old.form printer.old.failed printer.new.failed
-        (O.given out.old) (O.given out.new) outlets.old outlets.new }
-    ensures passed { HavePassedAll outlets.new }
+        (O.given out.old) (O.given out.new) (outlets_of proxies.old) (outlets_of proxies.new) }
+    ensures threads { map threads_of proxies.new ≡ map threads_of proxies.old }
+    ensures passed { HavePassedAll (outlets_of proxies.new) }
 {
     for _ in rt.forever() {
-        let ended = pass_each(outlets, printer, out, gatekeeper);
+        let ended = pass_each(proxies, printer, out, gatekeeper);
         match resolver.turn() {
             Ok(Turn::Took(_)) => watch.forget(),
             Ok(Turn::Idle) => {
@@ -114,23 +114,25 @@ fn turn_to_end<G: Gatekeeper + ShareKeeper, R: Wait, O: Sink>(
 }
 
 // Passes on at most one answer of each proxy. Returns whether all outlets have ended.
-fn pass_each<G: Gatekeeper, O: Sink>(
-    outlets: &mut [Outlet],
+fn pass_each<S: Source, W: Sink, G: Gatekeeper, O: Sink>(
+    proxies: &mut [Proxy<S, W>],
     printer: &mut Printer,
     out: &mut O,
     gatekeeper: &G,
 ) -> bool
-    requires numbered { AreNumbered outlets.old }
+    requires numbered { AreNumbered (outlets_of proxies.old) }
     ensures form { printer.new.form ≡ printer.old.form }
-    ensures numbered { AreNumbered outlets.new }
+    ensures numbered { AreNumbered (outlets_of proxies.new) }
+    ensures threads { map threads_of proxies.new ≡ map threads_of proxies.old }
     ensures streams { StreamsOn printer.old.form printer.old.failed printer.new.failed
-        (O.given out.old) (O.given out.new) outlets.old outlets.new }
-    ensures passed { IsTrue result → HavePassedAll outlets.new }
+        (O.given out.old) (O.given out.new) (outlets_of proxies.old) (outlets_of proxies.new) }
+    ensures passed { IsTrue result → HavePassedAll (outlets_of proxies.new) }
 {
     let mut ended = true;
-    for proxy in 0..outlets.len() {
-        if outlets[proxy].pass(printer, out, gatekeeper) != Passed::Ended {
-            ended = false;
+    for proxy in 0..proxies.len() {
+        match proxies[proxy].outlet.pass(printer, out, gatekeeper) {
+            Passed::Ended => {}
+            Passed::Took | Passed::Waits => ended = false,
         }
     }
     ended
