@@ -15,7 +15,7 @@ use Rattle.replay_output.specs.declared.options.form.Form.{Form}
 use Rattle.replay_output.specs.Lines.{line}
 use Rattle.replay_output.specs.Streamed.{Printed, answer_for, printed_for, printed_line, stream_text}
 use Rattle.replay_workers.specs.declared.stream.outlet.Outlet.{Outlet}
-use Rattle.replay_workers.specs.Outlet.{is_whole, PassesOn, OutletGoesOn, TookText, PassesSome, EachOutlet, StreamGoesOn, AreNumbered, HasPassedAll}
+use Rattle.replay_workers.specs.Outlet.{is_whole, PassesOn, OutletGoesOn, TookText, PassesSome, EachOutlet, StreamGoesOn, AreNumbered, HasPassedAll, StreamsOn}
 use Rattle.replay_workers.proofs.Recording.{Begins, begins_then}
 use Rattle.replay_workers.proofs.SameLanes.{port_goes_on, intake_goes_on}
 
@@ -306,3 +306,15 @@ passed_set outlets i x inside before now q m below at =
           before q m (omega (arith, below, apart))
           (slice_get-get_or outlets q m (omega (arith, known, length-set outlets i x)) ∙ ap Some is)
     ]
+
+-- a stream that goes on by two steps
+pub streams_then : (form later : Form) (first mid now : Bool) (a b c : Option (List ℕ)) (old between new : List Outlet) → later ≡ form
+    → StreamsOn form first mid a b old between → StreamsOn later mid now b c between new → StreamsOn form first now a c old new
+streams_then form later first mid now a b c old between new same one two = λ failed given outlets was.
+    subst (λ (form : Form). StreamGoesOn form failed now given c outlets new) same
+    (two failed given outlets (subst (λ (form : Form). StreamGoesOn form failed mid given b outlets between) (sym same)
+    (one failed given outlets was)))
+
+pub streams_same : (form : Form) (failed : Bool) (given : Option (List ℕ)) (outlets : List Outlet)
+    → StreamsOn form failed failed given given outlets outlets
+streams_same form failed given outlets = λ first before old was. was

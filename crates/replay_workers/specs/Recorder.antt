@@ -1,5 +1,5 @@
 -- What a recorder has done. This project's own.
-use Rattle.std.specs.Prelude.{◌≡◌, ◌≢◌, ℕ, List, [], ◌++◌, take, Option, None, Some, IfSome}
+use Rattle.std.specs.Prelude.{◌≡◌, ℕ, Bool, true, false, List, [], ◌++◌, take, Option, None, Some, IfSome}
 use Rattle.std.specs.Io.KnownBytes.{Appends}
 use Rattle.keyspace.specs.declared.answer.Answer.{Answer}
 use Rattle.lane.specs.Lane.{IntakeView, IntakeGoesOn, HasEnded}
@@ -41,3 +41,18 @@ pub record RecorderGoesOn {W : Type 0} (given_to : W → Option (List ℕ)) (old
       (first : List Answer) (before : Option (List ℕ))
       → WritesRecords first old.answers.taken before (given_to old.out) old.failure
       → WritesRecords first new.answers.taken before (given_to new.out) new.failure
+
+-- why a record was not written
+abbrev pub unwritten_cause : {W : Type 0} → Option (Recorder W) → Option AnswerError
+unwritten_cause None = None
+unwritten_cause (Some recorder) = recorder.failure
+
+abbrev pub is_unwritten : Option AnswerError → Bool
+is_unwritten None = false
+is_unwritten (Some Memory) = false
+is_unwritten (Some Write) = true
+
+abbrev pub is_refused : Option AnswerError → Bool
+is_refused None = false
+is_refused (Some Memory) = true
+is_refused (Some Write) = false

@@ -1,5 +1,14 @@
 //! The proxies of a stream: their lanes, outlets and threads.
 
+ghost use Rattle.std.specs.Prelude.{◌≡◌, ◌≤◌, List, [], map, option_map, vec_len, vec_capacity};
+ghost use Rattle.std.specs.Prelude.{IfOk};
+ghost use Rattle.std.specs.List.{All, AllZip};
+ghost use Rattle.lane.specs.declared.ends.TheConstants.{MAX_CAPACITY};
+ghost use Rattle.replay_workers.specs.Outlet.{HavePassedAll, IsClosed};
+ghost use Rattle.replay_workers.specs.Proxies.{AreEnds, IsJoined, IsNewOutlet, IsStreamedOf};
+ghost use Rattle.replay_workers.specs.Proxies.{Joined, JoinsRecorder, given_proxies, given_with};
+ghost use Rattle.replay_workers.specs.Proxies.{outlets_of, threads_by, threads_of};
+
 use crate::gatekeeper::{Gatekeeper, ShareKeeper};
 use crate::stream::outlet::Outlet;
 use crate::stream::progress::Progress;
@@ -42,7 +51,15 @@ pub fn connect_all<S: Drop, W: Drop, G: Drop>(
     records: Vec<Option<W>>,
     clients: Vec<Client>,
     gatekeeper: &Arc<G, Global>,
-) -> Result<Vec<Task<S, W, G>>, AllocError> {
+) -> Result<Vec<Task<S, W, G>>, AllocError>
+    requires readers { vec_len readers ≡ vec_len clients }
+    requires records { vec_len records ≡ vec_len clients }
+    ensures given { IfOk result (λ tasks.
+        map (λ task. given_with task.outlet (threads_by task)) tasks.items
+        ≡ given_proxies 0 clients.items readers.items records.items) }
+    ensures new { IfOk result (λ tasks. All (λ task.
+        IsNewOutlet task.outlet (threads_by task).answers) tasks.items) }
+{
     let share = share(readers.len());
     let mut tasks = Vec::with_capacity(alloc, clients.len())?;
     let mut readers = readers.into_iter();
@@ -82,7 +99,13 @@ fn connect<S: Drop, W: Drop, G: Drop>(
     reader: S,
     out: Option<W>,
     gatekeeper: Arc<G, Global>,
-) -> Result<Task<S, W, G>, AllocError> {
+) -> Result<Task<S, W, G>, AllocError>
+    requires least_capacity { 1 ≤ capacity }
+    requires most_capacity { capacity ≤ MAX_CAPACITY }
+    ensures given { IfOk result (λ task. given_with task.outlet (threads_by task) ≡ record {
+        proxy = assignment.proxy; client = client; reader = reader; out = out }) }
+    ensures new { IfOk result (λ task. IsNewOutlet task.outlet (threads_by task).answers) }
+{
     let Client { requests, replies } = client;
     let progress = Arc::new(alloc, Progress::new())?;
     let mut outlet = Outlet {
@@ -131,7 +154,12 @@ pub fn start_all<
     rt: &R,
     alloc: Global,
     tasks: Vec<Task<S, W, G>>,
-) -> Result<Vec<Proxy<S, W>>, StartError> {
+) -> Result<Vec<Proxy<S, W>>, StartError>
+    ensures outlets { IfOk result (λ proxies. outlets_of proxies.items
+        ≡ map (λ task. task.outlet) tasks.items) }
+    ensures threads { IfOk result (λ proxies. map threads_of proxies.items
+        ≡ map threads_by tasks.items) }
+{
     let mut proxies = Vec::with_capacity(alloc, tasks.len())?;
     for task in tasks {
         proxies.push_reserved(start(rt, alloc, task)?);
@@ -145,7 +173,10 @@ fn start<
     W: Sink + Send + Drop + 'static,
     G: Gatekeeper + ShareKeeper + Send + Sync + Drop + 'static,
     R: Threads + Wait + Copy + Send + 'static,
->(rt: &R, alloc: Global, task: Task<S, W, G>) -> Result<Proxy<S, W>, StartError> {
+>(rt: &R, alloc: Global, task: Task<S, W, G>) -> Result<Proxy<S, W>, StartError>
+    ensures outlet { IfOk result (λ proxy. proxy.outlet ≡ task.outlet) }
+    ensures threads { IfOk result (λ proxy. threads_of proxy ≡ threads_by task) }
+{
     let Task {
         outlet,
         sender,
@@ -168,7 +199,16 @@ pub fn join_all<S: Source, W: Sink, R: Threads>(
     rt: &R,
     proxies: Vec<Proxy<S, W>>,
     streamed: Streamed<W>,
-) -> Streamed<W> {
+) -> Streamed<W>
+    requires empty { IsStreamedOf [] streamed }
+    requires room { vec_len proxies ≤ vec_capacity streamed.clients }
+    requires ends { All (λ proxy. AreEnds proxy.outlet.records (threads_of proxy).answers)
+        proxies.items }
+    requires passed { HavePassedAll (outlets_of proxies.items) }
+    ensures joined { (joined : List (Joined W.Denot))
+        × AllZip (IsJoined S.remaining W.given) proxies.items joined × IsStreamedOf joined result }
+    ensures failed { result.failed ≡ streamed.failed }
+{
     let mut streamed = streamed;
     for proxy in proxies {
         let Proxy {
@@ -188,7 +228,15 @@ fn join_recorder<W: Sink, R: Threads>(
     rt: &R,
     outlet: &mut Outlet,
     recorder: Option<StartedRecorder<W>>,
-) -> Option<Recorder<W>> {
+) -> Option<Recorder<W>>
+    requires ends { AreEnds outlet.old.records (option_map (λ r. r.handle.promise.answers.value)
+        recorder) }
+    requires closed { IsClosed outlet.old.records }
+    ensures outlet { outlet.new ≡ record outlet.old { records = outlet.new.records } }
+    ensures joins { JoinsRecorder W.given (option_map (λ r. r.handle.promise.out.value) recorder)
+        (option_map (λ r. r.handle.promise.answers.value) recorder) outlet.old.records
+        outlet.new.records result }
+{
     let Some(recorder) = recorder else {
         return None;
     };

@@ -1,5 +1,9 @@
 //! What became of the proxies of a stream.
 
+ghost use Rattle.std.specs.Prelude.{◌≡◌, ◌≤◌, ◌<◌, ◌⊎◌, [], ◌∷◌, ◌++◌, true, false, ◌||◌, None};
+ghost use Rattle.std.specs.Prelude.{Some, IfOk, vec_len, vec_capacity};
+ghost use Rattle.replay_workers.specs.Recorder.{is_refused, is_unwritten, unwritten_cause};
+
 use crate::stream::outlet::Outlet;
 use crate::stream::recorder::Recorder;
 use crate::stream::sender::Sent;
@@ -21,11 +25,25 @@ pub struct Streamed<W> {
     pub all_sent: bool,
     /// Standard output has failed: some lines were not printed.
     pub failed: bool,
+    ghost failures_each: { vec_len failures ≡ vec_len clients },
+    ghost recorders_each: { vec_len recorders ≡ vec_len clients },
+    ghost unwritten_each: { vec_len unwritten ≡ vec_len clients },
+    ghost failures_room: { vec_capacity clients ≤ vec_capacity failures },
+    ghost recorders_room: { vec_capacity clients ≤ vec_capacity recorders },
+    ghost unwritten_room: { vec_capacity clients ≤ vec_capacity unwritten },
 }
 
 impl<W> Streamed<W> {
     /// Creates an empty outcome with room for the results of n proxies.
-    pub fn with_room(alloc: Global, proxies: usize) -> Result<Self, AllocError> {
+    pub fn with_room(alloc: Global, proxies: usize) -> Result<Self, AllocError>
+        ensures room { IfOk result (λ streamed. proxies ≤ vec_capacity streamed.clients) }
+        ensures clients { IfOk result (λ streamed. streamed.clients.items ≡ []) }
+        ensures failures { IfOk result (λ streamed. streamed.failures.items ≡ []) }
+        ensures recorders { IfOk result (λ streamed. streamed.recorders.items ≡ []) }
+        ensures unwritten { IfOk result (λ streamed. streamed.unwritten.items ≡ []) }
+        ensures all_sent { IfOk result (λ streamed. streamed.all_sent ≡ true) }
+        ensures failed { IfOk result (λ streamed. streamed.failed ≡ false) }
+    {
         Ok(Streamed {
             clients: Vec::with_capacity(alloc, proxies)?,
             failures: Vec::with_capacity(alloc, proxies)?,
@@ -37,19 +55,34 @@ impl<W> Streamed<W> {
     }
 
     /// Appends the result of a proxy. Takes no memory.
-    pub fn push(&mut self, sent: Sent, outlet: Outlet, recorder: Option<Recorder<W>>) {
+    pub fn push(&mut self, sent: Sent, outlet: Outlet, recorder: Option<Recorder<W>>)
+        requires room { vec_len self.old.clients < vec_capacity self.old.clients }
+        ensures clients { self.new.clients.items ≡ self.old.clients.items
+            ++ record { requests = sent.requests; replies = outlet.replies } ∷ [] }
+        ensures failures { self.new.failures.items ≡ self.old.failures.items ++ record {
+            fault = sent.fault;
+            lost = outlet.lost || is_refused (unwritten_cause recorder) } ∷ [] }
+        ensures recorders { self.new.recorders.items ≡ self.old.recorders.items ++ recorder ∷ [] }
+        ensures unwritten { self.new.unwritten.items ≡ self.old.unwritten.items
+            ++ is_unwritten (unwritten_cause recorder) ∷ [] }
+        ensures all_sent { self.new.all_sent ≡ true → (self.old.all_sent ≡ true)
+            × ((sent.unsent ≡ None) ⊎ (unwritten_cause recorder ≡ Some AnswerError.Write)) }
+        ensures sends_all { self.old.all_sent ≡ true → sent.unsent ≡ None
+            → self.new.all_sent ≡ true }
+        ensures failed { self.new.failed ≡ self.old.failed }
+        ensures capacity { vec_capacity self.new.clients ≡ vec_capacity self.old.clients }
+    {
         let Sent {
             requests,
             fault,
             unsent,
         } = sent;
         let Outlet { replies, lost, .. } = outlet;
-        let failure = failure_of(&recorder);
-        let unwritten = failure == Some(AnswerError::Write);
+        let (refused, unwritten) = failure_of(&recorder);
         self.clients.push_reserved(Client { requests, replies });
         self.failures.push_reserved(ProxyFailure {
             fault,
-            lost: lost || failure == Some(AnswerError::Memory),
+            lost: lost || refused,
         });
         self.recorders.push_reserved(recorder);
         self.unwritten.push_reserved(unwritten);
@@ -57,10 +90,17 @@ impl<W> Streamed<W> {
     }
 }
 
-// Returns why a record was not written.
-fn failure_of<W>(recorder: &Option<Recorder<W>>) -> Option<AnswerError> {
+// Returns whether memory was refused for a record, and whether the writer has failed.
+fn failure_of<W>(recorder: &Option<Recorder<W>>) -> (bool, bool)
+    ensures refused { result.0 ≡ is_refused (unwritten_cause recorder.now) }
+    ensures unwritten { result.1 ≡ is_unwritten (unwritten_cause recorder.now) }
+{
     match recorder {
-        Some(recorder) => recorder.failure,
-        None => None,
+        Some(recorder) => match recorder.failure {
+            Some(AnswerError::Memory) => (true, false),
+            Some(AnswerError::Write) => (false, true),
+            None => (false, false),
+        },
+        None => (false, false),
     }
 }
