@@ -20,7 +20,7 @@ pub use check::{
 };
 pub use program::{check_files, replay_files, run, run_in, stream_files};
 pub use replay::replay_over;
-pub use stream::stream_over;
+pub use stream::{StreamReport, stream_over};
 pub use replay_arguments::{
     CommandLine, FileError, Files, OpeningError, Refusal, STANDARD_INPUT, create_files,
     fail_to_create, fail_to_open, open_files, read_words,

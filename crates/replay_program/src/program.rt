@@ -186,7 +186,7 @@ pub fn stream_files<R: Threads + Wait + Copy + Send + 'static, F: Files, O: Sink
     let Ok(gatekeeper) = gatekeeper(alloc, &readers) else {
         return fail_to_start(error, StartError::Memory);
     };
-    stream_over(
+    let report = stream_over(
         rt,
         alloc,
         readers,
@@ -195,7 +195,8 @@ pub fn stream_files<R: Threads + Wait + Copy + Send + 'static, F: Files, O: Sink
         &gatekeeper,
         out,
         error,
-    )
+    );
+    report.status
 }
 
 // Opens the files for records, and returns the writer of each proxy, if there is one.

@@ -1,17 +1,31 @@
 //! All that follows the opening of the files where answers are printed as they come.
 
-ghost use Rattle.std.specs.Prelude.{◌≡◌, ◌≤◌, ◌≢◌, vec_len};
+ghost use Rattle.std.specs.Prelude.{◌≡◌, ◌≤◌, ◌<◌, ◌≢◌, ◌↔◌, ◌++◌, map, vec_len, IsErr, OnOk};
+ghost use Rattle.std.specs.Io.KnownBytes.{Appends, Keeps};
+ghost use Rattle.replay_output.specs.Failures.{failure_lines};
+ghost use Rattle.replay_output.specs.Streamed.{unwritten_lines};
+ghost use Rattle.replay_workers.specs.Streaming.{recorded_each};
+ghost use Rattle.replay_program.specs.Replayed.{written};
+ghost use Rattle.replay_program.specs.Streamed.{FailsToStream, IsStreamDone};
 
 use replay_output::{
     Ending, Options, ProxyFailure, Status, all_written, fail_to_start, nothing_failed,
     print_failures, print_unwritten,
 };
-use replay_workers::{Gatekeeper, ShareKeeper, Streamed, run_stream};
+use replay_workers::{Gatekeeper, Recorder, ShareKeeper, Streamed, run_stream};
 use resolver::MAX_PROXIES;
 use std::alloc::Global;
 use std::sync::{Arc, Wait};
 use std::thread::Threads;
 use wire::{Failed, Sink, Source};
+
+/// How a stream has ended.
+#[derive(Drop)]
+pub struct StreamReport<W> {
+    pub status: Status,
+    /// The recorder of each proxy, if it has one, at its number. None if the run could not start.
+    pub recorders: Vec<Option<Recorder<W>>>,
+}
 
 /// Replays the files of these readers, of which each is that of the proxy at its place. Prints one
 /// line per answer to `out` as it comes: the lines of each proxy are in the order of its answers,
@@ -36,19 +50,44 @@ pub fn stream_over<
     gatekeeper: &Arc<G, Global>,
     out: &mut O,
     error: &mut E,
-) -> Status
+) -> StreamReport<W>
     requires least_files { 1 ≤ vec_len readers }
     requires most_files { vec_len readers ≤ MAX_PROXIES }
     requires as_many { vec_len records ≡ vec_len readers }
-    ensures ends { result ≢ Status.Usage }
-    ensures same { result ≢ Status.Differs }
+    // There is one log of the reference resolver that holds the batches of each file once, in
+    // order, and nothing else. The lines printed for each proxy are those of all its answers by
+    // that log, in order, and so are its records.
+    ensures done { result.status ≡ Status.Done
+        → IsStreamDone options (map S.remaining readers.items)
+        (recorded_each W.given records.items result.recorders.items)
+        (O.given out.old) (O.given out.new) }
+    ensures quiet { result.status ≡ Status.Done → Keeps (E.given error.old) (E.given error.new) }
+
+    // Something failed, and its lines were written, or a writer failed. The lines and the records
+    // of each proxy are those of its first answers.
+    ensures failed { result.status ≡ Status.Failed
+        → FailsToStream options (map S.remaining readers.items)
+        (recorded_each W.given records.items result.recorders.items)
+        (written (O.given out.old) (O.given out.new) (O.failures out.old) (O.failures out.new))
+        (written (E.given error.old) (E.given error.new) (E.failures error.old)
+        (E.failures error.new)) }
+    ensures ends { result.status ≢ Status.Usage }
+    ensures same { result.status ≢ Status.Differs }
 {
-    let (streamed, account) = match run_stream(rt, alloc, readers, records, options, gatekeeper, out) {
-        Ok(ended) => ended,
-        Err(cause) => return fail_to_start(error, cause),
-    };
+    serial::laws::answers_tell_verdicts();
+    let (streamed, account) =
+        match run_stream(rt, alloc, readers, records, options, gatekeeper, out) {
+            Ok(ended) => ended,
+            Err(cause) => {
+                return StreamReport {
+                    status: fail_to_start(error, cause),
+                    recorders: Vec::new(alloc),
+                };
+            }
+        };
     let Streamed {
         failures,
+        recorders,
         unwritten,
         all_sent,
         failed,
@@ -57,7 +96,10 @@ pub fn stream_over<
     let ending = Ending::new(account.complete && all_sent, account.stop);
     let told = print_all(error, &unwritten, &failures, ending);
     let clean = nothing_failed(&failures, ending) && all_written(&unwritten);
-    Status::of(clean && !failed && told.is_ok())
+    StreamReport {
+        status: Status::of(clean && !failed && told.is_ok()),
+        recorders,
+    }
 }
 
 // Prints the lines of the proxies whose records could not be written, and then of all else.
@@ -66,7 +108,11 @@ fn print_all<E: Sink>(
     unwritten: &[bool],
     failures: &[ProxyFailure],
     ending: Ending,
-) -> Result<(), Failed> {
+) -> Result<(), Failed>
+    ensures text { OnOk result (Appends (E.given error.old) (E.given error.new)
+        (unwritten_lines unwritten.now ++ failure_lines failures.now ending)) }
+    ensures failed { IsErr result ↔ (E.failures error.old < E.failures error.new) }
+{
     print_unwritten(error, unwritten)?;
     print_failures(error, failures, ending)
 }

@@ -9,3 +9,4 @@ pub mod Runs
 pub mod Keeping
 pub mod Recording
 pub mod Outlets
+pub mod Passing

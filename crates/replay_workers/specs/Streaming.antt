@@ -19,6 +19,7 @@ use Rattle.replay_output.specs.declared.stream.AnswerError.{AnswerError}
 use Rattle.replay_output.specs.declared.stream.AnswerError.TheVariants as answer
 use Rattle.replay_output.specs.Streamed.{Printed, printed_for, stream_text}
 use Rattle.replay_workers.specs.Recorder.{TookRecords}
+use Rattle.replay_workers.specs.declared.stream.recorder.Recorder.{Recorder}
 use Rattle.replay_workers.specs.Outlet.{TookText}
 use Rattle.replay_workers.specs.Run.{LeavesBatch}
 use Rattle.replay_workers.specs.Stops.{IsStopOf}
@@ -29,6 +30,16 @@ pub record Recorded : Type 0 where
   pub before : Option (List ℕ)
   pub after : Option (List ℕ)
   pub failure : Option AnswerError
+
+-- the writers of a run, at its begin and with their recorders at its end
+abbrev pub recorded_each : {W : Type 0} → (W → Option (List ℕ)) → List (Option W) → List (Option (Recorder W)) → List (Option Recorded)
+recorded_each given_to [] recorders = []
+recorded_each given_to (out ∷ outs) [] = []
+recorded_each given_to (Some out ∷ outs) (Some recorder ∷ recorders) =
+    Some (record { before = given_to out; after = given_to recorder.out; failure = recorder.failure })
+    ∷ recorded_each given_to outs recorders
+recorded_each given_to (Some out ∷ outs) (None ∷ recorders) = None ∷ recorded_each given_to outs recorders
+recorded_each given_to (None ∷ outs) (recorder ∷ recorders) = None ∷ recorded_each given_to outs recorders
 
 -- The records that were written are those of the first answers, in order and once; of all answers unless a record could not be
 -- written.

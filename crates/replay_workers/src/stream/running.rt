@@ -1,7 +1,11 @@
 //! A stream: senders read and send, and recorders write records, while this thread turns the
 //! resolver and prints the answers.
 
-ghost use Rattle.std.specs.Prelude.{◌≡◌, ℕ, true, Some, map, slice_get, IsTrue};
+ghost use Rattle.std.specs.Prelude.{◌≡◌, ◌≤◌, ◌&&◌, ℕ, true, Some, map, slice_get, vec_len};
+ghost use Rattle.std.specs.Prelude.{IfOk, IsTrue, OnErr};
+ghost use Rattle.resolver.specs.declared.resolver_core.TheConstants.{MAX_PROXIES};
+ghost use Rattle.replay_workers.specs.Recorder.{is_unwritten, unwritten_cause};
+ghost use Rattle.replay_workers.specs.Streaming.{IsStreamed, recorded_each};
 ghost use Rattle.resolver.specs.Core.{GoesOn};
 ghost use Rattle.resolver.specs.Lanes.{Lanes, Each, LanesGoOn};
 ghost use Rattle.resolver.specs.Resolver.{IsResolving, IsThrough};
@@ -44,7 +48,18 @@ pub fn run_stream<
     options: Options,
     gatekeeper: &Arc<G, Global>,
     out: &mut O,
-) -> Result<(Streamed<W>, Account), StartError> {
+) -> Result<(Streamed<W>, Account), StartError>
+    requires least_readers { 1 ≤ vec_len readers }
+    requires most_readers { vec_len readers ≤ MAX_PROXIES }
+    requires as_many { vec_len records ≡ vec_len readers }
+    ensures run { IfOk result (λ ended. IsStreamed options (map S.remaining readers.items)
+        (O.given out.old) (O.given out.new) ended.0.failed ended.0.failures.items
+        (recorded_each W.given records.items ended.0.recorders.items)
+        (ended.1.complete && ended.0.all_sent) ended.1.stop) }
+    ensures unwritten { IfOk result (λ ended. ended.0.unwritten.items
+        ≡ map (λ recorder. is_unwritten (unwritten_cause recorder)) ended.0.recorders.items) }
+    ensures nothing { OnErr result (O.given out.new ≡ O.given out.old) }
+{
     let mut streamed = Streamed::with_room(alloc, readers.len())?;
     let mut watch = Watch::new(alloc, readers.len())?;
     let Options {
