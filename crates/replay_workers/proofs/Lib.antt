@@ -10,3 +10,4 @@ pub mod Keeping
 pub mod Recording
 pub mod Outlets
 pub mod Passing
+pub mod Streams
