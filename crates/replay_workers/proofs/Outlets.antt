@@ -7,7 +7,7 @@ use Rattle.std.proofs.lemmas.Bool.{false≢true, cases_eq, eq-eqb, ne_eqb}
 use Rattle.std.proofs.lemmas.List.{get_or-set_same, get_or-set_other, length-set}
 use Rattle.std.proofs.lemmas.List.Concat.{flat_map-append}
 use Rattle.std.proofs.lemmas.List.Elements.{All-append, All-nil, All-cons}
-use Rattle.std.proofs.lemmas.Option.{slice_get-get_or, slice_get_within, get_or_from_slice_get}
+use Rattle.std.proofs.lemmas.Option.{same_Some, slice_get-get_or, slice_get_within, get_or_from_slice_get}
 use Rattle.keyspace.specs.declared.answer.Answer.{Answer}
 use Rattle.lane.specs.Lane.{PortView, PortGoesOn, IntakeView, IntakeGoesOn}
 use Rattle.wire.proofs.callers.Given.{appends_then, appends_none}
@@ -188,7 +188,7 @@ stream_same form failed given outlets = record {
   each = record {
     count = refl;
     each = λ q l m was is. ([], subst (λ (m : Outlet). OutletGoesOn [] [] (is_whole l.lost failed) (is_whole m.lost failed) l m)
-        (let both = sym was ∙ is in cc) (outlet_same failed failed l (λ same. same)));
+        (same_Some l m (sym was ∙ is)) (outlet_same failed failed l (λ same. same)));
   };
   text = λ whole. subst (λ (failed : Bool). TookText failed given given []) (sym whole) (appends_none given);
   nothing = λ failed. (refl, (failed, refl));
