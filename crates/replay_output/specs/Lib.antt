@@ -6,3 +6,4 @@ pub mod Failures
 pub mod Start
 pub mod Record
 pub mod Streamed
+pub mod Unwritten

@@ -1,7 +1,6 @@
 -- What is printed of answers as they come: their lines, those of each proxy in order. This project's own.
-use Rattle.std.specs.Prelude.{ℕ, Bool, ◌==◌, if◌then◌else◌, List, [], ◌∷◌, ◌++◌, codes}
-use Rattle.std.specs.List.{flat_map, enumerate_from}
-use Rattle.std.specs.Fmt.{decimal}
+use Rattle.std.specs.Prelude.{ℕ, ◌==◌, if◌then◌else◌, List, [], ◌∷◌, ◌++◌}
+use Rattle.std.specs.List.{flat_map}
 use Rattle.keyspace.specs.declared.answer.Answer.{Answer}
 use Rattle.replay_output.specs.declared.options.form.Form.{Form}
 use Rattle.replay_output.specs.Lines.{line}
@@ -26,11 +25,3 @@ printed_line form printed = line form printed.proxy printed.answer
 -- the text: one line per answer, in the order printed
 abbrev pub stream_text : Form → List Printed → List ℕ
 stream_text form printed = flat_map (printed_line form) printed
-
--- the line of standard error for a proxy, given its number and whether a record of its answers could not be written
-abbrev pub unwritten_line : ℕ × Bool → List ℕ
-unwritten_line proxy = if proxy.1 then codes "replay: replies " ++ (decimal proxy.0 ++ codes ": wire 15 Write\n") else []
-
--- the lines of all proxies; a proxy's number is its index
-abbrev pub unwritten_lines : List Bool → List ℕ
-unwritten_lines unwritten = flat_map unwritten_line (enumerate_from 0 unwritten)

@@ -3,7 +3,7 @@
 ghost use Rattle.std.specs.Prelude.{◌≡◌, ◌↔◌, ◌<◌, false, IsTrue, OnErr, OnOk};
 ghost use Rattle.std.specs.List.{All};
 ghost use Rattle.std.specs.Io.KnownBytes.{Appends};
-ghost use Rattle.replay_output.specs.Streamed.{unwritten_line, unwritten_lines};
+ghost use Rattle.replay_output.specs.Unwritten.{unwritten_line, unwritten_lines};
 
 use itoa::Buffer;
 use wire::{Failed, Sink, write_all};

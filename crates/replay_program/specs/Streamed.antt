@@ -9,7 +9,8 @@ use Rattle.replay_output.specs.declared.options.form.Form.{Form}
 use Rattle.replay_output.specs.declared.options.Options.{Options}
 use Rattle.replay_output.specs.Failures.{failure_lines, NothingFailed}
 use Rattle.replay_output.specs.Record.{answer_records}
-use Rattle.replay_output.specs.Streamed.{Printed, printed_for, stream_text, unwritten_lines}
+use Rattle.replay_output.specs.Streamed.{Printed, printed_for, stream_text}
+use Rattle.replay_output.specs.Unwritten.{unwritten_lines}
 use Rattle.replay_workers.specs.Streaming.{IsStreamed, Recorded}
 use Rattle.replay_program.specs.Replayed.{DidNotStart, HasFailed, IsReplayedBy, Took, Written, ending_of}
 

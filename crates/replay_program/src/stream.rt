@@ -3,7 +3,7 @@
 ghost use Rattle.std.specs.Prelude.{◌≡◌, ◌≤◌, ◌<◌, ◌≢◌, ◌↔◌, ◌++◌, map, vec_len, IsErr, OnOk};
 ghost use Rattle.std.specs.Io.KnownBytes.{Appends, Keeps};
 ghost use Rattle.replay_output.specs.Failures.{failure_lines};
-ghost use Rattle.replay_output.specs.Streamed.{unwritten_lines};
+ghost use Rattle.replay_output.specs.Unwritten.{unwritten_lines};
 ghost use Rattle.replay_workers.specs.Streaming.{recorded_each};
 ghost use Rattle.replay_program.specs.Replayed.{written};
 ghost use Rattle.replay_program.specs.Streamed.{FailsToStream, IsStreamDone};
