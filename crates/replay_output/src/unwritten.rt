@@ -18,26 +18,26 @@ pub fn print_unwritten<W: Sink>(error: &mut W, unwritten: &[bool]) -> Result<(),
     ensures ok { OnOk result (W.failures error.new ≡ W.failures error.old) }
     ensures failed { OnErr result (W.failures error.old < W.failures error.new) }
 {
-    for (proxy, unwritten) in unwritten.iter().enumerate() {
-        print_proxy(error, proxy, *unwritten)?;
+    for (proxy, failed) in unwritten.iter().enumerate() {
+        print_proxy(error, proxy, *failed)?;
     }
     Ok(())
 }
 
 /// Returns whether all records were written.
 pub fn all_written(unwritten: &[bool]) -> bool
-    ensures all { IsTrue result ↔ All (λ unwritten. unwritten ≡ false) unwritten.now }
+    ensures all { IsTrue result ↔ All (λ failed. failed ≡ false) unwritten.now }
 {
-    unwritten.iter().all(|unwritten| !*unwritten)
+    unwritten.iter().all(|failed| !*failed)
 }
 
-fn print_proxy<W: Sink>(error: &mut W, proxy: usize, unwritten: bool) -> Result<(), Failed>
+fn print_proxy<W: Sink>(error: &mut W, proxy: usize, failed: bool) -> Result<(), Failed>
     ensures text { OnOk result (Appends (W.given error.old) (W.given error.new)
-        (unwritten_line (proxy, unwritten))) }
+        (unwritten_line (proxy, failed))) }
     ensures ok { OnOk result (W.failures error.new ≡ W.failures error.old) }
     ensures failed { OnErr result (W.failures error.old < W.failures error.new) }
 {
-    if !unwritten {
+    if !failed {
         return Ok(());
     }
     let mut buffer = Buffer::new();
