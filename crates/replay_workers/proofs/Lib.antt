@@ -11,3 +11,4 @@ pub mod Recording
 pub mod Outlets
 pub mod Passing
 pub mod Streams
+pub mod StreamRuns
