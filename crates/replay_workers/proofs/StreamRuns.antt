@@ -1,10 +1,10 @@
 -- A stream, put together of what was done for each proxy and of what was settled.
-use Rattle.std.specs.Prelude.{◌≡◌, ℕ, zero, suc, ◌+◌, ◌<◌, Bool, true, false, ◌&&◌, List, [], ◌∷◌, ◌++◌, length, map, Option, Some, None, IfSome, slice_get}
-use Rattle.std.specs.Option.{option_map}
+use Rattle.std.specs.Prelude.{◌≡◌, ℕ, zero, suc, ◌+◌, ◌<◌, Bool, true, false, ◌&&◌, List, [], ◌∷◌, ◌++◌, length, map, Option, Some, None, IfSome, option_to_list, slice_get}
 use Rattle.std.specs.List.{AllZip, All}
 use Rattle.std.proofs.Common.{refl, sym, ap, subst, ◌∙◌, arith}
 use Rattle.std.proofs.lemmas.List.{length-map}
-use Rattle.std.proofs.lemmas.Option.{none-some, same_Some, slice_get-map}
+use Rattle.std.proofs.lemmas.Slice.Zip.{AllZip-long}
+use Rattle.std.proofs.lemmas.Option.{none-some, same_Some}
 use Rattle.keyspace.specs.declared.answer.Answer.{Answer}
 use Rattle.keyspace.specs.declared.batch.Batch.{Batch}
 use Rattle.keyspace.specs.Run.{Step, part}
@@ -46,6 +46,7 @@ use Rattle.replay_workers.specs.Streaming.{IsStreamed, IsStreamedFor, Recorded, 
 use Rattle.replay_workers.specs.Worker.{TakesFrames}
 use Rattle.replay_workers.proofs.callers.Lists.{all_at, found}
 use Rattle.replay_workers.proofs.Runs.{mapped_at}
+use Rattle.replay_workers.proofs.Serving.{both}
 use Rattle.replay_workers.proofs.Streams.{recorded_of, streamed_for}
 
 -- both lists have something at a place, or neither
@@ -191,3 +192,129 @@ module _ {S W G : Type 0} (remaining : S → Option (List ℕ)) (given_to : W �
             same_Some _ _ (sym is ∙ ap (λ l. slice_get l proxy) given ∙ here)
             ∙ ap (λ (n : ℕ). record { proxy = n; client = c.0; reader = r.0; out = o.0 }) (omega arith);
       }
+
+  joined_count : length joined ≡ length (map remaining readers)
+  joined_count = AllZip-long (IsJoined remaining given_to) ended joined worked ∙ ended_count ∙ sym same
+      ∙ sym (length-map readers remaining)
+
+  module _ (of_joined : IsStreamedOf joined streamed) where
+    streamed_at : (proxy : ℕ) (bytes : Option (List ℕ)) (j : Joined W) (at : slice_get (map remaining readers) proxy ≡ Some bytes)
+        (there : slice_get joined proxy ≡ Some j)
+        → IsStreamedFor options.window log (account.complete && streamed.all_sent) has_failed account.stop bytes proxy
+        (printed_for proxy goes.printed) (failure_with j) (recorded_of given_to (place_of proxy bytes j at there).out j.recorder)
+    streamed_at proxy bytes j at there =
+        let place = place_of proxy bytes j at there in
+        let task = place.task in
+        let running = place.running in
+        let client = all_at (IsNewClient options.capacity) clients proxy place.client new place.at_client in
+        let is_new = all_at (λ (t : Task S W G). IsNewOutlet t.outlet (threads_by t).answers) tasks proxy task fresh place.at_task in
+        let requests : (threads_by task).requests ≡ place.client.requests =
+        ap (λ (g : GivenProxy S W). g.client.requests) place.was_given in
+        let replies : task.outlet.replies ≡ place.client.replies =
+        ap (λ (g : GivenProxy S W). g.client.replies) place.was_given in
+        let reader : remaining (threads_by task).reader ≡ bytes =
+        ap (λ (g : GivenProxy S W). remaining g.reader) place.was_given ∙ place.bytes_are in
+        let out : (threads_by task).out ≡ place.out = ap (λ (g : GivenProxy S W). g.out) place.was_given in
+        let outlet_at = mapped_at (λ (t : Task S W G). t.outlet) tasks proxy task place.at_task in
+        let ended_at = mapped_at (λ (p : Proxy S W). p.outlet) ended proxy running place.at_running in
+        let goes_on = goes.each.each proxy task.outlet running.outlet outlet_at ended_at in
+        let same_threads : threads_of running ≡ threads_by task =
+        same_Some (threads_of running) (threads_by task) (sym (mapped_at threads_of ended proxy running place.at_running)
+        ∙ ap (λ l. slice_get l proxy) threads ∙ mapped_at (λ (t : Task S W G). threads_by t) tasks proxy task place.at_task) in
+        let has : HasJoined remaining given_to running.outlet (threads_by task) j =
+        subst (λ (given : GivenThreads S W). HasJoined remaining given_to running.outlet given j) same_threads
+        (zip_at (IsJoined remaining given_to) ended joined proxy running j worked place.at_running there) in
+        let here = mapped_at client_of joined proxy j there in
+        subst (λ (o : Option W). IsStreamedFor options.window log (account.complete && streamed.all_sent) has_failed account.stop bytes
+        proxy (printed_for proxy goes.printed) (failure_with j) (recorded_of given_to o j.recorder)) out
+        (subst (λ (bytes : Option (List ℕ)). IsStreamedFor options.window log (account.complete && streamed.all_sent) has_failed
+        account.stop bytes proxy (printed_for proxy goes.printed) (failure_with j) (recorded_of given_to (threads_by task).out j.recorder))
+        reader
+        (streamed_for given_to remaining options.window log (has_ended lanes proxy) streamed.all_sent has_failed (sent_to lanes proxy) account
+        proxy (threads_by task) task.outlet running.outlet j (printed_for proxy goes.printed) goes_on.0
+        (ap (λ (p : PortView Batch). p.sent) (requests ∙ client.requests))
+        (ap (λ (i : IntakeView Answer). i.taken) (replies ∙ client.replies)) is_new.none_waits is_new.ends goes_on.1
+        (passed proxy running.outlet ended_at) has (settled.each proxy (client_of j) here) (settled.reported proxy (client_of j) here)
+        (λ all. all_at SendsAll joined proxy j (of_joined.all_sent all) there) whole))
+
+    -- without a stop, what is missing is a batch that could not be sent
+    leaves : (account.complete && streamed.all_sent) ≡ false → account.stop ≡ None → LeavesBatch (map remaining readers) log
+    leaves not_all no_stop =
+        let yes = whole no_stop in
+        let not_sent : streamed.all_sent ≡ false = sym (ap (λ (b : Bool). b && streamed.all_sent) yes) ∙ not_all in
+        let back = of_joined.unsent not_sent in
+        let bytes = found joined (map remaining readers) back.place back.worker (sym joined_count) back.at in
+        let place = place_of back.place bytes.0 back.worker bytes.1 back.at in
+        let client = all_at (IsNewClient options.capacity) clients back.place place.client new place.at_client in
+        let requests : (threads_by place.task).requests ≡ place.client.requests =
+        ap (λ (g : GivenProxy S W). g.client.requests) place.was_given in
+        let reader : remaining (threads_by place.task).reader ≡ bytes.0 =
+        ap (λ (g : GivenProxy S W). remaining g.reader) place.was_given ∙ place.bytes_are in
+        let same_threads : threads_of place.running ≡ threads_by place.task =
+        same_Some (threads_of place.running) (threads_by place.task) (sym (mapped_at threads_of ended back.place place.running place.at_running)
+        ∙ ap (λ l. slice_get l back.place) threads
+        ∙ mapped_at (λ (t : Task S W G). threads_by t) tasks back.place place.task place.at_task) in
+        let has : HasJoined remaining given_to place.running.outlet (threads_by place.task) back.worker =
+        subst (λ (given : GivenThreads S W). HasJoined remaining given_to place.running.outlet given back.worker) same_threads
+        (zip_at (IsJoined remaining given_to) ended joined back.place place.running back.worker worked place.at_running back.at) in
+        let sends = has.sent.sends in
+        let settled_for = settled.each back.place (client_of back.worker) (mapped_at client_of joined back.place back.worker back.at) in
+        let sent : sends.batches ≡ part log back.place =
+        sym (ap (λ (l : List Batch). l ++ sends.batches) (ap (λ (p : PortView Batch). p.sent) (requests ∙ client.requests)))
+        ∙ sym sends.sent ∙ sym (settled_for.all_batches (settled_for.all_ended yes)) in
+        record {
+          proxy = back.place;
+          bytes = bytes.0;
+          of_proxy = bytes.1;
+          batch = back.batch;
+          left = sends.left;
+          read =
+              subst (λ (bytes : Option (List ℕ)). TakesFrames bytes sends.left (part log back.place ++ back.batch ∷ [])) reader
+              (subst (λ (l : List Batch). TakesFrames (remaining (threads_by place.task).reader) sends.left (l ++ back.batch ∷ [])) sent
+              (subst (λ (u : Option Batch). TakesFrames (remaining (threads_by place.task).reader) sends.left
+              (sends.batches ++ option_to_list u)) back.unsent sends.frames));
+        }
+
+    pub is_streamed : IfSome account.stop (IsStopOf options.limit options.window log)
+        → IsStreamed options (map remaining readers) before after has_failed streamed.failures.items
+        (recorded_each given_to outs streamed.recorders.items) (account.complete && streamed.all_sent) account.stop
+    is_streamed met =
+        let clients_same : length clients ≡ length (map remaining readers) = sym same ∙ sym (length-map readers remaining) in
+        let recorders_count : length streamed.recorders.items ≡ length outs =
+        ap length of_joined.recorders ∙ length-map joined (λ (j : Joined W). j.recorder) ∙ joined_count ∙ sym clients_same
+        ∙ sym as_many in
+        let tasks_same : length (map (λ (t : Task S W G). t.outlet) tasks) ≡ length (map remaining readers) =
+        length-map tasks (λ (t : Task S W G). t.outlet) ∙ tasks_count ∙ clients_same in
+        record {
+          log = log;
+          printed = goes.printed;
+          proxies =
+              subst (λ (n : ℕ). TakesOnlyFrom n log) (length-map joined client_of ∙ joined_count) settled.proxies;
+          failures_count = ap length of_joined.failures ∙ length-map joined failure_with ∙ joined_count;
+          recorded_count =
+              length_recorded given_to outs streamed.recorders.items recorders_count ∙ as_many ∙ clients_same;
+          known = subst (λ (n : ℕ). All (λ (p : Printed). p.proxy < n) goes.printed) tasks_same goes.known;
+          each = λ proxy bytes failure r at failure_at recorded_at_proxy.
+              let j = found (map remaining readers) joined proxy bytes joined_count at in
+              let place = place_of proxy bytes j.0 at j.1 in
+              let failure_here : slice_get streamed.failures.items proxy ≡ Some (failure_with j.0) =
+              ap (λ l. slice_get l proxy) of_joined.failures ∙ mapped_at failure_with joined proxy j.0 j.1 in
+              let recorder_here : slice_get streamed.recorders.items proxy ≡ Some j.0.recorder =
+              ap (λ l. slice_get l proxy) of_joined.recorders
+              ∙ mapped_at (λ (j : Joined W). j.recorder) joined proxy j.0 j.1 in
+              let recorded_here = recorded_at given_to outs streamed.recorders.items proxy place.out j.0.recorder place.at_out
+              recorder_here in
+              subst (λ (r : Option Recorded). IsStreamedFor options.window log (account.complete && streamed.all_sent) has_failed
+              account.stop bytes proxy (printed_for proxy goes.printed) failure r)
+              (same_Some _ r (sym recorded_here ∙ recorded_at_proxy))
+              (subst (λ (failure : ProxyFailure). IsStreamedFor options.window log (account.complete && streamed.all_sent) has_failed
+              account.stop bytes proxy (printed_for proxy goes.printed) failure (recorded_of given_to place.out j.0.recorder))
+              (same_Some (failure_with j.0) failure (sym failure_here ∙ failure_at)) (streamed_at proxy bytes j.0 at j.1));
+          text = goes.text refl;
+          chain = settled.chain;
+          serializable = settled.serializable;
+          finish = λ none. settled.finish (whole none);
+          no_stop = λ all. settled.no_stop (both account.complete streamed.all_sent all).0;
+          incomplete = leaves;
+          met = met;
+        }
