@@ -23,22 +23,22 @@ pub fn write_record<W: Sink>(alloc: Global, out: &mut W, answer: &Answer) -> Res
         (n : ℕ) × Appends (W.given out.old) (W.given out.new) (take n (answer_record answer.now))) }
     ensures write { (result ≡ Err AnswerError.Write) ↔ (W.failures out.old < W.failures out.new) }
 {
-    let Some(record) = encode_record(alloc, answer) else {
+    let Some(bytes) = encode_record(alloc, answer) else {
         return Err(AnswerError::Memory);
     };
-    write_and_flush(out, &record).map_err(|_| AnswerError::Write)
+    write_and_flush(out, &bytes).map_err(|_| AnswerError::Write)
 }
 
 // Returns the record of an answer, or none if memory is refused or the frame is too long.
 fn encode_record(alloc: Global, answer: &Answer) -> Option<Vec<u8>>
-    ensures record { IfSome result (λ record. record.items ≡ answer_record answer.now) }
+    ensures bytes { IfSome result (λ bytes. bytes.items ≡ answer_record answer.now) }
 {
     match answer {
         Answer::Reply(reply) => {
             let frame = encode_reply(alloc, reply).ok()?;
-            let mut record = begin_record(alloc, 1, reply.version).ok()?;
-            record.extend_from_slice(&frame).ok()?;
-            Some(record)
+            let mut bytes = begin_record(alloc, 1, reply.version).ok()?;
+            bytes.extend_from_slice(&frame).ok()?;
+            Some(bytes)
         }
         Answer::Never(version) => begin_record(alloc, 2, *version).ok(),
         Answer::Held(version) => begin_record(alloc, 3, *version).ok(),
@@ -47,10 +47,10 @@ fn encode_record(alloc: Global, answer: &Answer) -> Option<Vec<u8>>
 
 // Returns the status and the version.
 fn begin_record(alloc: Global, status: u8, version: i64) -> Result<Vec<u8>, AllocError>
-    ensures begins { IfOk result (λ record. record.items ≡ status ∷ signed_text version) }
+    ensures begins { IfOk result (λ bytes. bytes.items ≡ status ∷ signed_text version) }
 {
-    let mut record = Vec::new(alloc);
-    record.push(status)?;
-    record.extend_from_slice(&version.cast_unsigned().to_be_bytes())?;
-    Ok(record)
+    let mut bytes = Vec::new(alloc);
+    bytes.push(status)?;
+    bytes.extend_from_slice(&version.cast_unsigned().to_be_bytes())?;
+    Ok(bytes)
 }
