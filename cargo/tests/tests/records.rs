@@ -96,6 +96,7 @@ fn records_of_random_replies() {
         record.extend(reply.version.to_be_bytes());
         record.extend(reply_frame(&reply));
         assert_eq!(recorded(&Answer::Reply(reply.reply())), record);
+        1
     });
 }
 
@@ -117,6 +118,7 @@ fn lines_as_the_batch_run_prints_them() {
             print_line(Global, form, proxy, &answer(), &mut out).expect("the writer takes all");
             assert_eq!(out.pieces, [whole.bytes()], "a line is one write");
         }
+        1
     });
 }
 
@@ -136,5 +138,6 @@ fn a_failed_write_leaves_a_prefix() {
             let expected = if room < record.len() { Err(AnswerError::Write) } else { Ok(()) };
             assert_eq!((written, out.bytes()), (expected, record[..room].to_vec()));
         }
+        1
     });
 }

@@ -195,7 +195,7 @@ fn start<
 
 /// Joins all threads, and puts their results and the outlets into the outcome, in order. Takes no
 /// memory.
-pub fn join_all<S: Source, W: Sink, R: Threads>(
+pub fn join_all<S: Source, W: Sink + Drop, R: Threads>(
     rt: &R,
     proxies: Vec<Proxy<S, W>>,
     streamed: Streamed<W>,
@@ -224,7 +224,7 @@ pub fn join_all<S: Source, W: Sink, R: Threads>(
 }
 
 // Joins the recorder of a proxy, if it has one. Both ends of its lane agree then.
-fn join_recorder<W: Sink, R: Threads>(
+fn join_recorder<W: Sink + Drop, R: Threads>(
     rt: &R,
     outlet: &mut Outlet,
     recorder: Option<StartedRecorder<W>>,
