@@ -33,7 +33,7 @@ pub struct Streamed<W> {
     ghost unwritten_room: { vec_capacity clients ≤ vec_capacity unwritten },
 }
 
-impl<W> Streamed<W> {
+impl<W: Drop> Streamed<W> {
     /// Creates an empty outcome with room for the results of n proxies.
     pub fn with_room(alloc: Global, proxies: usize) -> Result<Self, AllocError>
         ensures room { IfOk result (λ streamed. proxies ≤ vec_capacity streamed.clients) }
