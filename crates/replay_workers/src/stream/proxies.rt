@@ -205,7 +205,7 @@ pub fn join_all<S: Source, W: Sink + Drop, R: Threads>(
     requires ends { All (λ proxy. AreEnds proxy.outlet.records (threads_of proxy).answers)
         proxies.items }
     requires passed { HavePassedAll (outlets_of proxies.items) }
-    ensures joined { (joined : List (Joined W.Denot))
+    ensures joined { (joined : List (Joined W))
         × AllZip (IsJoined S.remaining W.given) proxies.items joined × IsStreamedOf joined result }
     ensures failed { result.failed ≡ streamed.failed }
 {
