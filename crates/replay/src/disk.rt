@@ -56,6 +56,12 @@ impl<R: fs::Files<File = File> + AllocGlobal> Files for Disk<'_, R> {
 
     ghost cannot_open = { λ _ _. ⊤ };
 
+    ghost begun = { λ _ _. None };
+
+    ghost has_created = { λ _ _. ⊤ };
+
+    ghost cannot_create = { λ _ _. ⊤ };
+
     fn open(&self, name: &str) -> Result<StdSource<BufReader<Input>>, FileError> {
         let input = self.input(name)?;
         let reader = BufReader::new(self.rt.alloc(), input).map_err(|_| FileError::Memory)?;

@@ -2,7 +2,8 @@
 
 ghost use Rattle.std.specs.Prelude.{◌≡◌, ◌↔◌, ◌<◌, ◌≤◌, ◌⊎◌, ℕ, map, IfOk, IsErr, OnOk};
 ghost use Rattle.std.specs.Io.KnownBytes.{Appends};
-ghost use Rattle.replay_arguments.specs.Opening.{IsFirstRefused, contents_each, opening_line};
+ghost use Rattle.replay_arguments.specs.Opening.{IsFirstRefused, contents_each, creating_line};
+ghost use Rattle.replay_arguments.specs.Opening.{opening_line};
 
 use itoa::Buffer;
 use replay_output::{StartError, Status, begin_line, print_start_error};
@@ -66,7 +67,14 @@ pub fn create_files<F: Files>(
     alloc: Global,
     files: &F,
     names: &[&str],
-) -> Result<Vec<F::Writer>, OpeningError> {
+) -> Result<Vec<F::Writer>, OpeningError>
+    ensures begun { IfOk result (λ writers.
+        map F.Writer.given writers.items
+        ≡ contents_each (F.begun files.now) (map (λ name. name.now) names.now)) }
+    ensures refused { (proxy : ℕ) → result ≡ Err (OpeningError.CannotOpen proxy)
+        → IsFirstRefused (F.has_created files.now) (F.cannot_create files.now)
+        (map (λ name. name.now) names.now) proxy }
+{
     let mut writers = Vec::with_capacity(alloc, names.len()).map_err(|_| OpeningError::Memory)?;
     for (proxy, name) in names.iter().enumerate() {
         let writer = match files.create(name) {
@@ -80,12 +88,21 @@ pub fn create_files<F: Files>(
 
 /// Prints the line of a file for records that can't be opened, and returns how the program ends. A
 /// failed write changes nothing. Takes no memory.
-pub fn fail_to_create<W: Sink>(error: &mut W, cause: OpeningError) -> Status {
+pub fn fail_to_create<W: Sink>(error: &mut W, cause: OpeningError) -> Status
+    ensures status { result ≡ Status.Failed }
+    ensures line { (W.failures error.old < W.failures error.new)
+        ⊎ Appends (W.given error.old) (W.given error.new) (creating_line cause) }
+{
     let _ = print_creating_error(error, cause);
     Status::Failed
 }
 
-fn print_creating_error<W: Sink>(error: &mut W, cause: OpeningError) -> Result<(), Failed> {
+fn print_creating_error<W: Sink>(error: &mut W, cause: OpeningError) -> Result<(), Failed>
+    ensures text { OnOk result (Appends (W.given error.old) (W.given error.new)
+        (creating_line cause)) }
+    ensures failed { IsErr result ↔ (W.failures error.old < W.failures error.new) }
+    ensures least_failures { W.failures error.old ≤ W.failures error.new }
+{
     match cause {
         OpeningError::CannotOpen(proxy) => {
             let mut buffer = Buffer::new();

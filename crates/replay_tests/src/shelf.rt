@@ -79,6 +79,12 @@ impl Files for Shelf {
 
     ghost cannot_open = { λ _ _. ⊤ };
 
+    ghost begun = { λ _ _. None };
+
+    ghost has_created = { λ _ _. ⊤ };
+
+    ghost cannot_create = { λ _ _. ⊤ };
+
     fn open(&self, name: &str) -> Result<StdSource<Recorded>, FileError> {
         let Some((_, bytes)) = self.files.iter().find(|(known, _)| *known == name) else {
             return Err(FileError::CannotOpen);

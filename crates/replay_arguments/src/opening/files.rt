@@ -30,6 +30,15 @@ pub trait Files {
     // The file of this name can't be opened.
     ghost cannot_open: { Self → List ℕ → Type 0 };
 
+    // The bytes that a new writer of the file of this name was given, if they are reported.
+    ghost begun: { Self → List ℕ → Option (List ℕ) };
+
+    // The file of this name was opened to be written.
+    ghost has_created: { Self → List ℕ → Type 0 };
+
+    // The file of this name can't be opened to be written.
+    ghost cannot_create: { Self → List ℕ → Type 0 };
+
     /// Opens the file of this name, to be read from its beginning.
     fn open(&self, name: &str) -> Result<Self::Reader, FileError>
         ensures contents { IfOk result (λ reader. Self.Reader.remaining reader
@@ -38,5 +47,8 @@ pub trait Files {
         ensures refused { result ≡ Err FileError.CannotOpen → cannot_open self.now name.now };
 
     /// Opens the file of this name, to be written from its beginning. Creates it, if there is none.
-    fn create(&self, name: &str) -> Result<Self::Writer, FileError>;
+    fn create(&self, name: &str) -> Result<Self::Writer, FileError>
+        ensures begun { IfOk result (λ writer. Self.Writer.given writer ≡ begun self.now name.now) }
+        ensures created { OnOk result (has_created self.now name.now) }
+        ensures refused { result ≡ Err FileError.CannotOpen → cannot_create self.now name.now };
 }
