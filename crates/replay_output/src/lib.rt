@@ -5,7 +5,11 @@
 //! and then what failed, of each proxy ([`ProxyFailure`]) and of the run ([`Ending`]).
 //! [`fail_to_start`] prints why a run could not start. [`Status`] is how the program ends.
 //!
-//! The texts are defined in `specs/Lines.antt`, `specs/Failures.antt` and `specs/Start.antt`.
+//! [`print_line`] prints the line of one answer at once, and [`write_record`] writes the answer as
+//! bytes for another program. [`print_unwritten`] names the proxies for which that failed.
+//!
+//! The texts are defined in `specs/Lines.antt`, `specs/Record.antt`, `specs/Failures.antt`,
+//! `specs/Unwritten.antt` and `specs/Start.antt`.
 #![tactic(auto)]
 
 mod failures;
