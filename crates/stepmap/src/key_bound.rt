@@ -99,7 +99,7 @@ fn first_four(head: u64) -> u32
     (head >> 32) as u32
 }
 
-// Returns the first n bytes, or all.
+// Returns the first `count` bytes, or all.
 fn first(bytes: &[u8], count: usize) -> &[u8]
     ensures first { result.now ≡ take count bytes.now }
 {

@@ -25,12 +25,12 @@ pub trait Bound {
     fn is_below(&self, key: Slot) -> bool
         ensures is_below { result ≡ below self.now key };
 
-    /// Returns the head of the target: the four bytes after the first n, as a number.
+    /// Returns the head of the target: the four bytes after the first `prefix_len`, as a number.
     fn head(&self, prefix_len: usize) -> u32
         ensures head { result ≡ head_behind prefix_len (target self.now) }
         ensures are_bytes { IsBytes (target self.now) };
 
-    /// Returns the head of a key: the four bytes after the first n, as a number.
+    /// Returns the head of a key: the four bytes after the first `prefix_len`, as a number.
     fn head_of(&self, key: Slot, prefix_len: usize) -> u32
         ensures head { (text : List ℕ) → bytes self.now key ≡ Some text
             → result ≡ head_behind prefix_len text };
@@ -53,7 +53,7 @@ pub trait Bound {
         ensures common { (text : List ℕ) → bytes self.now key ≡ Some text
             → IsCommonPrefixLen result text (target self.now) };
 
-    /// Returns whether the target and a key agree on the first n bytes.
+    /// Returns whether the target and a key agree on the first `count` bytes.
     fn begins_as(&self, key: Slot, count: usize) -> bool
         ensures same { (text : List ℕ) → bytes self.now key ≡ Some text
             → IsTrue result ↔ (take count text ≡ take count (target self.now)) };

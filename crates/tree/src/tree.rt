@@ -102,7 +102,7 @@ impl<const N: usize> Tree<N> {
         })
     }
 
-    /// Takes the memory for `count` items, those of the tree included. None is given back.
+    /// Takes the memory for `room` items, those of the tree included. None is given back.
     pub fn reserve(&mut self, room: usize) -> Result<(), ArenaError>
         ensures room { OnOk result (room ≤ self.new.room) }
         ensures room_stays { self.old.room ≤ self.new.room }
