@@ -19,7 +19,7 @@ use Rattle.stepmap.proofs.LastAndInside.{above_told}
 
 -- what the tree is asked between two bounds
 abbrev pub BoundQuestion : Type 0
-BoundQuestion = Question KeyBound KeyBound ghosts ghosts
+BoundQuestion = Question KeyBound ghosts
 
 -- a question is that for a range and a version that the function is asked
 abbrev pub Asks : Arena (Unit {0}) → Range × ℤ → BoundQuestion → Type 0

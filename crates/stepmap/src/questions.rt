@@ -12,7 +12,7 @@ use keys::common_prefix_len;
 use tree::Question;
 
 // What a tree of an arena's keys is asked.
-pub type BoundQuestion<'a> = Question<KeyBound<'a>, KeyBound<'a>>;
+pub type BoundQuestion<'a> = Question<KeyBound<'a>>;
 
 // Returns the question to a tree of this arena's keys for the query, whose range isn't empty. It
 // has a hash if that holds one key alone.

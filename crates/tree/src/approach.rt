@@ -45,23 +45,23 @@ pub enum Approach {
 // Goes down a subtree to the leaf that answers a question. `common_prefix_len` is how many bytes
 // the first key of the subtree and the target of the first bound begin with in common. `clear` says
 // that the items after the subtree don't come before the second bound.
-fn descend<P: Bound, Q: Bound, const N: usize>(
+fn descend<P: Bound, const N: usize>(
     nodes: &Arena<Node<N>>,
     slot: Slot,
     height: usize,
-    question: &Question<P, Q>,
+    question: &Question<P>,
     common_prefix_len: usize,
     clear: bool,
 ) -> Approach
     requires asked { IsAsked nodes.now (least_of N) height slot (P.bytes question.now.from)
         (P.below question.now.from)
-        (Q.below question.now.to) }
+        (P.below question.now.to) }
     requires known { IsCommonPrefixAt (P.bytes question.now.from) (P.below question.now.from)
         (P.target question.now.from) (Some common_prefix_len)
         (entries_at nodes.now slot) 0 }
     ensures approach { IsApproach nodes.now height slot (P.bytes question.now.from)
         (P.below question.now.from)
-        (Q.below question.now.to) (P.target question.now.from) question.now.version clear result }
+        (P.below question.now.to) (P.target question.now.from) question.now.version clear result }
 {
     if height == 0 {
         return Approach::Leaf(Near {
@@ -113,10 +113,10 @@ fn descend<P: Bound, Q: Bound, const N: usize>(
 // that target, if it is known to begin as all keys do. `clear` says of the items after the node's
 // what this says of those after the child. Unless `look` is set, the next entry isn't looked at,
 // and may be before the second bound.
-fn is_clear<P: Bound, Q: Bound, const N: usize>(
+fn is_clear<P: Bound, const N: usize>(
     node: &Node<N>,
     index: usize,
-    question: &Question<P, Q>,
+    question: &Question<P>,
     common_prefix_len: usize,
     from_head: Option<u32>,
     clear: bool,
@@ -129,7 +129,7 @@ fn is_clear<P: Bound, Q: Bound, const N: usize>(
     requires last_below { index ≡ index_in (P.below question.now.from) (entries_of node.now) }
     ensures next { IsTrue result → (e : Entry)
         → slice_get (entries_of node.now) (index + 1) ≡ Some e
-        → Q.below question.now.to e.key ≡ false }
+        → P.below question.now.to e.key ≡ false }
     ensures last { IsTrue result → length (entries_of node.now) ≤ index + 1 → IsTrue clear }
 {
     let next = index + 1;
@@ -146,16 +146,16 @@ fn is_clear<P: Bound, Q: Bound, const N: usize>(
 
 /// Returns the head of the target of the second bound, if it is known to begin as all keys of the
 /// node do. `from_head` is that of the first one's.
-pub fn end_head<P: Bound, Q: Bound, const N: usize>(
+pub fn end_head<P: Bound, const N: usize>(
     node: &Node<N>,
-    question: &Question<P, Q>,
+    question: &Question<P>,
     common_prefix_len: usize,
     from_head: Option<u32>,
 ) -> Option<u32>
     requires searched { IsSearched (P.bytes question.now.from) (P.below question.now.from)
         (P.target question.now.from) node.now
         common_prefix_len from_head }
-    ensures head { HasHead (Q.bytes question.now.to) (Q.target question.now.to) result
+    ensures head { HasHead (P.bytes question.now.to) (P.target question.now.to) result
         (key_heads_of node.now) }
 {
     let targets_prefix_len = question.targets_prefix_len;
@@ -168,17 +168,17 @@ pub fn end_head<P: Bound, Q: Bound, const N: usize>(
 }
 
 /// Goes down a tree from its root, as `descend` does.
-pub fn descend_from<P: Bound, Q: Bound, const N: usize>(
+pub fn descend_from<P: Bound, const N: usize>(
     nodes: &Arena<Node<N>>,
     root: Root,
-    question: &Question<P, Q>,
+    question: &Question<P>,
 ) -> Approach
     requires asked { IsAsked nodes.now (least_of N) root.height root.slot
         (P.bytes question.now.from)
-        (P.below question.now.from) (Q.below question.now.to) }
+        (P.below question.now.from) (P.below question.now.to) }
     ensures approach { IsApproach nodes.now root.height root.slot (P.bytes question.now.from)
         (P.below question.now.from)
-        (Q.below question.now.to) (P.target question.now.from) question.now.version true result }
+        (P.below question.now.to) (P.target question.now.from) question.now.version true result }
 {
     let Root { slot, height } = root;
     let common_prefix_len = common_prefix_len_at(nodes, slot, &question.from).unwrap_or(0);

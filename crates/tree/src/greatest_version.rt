@@ -19,24 +19,24 @@ use arena::{Arena, Slot};
 /// second bound, of those before the first one the last alone. If the first bound is missing, no
 /// item is before it; if the second one is, all are. Subtrees that have none above it are passed
 /// over.
-pub fn greatest<'a, P: Bound, Q: Bound, const N: usize>(
+pub fn greatest<P: Bound, const N: usize>(
     nodes: &Arena<Node<N>>,
     slot: Slot,
     height: usize,
-    from: Option<&'a P>,
-    to: Option<&'a Q>,
+    from: Option<&P>,
+    to: Option<&P>,
     least: Option<i64>,
 ) -> Option<i64>
     requires subtree { IsSubtree nodes.now (least_of N) height slot }
     requires from { IfSome from (λ p. CanReach (P.bytes p.now) (P.below p.now) nodes.now
         (least_of N) height slot) }
-    requires to { IfSome to (λ q. CanReach (Q.bytes q.now) (Q.below q.now) nodes.now (least_of N)
+    requires to { IfSome to (λ q. CanReach (P.bytes q.now) (P.below q.now) nodes.now (least_of N)
         height slot) }
     requires nested { IfSome from (λ p. IfSome to (λ q. (key : ℕ) → P.below p.now key ≡ true
-        → Q.below q.now key ≡ true)) }
+        → P.below q.now key ≡ true)) }
     ensures greatest { IsGreatestWith least
         (from_last (below_from (option_map (λ p. P.below p.now) from.entry))
-        (option_map (λ q. Q.below q.now) to.entry) (items_in nodes.now height slot)) result }
+        (option_map (λ q. P.below q.now) to.entry) (items_in nodes.now height slot)) result }
 {
     let node = nodes.header_ref(slot);
     let begin = begin_of(node, from);
@@ -54,14 +54,12 @@ pub fn greatest<'a, P: Bound, Q: Bound, const N: usize>(
         }
         return greatest(nodes, left.child, height - 1, from, to, least);
     }
-    let none: Option<&'a Q> = None;
-    let without: Option<&'a P> = None;
     let mut most = greater(least, greatest_of(&entries[first + 1..last]));
     if is_above(left.version, most) {
-        most = greatest(nodes, left.child, height - 1, from, none, most);
+        most = greatest(nodes, left.child, height - 1, from, None, most);
     }
     if is_above(right.version, most) {
-        most = greatest(nodes, right.child, height - 1, without, to, most);
+        most = greatest(nodes, right.child, height - 1, None, to, most);
     }
     most
 }
@@ -86,9 +84,9 @@ fn begin_of<P: Bound, const N: usize>(node: &Node<N>, from: Option<&P>) -> usize
 }
 
 // Returns how many of the entries of a node stand before the second bound: all where it is missing.
-fn end_of<Q: Bound, const N: usize>(node: &Node<N>, to: Option<&Q>) -> usize
-    requires can_find { IfSome to (λ q. CanFind (Q.bytes q.now) (Q.below q.now) node.now) }
-    ensures count { IsLowerBound (below_to (option_map (λ q. Q.below q.now) to.entry)) node.now
+fn end_of<P: Bound, const N: usize>(node: &Node<N>, to: Option<&P>) -> usize
+    requires can_find { IfSome to (λ q. CanFind (P.bytes q.now) (P.below q.now) node.now) }
+    ensures count { IsLowerBound (below_to (option_map (λ q. P.below q.now) to.entry)) node.now
         result }
 {
     match to {

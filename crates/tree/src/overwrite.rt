@@ -40,11 +40,11 @@ impl Written {
 
 /// What is written over a run of items: it stands between the first two bounds.
 #[derive(Debug, Drop)]
-pub struct Overwrite<'a, P: Bound, Q: Bound, R: Bound> {
+pub struct Overwrite<'a, P: Bound> {
     pub from: &'a P,
-    pub to: &'a Q,
+    pub to: &'a P,
     /// Its target is that of the second bound, and an item of just this key is below it.
-    pub past: &'a R,
+    pub past: &'a P,
     /// How many bytes the targets of the first two bounds begin with in common, or fewer.
     pub targets_prefix_len: usize,
     /// The entry that replaces the run.
@@ -54,39 +54,39 @@ pub struct Overwrite<'a, P: Bound, Q: Bound, R: Bound> {
     /// The version of that entry. If it is missing, that of the last item before the second bound
     /// is taken.
     pub last: Option<i64>,
-    ghost nested: { (key : ℕ) → P.below from.now key ≡ true → Q.below to.now key ≡ true },
-    ghost outer: { (key : ℕ) → Q.below to.now key ≡ true → R.below past.now key ≡ true },
-    ghost bytes: { (key : ℕ) → P.bytes from.now key ≡ Q.bytes to.now key },
-    ghost past_bytes: { (key : ℕ) → R.bytes past.now key ≡ Q.bytes to.now key },
+    ghost nested: { (key : ℕ) → P.below from.now key ≡ true → P.below to.now key ≡ true },
+    ghost outer: { (key : ℕ) → P.below to.now key ≡ true → P.below past.now key ≡ true },
+    ghost bytes: { (key : ℕ) → P.bytes from.now key ≡ P.bytes to.now key },
+    ghost past_bytes: { (key : ℕ) → P.bytes past.now key ≡ P.bytes to.now key },
     ghost common_prefix: { take targets_prefix_len (P.target from.now)
-        ≡ take targets_prefix_len (Q.target to.now) },
-    ghost past_target: { R.target past.now ≡ Q.target to.now },
-    ghost first_is: { Q.bytes to.now first.key ≡ Some (P.target from.now) },
-    ghost second_is: { Q.bytes to.now second ≡ Some (Q.target to.now) },
+        ≡ take targets_prefix_len (P.target to.now) },
+    ghost past_target: { P.target past.now ≡ P.target to.now },
+    ghost first_is: { P.bytes to.now first.key ≡ Some (P.target from.now) },
+    ghost second_is: { P.bytes to.now second ≡ Some (P.target to.now) },
     ghost from_bytes: { IsBytes (P.target from.now) },
-    ghost to_bytes: { IsBytes (Q.target to.now) },
+    ghost to_bytes: { IsBytes (P.target to.now) },
 }
 
 /// The writing over a run.
 #[derive(Debug, Drop)]
-pub struct Overwriting<'a, 'b, P: Bound, Q: Bound, R: Bound> {
-    pub new: &'b Overwrite<'a, P, Q, R>,
+pub struct Overwriting<'a, 'b, P: Bound> {
+    pub new: &'b Overwrite<'a, P>,
     /// How far it has come.
     pub written: Written,
 }
 
-impl<'a, 'b, P: Bound, Q: Bound, R: Bound, const N: usize> LeafChange<N>
-    for Overwriting<'a, 'b, P, Q, R> {
-    type LeafBound = Q;
+impl<'a, 'b, P: Bound, const N: usize> LeafChange<N>
+    for Overwriting<'a, 'b, P> {
+    type LeafBound = P;
 
     ghost bound_of = { λ o. o.new.now.to.now };
 
     ghost wants = { λ o items. IsPartOfPartitioned (P.below o.new.now.from.now) items };
 
-    ghost gives = { λ o done. GivesWritten (P.below o.new.now.from.now) (Q.below o.new.now.to.now)
-        (R.below o.new.now.past.now) (item_of o.new.now.first) o.new.now.second o.new.now.last done.written };
+    ghost gives = { λ o done. GivesWritten (P.below o.new.now.from.now) (P.below o.new.now.to.now)
+        (P.below o.new.now.past.now) (item_of o.new.now.first) o.new.now.second o.new.now.last done.written };
 
-    fn leaf_bound(&self) -> &Q {
+    fn leaf_bound(&self) -> &P {
         self.new.to
     }
 

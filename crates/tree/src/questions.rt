@@ -57,21 +57,21 @@ fn look_at<P: Bound, const N: usize>(nodes: &Arena<Node<N>>, approach: &Approach
 
 // Answers a question if the leaf decides it. `from_head` is the result of the first look at the
 // leaf.
-fn leaf_told<P: Bound, Q: Bound, const N: usize>(
+fn leaf_told<P: Bound, const N: usize>(
     nodes: &Arena<Node<N>>,
     near: Near,
-    question: &Question<P, Q>,
+    question: &Question<P>,
     from_head: Option<u32>,
 ) -> Option<bool>
     requires asked { IsAsked nodes.now (least_of N) 0 near.leaf (P.bytes question.now.from)
         (P.below question.now.from)
-        (Q.below question.now.to) }
+        (P.below question.now.to) }
     requires near { IsNear nodes.now (P.bytes question.now.from) (P.below question.now.from)
         (P.target question.now.from) near }
     requires from_head { IfSome (all_heads_of nodes.now near.leaf)
         (IsHeadFor (P.bytes question.now.from) (P.target question.now.from)
         near.common_prefix_len from_head) }
-    ensures told { IsTold (P.below question.now.from) (Q.below question.now.to) question.now.version
+    ensures told { IsTold (P.below question.now.from) (P.below question.now.to) question.now.version
         near.clear
         (items_in nodes.now 0 near.leaf) result }
 {
@@ -87,19 +87,19 @@ fn leaf_told<P: Bound, Q: Bound, const N: usize>(
 
 // Returns how many of the entries are below the second bound. `begin` is how many are below the
 // first one, and `from_head` is the head of the target of that one.
-fn end_in<P: Bound, Q: Bound, const N: usize>(
+fn end_in<P: Bound, const N: usize>(
     node: &Node<N>,
     begin: usize,
-    question: &Question<P, Q>,
+    question: &Question<P>,
     common_prefix_len: usize,
     from_head: Option<u32>,
 ) -> usize
     requires searched { IsSearched (P.bytes question.now.from) (P.below question.now.from)
         (P.target question.now.from) node.now
         common_prefix_len from_head }
-    requires to { IsPartitioned (λ e. Q.below question.now.to e.key) (entries_of node.now) }
+    requires to { IsPartitioned (λ e. P.below question.now.to e.key) (entries_of node.now) }
     requires begin { IsLowerBound (P.below question.now.from) node.now begin }
-    ensures count { IsLowerBound (Q.below question.now.to) node.now result }
+    ensures count { IsLowerBound (P.below question.now.to) node.now result }
 {
     if question.is_single {
         return begin;
@@ -109,22 +109,22 @@ fn end_in<P: Bound, Q: Bound, const N: usize>(
 }
 
 // Answers a question. `look` is what the first look at the leaf gave to which it leads.
-fn answer<P: Bound, Q: Bound, const N: usize>(
+fn answer<P: Bound, const N: usize>(
     nodes: &Arena<Node<N>>,
     root: Root,
-    question: &Question<P, Q>,
+    question: &Question<P>,
     look: Look,
 ) -> bool
     requires asked { IsAsked nodes.now (least_of N) root.height root.slot
         (P.bytes question.now.from)
-        (P.below question.now.from) (Q.below question.now.to) }
+        (P.below question.now.from) (P.below question.now.to) }
     requires approach { IsApproach nodes.now root.height root.slot (P.bytes question.now.from)
         (P.below question.now.from)
-        (Q.below question.now.to) (P.target question.now.from) question.now.version true
+        (P.below question.now.to) (P.target question.now.from) question.now.version true
         look.approach }
     requires looked { IsLooked nodes.now (P.bytes question.now.from) (P.target question.now.from)
         look.approach look.from_head }
-    ensures above { IsTrue result ↔ Exceeds (P.below question.now.from) (Q.below question.now.to)
+    ensures above { IsTrue result ↔ Exceeds (P.below question.now.from) (P.below question.now.to)
         question.now.version
         (items_in nodes.now root.height root.slot) }
 {
@@ -143,15 +143,15 @@ fn answer<P: Bound, Q: Bound, const N: usize>(
 }
 
 // Answers a question by one walk down the tree, by both of its bounds.
-fn exceeds<P: Bound, Q: Bound, const N: usize>(
+fn exceeds<P: Bound, const N: usize>(
     nodes: &Arena<Node<N>>,
     root: Root,
-    question: &Question<P, Q>,
+    question: &Question<P>,
 ) -> bool
     requires asked { IsAsked nodes.now (least_of N) root.height root.slot
         (P.bytes question.now.from)
-        (P.below question.now.from) (Q.below question.now.to) }
-    ensures above { IsTrue result ↔ Exceeds (P.below question.now.from) (Q.below question.now.to)
+        (P.below question.now.from) (P.below question.now.to) }
+    ensures above { IsTrue result ↔ Exceeds (P.below question.now.from) (P.below question.now.to)
         question.now.version
         (items_in nodes.now root.height root.slot) }
 {
@@ -162,18 +162,18 @@ fn exceeds<P: Bound, Q: Bound, const N: usize>(
 }
 
 /// Goes down a tree for each question. There are at most [`SIDE`].
-pub fn descend_each<P: Bound, Q: Bound, const N: usize>(
+pub fn descend_each<P: Bound, const N: usize>(
     nodes: &Arena<Node<N>>,
     root: &Root,
-    questions: &[Question<P, Q>],
+    questions: &[Question<P>],
 ) -> ArrayVec<Approach, SIDE>
     requires few { length questions.now ≤ SIDE }
     requires asked { All (λ q. IsAsked nodes.now (least_of N) root.now.height root.now.slot
         (P.bytes q.from) (P.below q.from)
-        (Q.below q.to)) questions.now }
+        (P.below q.to)) questions.now }
     ensures approaches { AllZip (λ q approach. IsApproach nodes.now root.now.height root.now.slot
         (P.bytes q.from)
-        (P.below q.from) (Q.below q.to) (P.target q.from) q.version true approach) questions.now
+        (P.below q.from) (P.below q.to) (P.target q.from) q.version true approach) questions.now
         result.items }
 {
     let mut approaches = ArrayVec::new();
@@ -184,9 +184,9 @@ pub fn descend_each<P: Bound, Q: Bound, const N: usize>(
 }
 
 /// Looks at each leaf to which a question leads, for the first time. There are at most [`SIDE`].
-pub fn look_at_each<P: Bound, Q: Bound, const N: usize>(
+pub fn look_at_each<P: Bound, const N: usize>(
     nodes: &Arena<Node<N>>,
-    questions: &[Question<P, Q>],
+    questions: &[Question<P>],
     approaches: &[Approach],
 ) -> ArrayVec<Look, SIDE>
     requires few { length questions.now ≤ SIDE }
@@ -208,24 +208,24 @@ pub fn look_at_each<P: Bound, Q: Bound, const N: usize>(
 }
 
 /// Answers each question, in their order. There are at most [`SIDE`].
-pub fn answer_each<P: Bound, Q: Bound, const N: usize>(
+pub fn answer_each<P: Bound, const N: usize>(
     nodes: &Arena<Node<N>>,
     root: &Root,
-    questions: &[Question<P, Q>],
+    questions: &[Question<P>],
     looks: &[Look],
 ) -> ArrayVec<bool, SIDE>
     requires few { length questions.now ≤ SIDE }
     requires asked { All (λ q. IsAsked nodes.now (least_of N) root.now.height root.now.slot
         (P.bytes q.from) (P.below q.from)
-        (Q.below q.to)) questions.now }
+        (P.below q.to)) questions.now }
     requires approach { AllZip (λ q l. IsApproach nodes.now root.now.height root.now.slot
         (P.bytes q.from)
-        (P.below q.from) (Q.below q.to) (P.target q.from) q.version true l.approach) questions.now
+        (P.below q.from) (P.below q.to) (P.target q.from) q.version true l.approach) questions.now
         looks.now }
     requires looked { AllZip (λ q l. IsLooked nodes.now (P.bytes q.from) (P.target q.from)
         l.approach l.from_head) questions.now looks.now }
     ensures told { AllZip (λ q above. IsTrue above
-        ↔ Exceeds (P.below q.from) (Q.below q.to) q.version
+        ↔ Exceeds (P.below q.from) (P.below q.to) q.version
         (items_in nodes.now root.now.height root.now.slot)) questions.now result.items }
 {
     let mut answers = ArrayVec::new();

@@ -20,20 +20,20 @@ use arrayvec::ArrayVec;
 /// above has to be changed. Returns whether an item had the key of the second new one. If the run
 /// isn't sure to be there, or the leaf would get too many entries or too few, it changes nothing,
 /// and returns none.
-pub fn write_in_leaf<P: Bound, Q: Bound, R: Bound, const N: usize>(
+pub fn write_in_leaf<P: Bound, const N: usize>(
     nodes: &mut Arena<Node<N>>,
     leaf: RaisedLeaf,
-    new: &Overwrite<'_, P, Q, R>,
+    new: &Overwrite<'_, P>,
     taken: &mut ArrayVec<Entry, N>,
 ) -> Option<bool>
-    requires can_write { CanWriteInLeaf (P.below new.now.from.now) (Q.below new.now.to.now)
-        (Q.bytes new.now.to.now) nodes.old leaf.slot
+    requires can_write { CanWriteInLeaf (P.below new.now.from.now) (P.below new.now.to.now)
+        (P.bytes new.now.to.now) nodes.old leaf.slot
         taken.old.items }
     ensures written { MatchOption result ((nodes.new ≡ nodes.old)
         × (taken.new.items ≡ taken.old.items))
         (λ ended. (new.now.first.version ≡ leaf.version)
-        × IsWrittenInLeaf (P.below new.now.from.now) (Q.below new.now.to.now)
-        (R.below new.now.past.now) (item_of new.now.first) new.now.second new.now.last ended (Q.bytes new.now.to.now)
+        × IsWrittenInLeaf (P.below new.now.from.now) (P.below new.now.to.now)
+        (P.below new.now.past.now) (item_of new.now.first) new.now.second new.now.last ended (P.bytes new.now.to.now)
         (map item_of taken.new.items) nodes.old nodes.new leaf.slot) }
 {
     if new.first.version != leaf.version {
@@ -51,16 +51,16 @@ pub fn write_in_leaf<P: Bound, Q: Bound, R: Bound, const N: usize>(
 // Finds the run among the entries of a leaf, if it is sure to stand between two of them, and the
 // leaf keeps enough entries and has room for two more. The key of the entry at `index`, which may
 // be any, tells whether the targets begin as all keys do.
-fn find_run<P: Bound, Q: Bound, R: Bound, const N: usize>(
+fn find_run<P: Bound, const N: usize>(
     leaf: &Node<N>,
     index: usize,
-    new: &Overwrite<'_, P, Q, R>,
+    new: &Overwrite<'_, P>,
 ) -> Option<Run>
-    requires can_find { CanFindRun (P.below new.now.from.now) (Q.below new.now.to.now)
-        (Q.bytes new.now.to.now) leaf.now }
+    requires can_find { CanFindRun (P.below new.now.from.now) (P.below new.now.to.now)
+        (P.bytes new.now.to.now) leaf.now }
     ensures run { IfSome result (λ run. IsFoundRun (P.bytes new.now.from.now)
-        (Q.bytes new.now.to.now) (P.below new.now.from.now)
-        (Q.below new.now.to.now) (R.below new.now.past.now) (P.target new.now.from.now) (Q.target new.now.to.now) new.now.last leaf.now
+        (P.bytes new.now.to.now) (P.below new.now.from.now)
+        (P.below new.now.to.now) (P.below new.now.past.now) (P.target new.now.from.now) (P.target new.now.to.now) new.now.last leaf.now
         run) }
 {
     let prefix_len = leaf.prefix_len();

@@ -119,24 +119,24 @@ pub fn change<C: LeafChange<N>, const N: usize>(
 
 /// Writes over a run of a tree, and puts the removed entries into `taken`: in the leaf of the last
 /// write, if it continues there, or else by a walk. `raised` is that leaf, if there is one.
-pub fn overwrite<P: Bound, Q: Bound, R: Bound, const N: usize>(
+pub fn overwrite<P: Bound, const N: usize>(
     nodes: &mut Arena<Node<N>>,
     root: &mut Root,
     raised: &mut Option<RaisedLeaf>,
-    new: &Overwrite<'_, P, Q, R>,
+    new: &Overwrite<'_, P>,
     taken: &mut ArrayVec<Entry, N>,
     way: &mut Way,
 ) -> Written
-    requires can_change { CanChangeBy (Q.bytes new.now.to.now) (Q.below new.now.to.now)
+    requires can_change { CanChangeBy (P.bytes new.now.to.now) (P.below new.now.to.now)
         (IsPartOfPartitioned (P.below new.now.from.now))
         nodes.old root.old.slot root.old.height taken.old.items }
     requires raised { IsRaisedInTree nodes.old root.old.slot root.old.height raised.old }
-    ensures items { IsChangedWithin (Q.below new.now.to.now)
-        (GivesWritten (P.below new.now.from.now) (Q.below new.now.to.now)
-        (R.below new.now.past.now) (item_of new.now.first) new.now.second new.now.last result (map item_of taken.new.items)) true None
+    ensures items { IsChangedWithin (P.below new.now.to.now)
+        (GivesWritten (P.below new.now.from.now) (P.below new.now.to.now)
+        (P.below new.now.past.now) (item_of new.now.first) new.now.second new.now.last result (map item_of taken.new.items)) true None
         (items_in nodes.old root.old.height root.old.slot)
         (items_in nodes.new root.new.height root.new.slot) }
-    ensures tree { IsNewTree (Q.bytes new.now.to.now) nodes.old nodes.new root.new.slot
+    ensures tree { IsNewTree (P.bytes new.now.to.now) nodes.old nodes.new root.new.slot
         root.new.height raised.new }
 {
     if let Some(leaf) = *raised {

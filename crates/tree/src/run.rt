@@ -47,23 +47,23 @@ pub fn put_taken<const N: usize>(taken: &mut ArrayVec<Entry, N>, run: &[Entry])
 /// bound. Returns the slot of the leaf's right neighbour where there is no room for all, so that it
 /// is split.
 #[inline(always)]
-pub fn write_run<P: Bound, Q: Bound, R: Bound, const N: usize>(
+pub fn write_run<P: Bound, const N: usize>(
     nodes: &mut Arena<Node<N>>,
     slot: Slot,
-    new: &Overwrite<'_, P, Q, R>,
+    new: &Overwrite<'_, P>,
     run: Run,
     last: i64,
 ) -> Option<Slot>
-    requires can_write { CanWriteRun (P.bytes new.now.from.now) (Q.bytes new.now.to.now)
+    requires can_write { CanWriteRun (P.bytes new.now.from.now) (P.bytes new.now.to.now)
         (P.below new.now.from.now)
-        (Q.below new.now.to.now) (P.target new.now.from.now) (Q.target new.now.to.now) nodes.old
+        (P.below new.now.to.now) (P.target new.now.from.now) (P.target new.now.to.now) nodes.old
         slot run }
     ensures written { items_with nodes.new 0 slot result
         ≡ map item_of (take run.begin (entries_at nodes.old slot))
         ++ (item_of new.now.first ∷ ended_by run.ended
         (record { key = new.now.second; version = unwrap_or new.now.last last })
         ++ map item_of (drop run.end (entries_at nodes.old slot))) }
-    ensures stored { IsStored (Q.bytes new.now.to.now) nodes.old nodes.new slot result }
+    ensures stored { IsStored (P.bytes new.now.to.now) nodes.old nodes.new slot result }
     ensures fits { run.begin + 2 + (length (entries_at nodes.old slot) - run.end) ≤ N
         → result ≡ None }
 {

@@ -102,7 +102,7 @@ impl<const N: usize> Tree<N> {
         })
     }
 
-    /// Takes the memory for `count` items, those of the tree included. None is given back.
+    /// Takes the memory for `room` items, those of the tree included. None is given back.
     pub fn reserve(&mut self, room: usize) -> Result<(), ArenaError>
         ensures room { OnOk result (room ≤ self.new.room) }
         ensures room_stays { self.old.room ≤ self.new.room }
@@ -146,18 +146,18 @@ impl<const N: usize> Tree<N> {
     /// Returns for each question, in their order, whether a version of the items before its second
     /// bound, of those before its first one the last alone, is above its own. There are at most
     /// [`SIDE`], and they are answered side by side. It takes no memory.
-    pub fn exceeds_each<P: Bound, Q: Bound>(
+    pub fn exceeds_each<P: Bound>(
         &self,
-        questions: &[Question<P, Q>],
+        questions: &[Question<P>],
     ) -> ArrayVec<bool, SIDE>
         requires few { length questions.now ≤ SIDE }
         requires from { All (λ q. CanSearchItems (P.below q.from) (P.bytes q.from) self.now)
             questions.now }
-        requires to { All (λ q. IsPartitioned (λ x. Q.below q.to x.key) self.now.items)
+        requires to { All (λ q. IsPartitioned (λ x. P.below q.to x.key) self.now.items)
             questions.now }
         requires some { All (λ q. items_below (P.below q.from) self.now.items ≢ []) questions.now }
         ensures told { AllZip (λ q above. IsTrue above
-            ↔ Exceeds (P.below q.from) (Q.below q.to) q.version self.now.items)
+            ↔ Exceeds (P.below q.from) (P.below q.to) q.version self.now.items)
             questions.now result.items }
     {
         let approaches = descend_each(&self.nodes, &self.root, questions);
@@ -167,13 +167,13 @@ impl<const N: usize> Tree<N> {
 
     /// Returns the greatest version of the items before the second bound, of those before the first
     /// one the last alone, of which there is one.
-    pub fn greatest<'a, P: Bound, Q: Bound>(&self, from: &'a P, to: &'a Q) -> i64
+    pub fn greatest<P: Bound>(&self, from: &P, to: &P) -> i64
         requires from { CanSearchItems (P.below from.now) (P.bytes from.now) self.now }
-        requires to { CanSearchItems (Q.below to.now) (Q.bytes to.now) self.now }
-        requires nested { (key : ℕ) → P.below from.now key ≡ true → Q.below to.now key ≡ true }
+        requires to { CanSearchItems (P.below to.now) (P.bytes to.now) self.now }
+        requires nested { (key : ℕ) → P.below from.now key ≡ true → P.below to.now key ≡ true }
         requires some { items_below (P.below from.now) self.now.items ≢ [] }
         ensures greatest { IsGreatest (λ x. x.version) result
-            (from_last (P.below from.now) (Some (Q.below to.now)) self.now.items) }
+            (from_last (P.below from.now) (Some (P.below to.now)) self.now.items) }
     {
         let Root { slot, height } = self.root;
         greatest(&self.nodes, slot, height, Some(from), Some(to), None).unwrap()
@@ -184,20 +184,20 @@ impl<const N: usize> Tree<N> {
     /// between that bound and a third one. If more than one leaf has those items and the one before
     /// them, it only takes out those that the last of these leaves has. Puts the entries that are
     /// taken out into `taken`.
-    pub fn overwrite<P: Bound, Q: Bound, R: Bound>(
+    pub fn overwrite<P: Bound>(
         &mut self,
-        new: &Overwrite<'_, P, Q, R>,
+        new: &Overwrite<'_, P>,
         taken: &mut ArrayVec<Entry, N>,
     ) -> Written
-        requires can_overwrite { CanOverwrite (P.below new.now.from.now) (Q.below new.now.to.now)
-            (R.below new.now.past.now)
-            (Q.bytes new.now.to.now) self.old taken.old.items }
-        ensures items { Overwrites (P.below new.now.from.now) (Q.below new.now.to.now)
-            (R.below new.now.past.now)
+        requires can_overwrite { CanOverwrite (P.below new.now.from.now) (P.below new.now.to.now)
+            (P.below new.now.past.now)
+            (P.bytes new.now.to.now) self.old taken.old.items }
+        ensures items { Overwrites (P.below new.now.from.now) (P.below new.now.to.now)
+            (P.below new.now.past.now)
             (item_of new.now.first) new.now.second new.now.last result (map item_of taken.new.items)
             self.old.items self.new.items }
         ensures room { self.new.room ≡ self.old.room }
-        ensures headed { AllAreHeads (Q.bytes new.now.to.now) (tree_heads self.new) }
+        ensures headed { AllAreHeads (P.bytes new.now.to.now) (tree_heads self.new) }
         ensures known { KnowItems self.new }
     {
         let written = overwrite(

@@ -20,7 +20,7 @@ use std::collections::VecDeque;
 const EARLY_CELLS: usize = 65_536;
 
 impl StepMap {
-    // Returns whether the boundaries, and two for each of `count` ranges, are within the limit.
+    // Returns whether the boundaries, and two for each of `ranges` ranges, are within the limit.
     fn has_room_for(&self, ranges: usize) -> bool
         ensures room { result ≡ nat_le (length self.now.boundaries + 2 * ranges) self.now.limit }
         ensures steps { AreSteps self.now }
@@ -28,7 +28,7 @@ impl StepMap {
         ranges <= (self.limit - self.boundaries.len()) / 2
     }
 
-    // Returns whether there is room for `count` ranges. If there is none, it sweeps a complete
+    // Returns whether there is room for `ranges` ranges. If there is none, it sweeps a complete
     // round first.
     pub(super) fn make_room(&mut self, ranges: usize) -> bool
         ensures map { self.new ≡ made_room ranges self.old }

@@ -174,7 +174,8 @@ impl<const N: usize> Node<N> {
         }
     }
 
-    /// Returns how many of the entries are below the bound, of which at least the first n are.
+    /// Returns how many of the entries are below the bound, of which at least the first `from`
+    /// are.
     #[inline(always)]
     pub fn lower_bound_from<P: Bound>(&self, from: usize, bound: &P, head: Option<u32>) -> usize
         requires can_find { CanFind (P.bytes bound.now) (P.below bound.now) self.now }
@@ -213,8 +214,8 @@ impl<const N: usize> Node<N> {
         (first, end)
     }
 
-    /// Returns how many of the entries are below the bound, at most the first n. It looks at these
-    /// one by one, from the last one on.
+    /// Returns how many of the entries are below the bound, at most the first `to`. It looks at
+    /// these one by one, from the last one on.
     #[inline(always)]
     pub fn lower_bound_back<P: Bound>(&self, to: usize, bound: &P, head: Option<u32>) -> usize
         requires can_find { CanFind (P.bytes bound.now) (P.below bound.now) self.now }

@@ -34,7 +34,7 @@ module _ (g : Over) (t : ℕ) (c : After-is_clear-clear g t) where
   p = g.P.Bound.below c.args.question.now.from
 
   abbrev q : ℕ → Bool
-  q = g.Q.Bound.below c.args.question.now.to
+  q = g.P.Bound.below c.args.question.now.to
 
   abbrev es : List Entry
   es = entries_of c.header_ref-node.result.now

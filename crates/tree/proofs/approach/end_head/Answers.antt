@@ -10,9 +10,9 @@ head_given-requires g c =
     let question = c.args.question.now in
     let can_step = c.requires.searched.can_step in
     let bytes = g.P.Bound.bytes question.from in
-    let near = g.Q.Bound.bytes question.to in
+    let near = g.P.Bound.bytes question.to in
     let key_heads = key_heads_of c.args.node.now in
-    let other = g.Q.Bound.target question.to in
+    let other = g.P.Bound.target question.to in
     let has_prefix : IsTrue c.if-is_some.has_prefix → HasPrefix near key_heads other =
     elim c.if-is_some.branch [
       | goal.then-is_some w ↦

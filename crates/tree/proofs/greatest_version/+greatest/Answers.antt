@@ -13,11 +13,11 @@ use Rattle.tree.proofs.greatest_version.+greatest.Goals.{After-saturating_sub-fi
 look : (g : Over) (t : ℕ) (c : After-saturating_sub-first g t)
     → IsLook c.args.nodes.now (least_of g.row.N) c.args.height c.args.slot
     (below_from (option_map (λ p. g.P.Bound.below p.now) c.args.from))
-    (below_to (option_map (λ q. g.Q.Bound.below q.now) c.args.to)) c.entries-entries.result.now
+    (below_to (option_map (λ q. g.P.Bound.below q.now) c.args.to)) c.entries-entries.result.now
     c.begin_of-begin.result c.end_of-end.result
 look g t c =
-    look_of _ _ _ _ (λ p. g.P.Bound.bytes p.now) (λ p. g.P.Bound.below p.now) (λ q. g.Q.Bound.bytes q.now)
-    (λ q. g.Q.Bound.below q.now) c.args.from c.args.to _ _ _ _ c.requires.subtree c.requires.from c.requires.to
+    look_of _ _ _ _ (λ p. g.P.Bound.bytes p.now) (λ p. g.P.Bound.below p.now) (λ q. g.P.Bound.bytes q.now)
+    (λ q. g.P.Bound.below q.now) c.args.from c.args.to _ _ _ _ c.requires.subtree c.requires.from c.requires.to
     c.requires.nested c.header_ref-node.ensures.header c.entries-entries.ensures.entries c.begin_of-begin.ensures.count
     c.end_of-end.ensures.count
 
@@ -54,13 +54,13 @@ returns-then-height-eq0 g t c =
 abbrev halves : (g : Over) (t : ℕ) (c : After-index-entries-last g t)
     → AreHalves c.args.nodes.now (least_of g.row.N) c.args.height c.args.slot
     (below_from (option_map (λ p. g.P.Bound.below p.now) c.args.from))
-    (below_to (option_map (λ q. g.Q.Bound.below q.now) c.args.to))
+    (below_to (option_map (λ q. g.P.Bound.below q.now) c.args.to))
 halves g t c = record {
   es = c.entries-entries.result.now;
   begin = c.begin_of-begin.result;
   end = c.end_of-end.result;
-  look = look_of _ _ _ _ (λ p. g.P.Bound.bytes p.now) (λ p. g.P.Bound.below p.now) (λ q. g.Q.Bound.bytes q.now)
-      (λ q. g.Q.Bound.below q.now) c.args.from c.args.to _ _ _ _ c.requires.subtree c.requires.from c.requires.to
+  look = look_of _ _ _ _ (λ p. g.P.Bound.bytes p.now) (λ p. g.P.Bound.below p.now) (λ q. g.P.Bound.bytes q.now)
+      (λ q. g.P.Bound.below q.now) c.args.from c.args.to _ _ _ _ c.requires.subtree c.requires.from c.requires.to
       c.requires.nested c.header_ref-node.ensures.header c.entries-entries.ensures.entries c.begin_of-begin.ensures.count
       c.end_of-end.ensures.count;
   some = c.if-height-eq0.false;
@@ -108,7 +108,7 @@ pub returns-then-not-is_above : goal.returns-then-not-is_above
 returns-then-not-is_above g t c =
     let h = halves g t (goal.at.returns-then-not-is_above g t c).After-index-entries-last in
     let from = λ (x : Item). below_from (option_map (λ p. g.P.Bound.below p.now) c.args.from) x.key in
-    let to = λ (x : Item). below_to (option_map (λ q. g.Q.Bound.below q.now) c.args.to) x.key in
+    let to = λ (x : Item). below_to (option_map (λ q. g.P.Bound.below q.now) c.args.to) x.key in
     let told = most_passed c.args.least c.index-entries-first.result (left_items h) from to c.is_above.result
     (search rules) (left_is h).tells c.if-not-is_above.true c.is_above.ensures.above in
     record { greatest = rw (in_one h c.if-first-last.true) told }
@@ -147,7 +147,7 @@ pub returns-else-is_above-2 : goal.returns-else-is_above-2
 returns-else-is_above-2 g t c =
     let at = goal.at.returns-else-is_above-2 g t c in
     let h = halves g t at.After-index-entries-last in
-    let to = λ (x : Item). below_to (option_map (λ q. g.Q.Bound.below q.now) c.args.to) x.key in
+    let to = λ (x : Item). below_to (option_map (λ q. g.P.Bound.below q.now) c.args.to) x.key in
     let later = most_passed c.if-is_above.most c.index-entries-last.result (right_items h) (λ x. false) to c.is_above-3.result
     (search rules) (right_is h).tells c.if-is_above-2.false c.is_above-3.ensures.above in
     record {

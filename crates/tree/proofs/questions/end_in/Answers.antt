@@ -17,7 +17,7 @@ pub lower_bound_from-requires : goal.lower_bound_from-requires
 lower_bound_from-requires g c =
     let question = c.args.question.now in
     let find = c.requires.searched.can_step.can_find in
-    let headed = key_heads_kept (g.P.Bound.bytes question.from) (g.Q.Bound.bytes question.to)
+    let headed = key_heads_kept (g.P.Bound.bytes question.from) (g.P.Bound.bytes question.to)
     (λ key text is. sym (question.bytes key) ∙ is) (key_heads_of c.args.node.now) find.headed in
     let more = no_more _ _ question.nested (entries_of c.args.node.now) in
     (search rules, (search rules, (c.end_head-head.ensures.head, omega (arith, c.requires.begin.count_is, more))))

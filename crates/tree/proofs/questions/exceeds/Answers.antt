@@ -8,7 +8,7 @@ pub greatest-requires : goal.greatest-requires
 greatest-requires g c =
     let question = c.args.question.now in
     let asked = c.requires.asked in
-    let headed = headed_kept (g.P.Bound.bytes question.from) (g.Q.Bound.bytes question.to)
+    let headed = headed_kept (g.P.Bound.bytes question.from) (g.P.Bound.bytes question.to)
     (λ key text is. sym (question.bytes key) ∙ is) _ asked.can_reach.headed in
     search (rules, asked.can_reach, asked.to, headed, question.nested)
 

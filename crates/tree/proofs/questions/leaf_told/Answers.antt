@@ -30,14 +30,14 @@ pub end_in-end-requires : goal.end_in-end-requires
 end_in-end-requires g c =
     let a = asked g (goal.at.end_in-end-requires g c).After-entries-entries in
     let from_head = rw c.header_ref-node.ensures.header at c.requires.from_head in
-    let to = look_bound c.args.nodes.now (least_of g.row.N) 0 c.args.near.leaf (g.Q.Bound.below c.args.question.now.to)
+    let to = look_bound c.args.nodes.now (least_of g.row.N) 0 c.args.near.leaf (g.P.Bound.below c.args.question.now.to)
     c.header_ref-node.result.now _ c.requires.near.live c.requires.asked.to c.header_ref-node.ensures.header refl in
     search rules
 
 -- the two bounds of a leaf
 leaf : (g : Over) (c : After-end_in-end g)
     → IsLook c.args.nodes.now (least_of g.row.N) 0 c.args.near.leaf (g.P.Bound.below c.args.question.now.from)
-    (g.Q.Bound.below c.args.question.now.to) (entries_of c.header_ref-node.result.now) c.lower_bound_by_head-begin.result
+    (g.P.Bound.below c.args.question.now.to) (entries_of c.header_ref-node.result.now) c.lower_bound_by_head-begin.result
     c.end_in-end.result
 leaf g c = search (rules, entries_from_header c.args.nodes.now _ _ c.header_ref-node.ensures.header)
 

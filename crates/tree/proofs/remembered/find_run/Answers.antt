@@ -14,7 +14,7 @@ use Rattle.tree.proofs.remembered.find_run.Goals as goal
 module _ (g : given.Over) (c : After-head g) where
   open c use {args.{leaf.{now as leaf}, new.{now as new}}, requires.{can_find}}
 
-  end_head : IsTargetHead (g.Q.Bound.bytes new.to.now) (key_heads_of leaf) (g.Q.Bound.target new.to.now) c.head-end_head.result
+  end_head : IsTargetHead (g.P.Bound.bytes new.to.now) (key_heads_of leaf) (g.P.Bound.target new.to.now) c.head-end_head.result
   end_head = record {
     has_prefix = c.has_prefix_of.ensures.has_prefix (search rules);
     head_is = rw c.prefix_len-prefix_len.ensures.prefix_len at c.head-end_head.ensures.head;

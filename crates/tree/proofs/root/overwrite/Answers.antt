@@ -19,7 +19,7 @@ module _ (g : given.Over) (c : In-Some g) where
   p = g.P.Bound.below new.from.now
 
   abbrev q : ℕ → Bool
-  q = g.Q.Bound.below new.to.now
+  q = g.P.Bound.below new.to.now
 
   there : IsRaisedIn nodes leaf root.height root.slot
   there = rw c.in-Some.is at c.requires.raised
@@ -54,7 +54,7 @@ write_in_leaf-requires g c =
     )
 
 -- the leaf once the run was written over
-changed : (g : given.Over) (c : In-Some-write_in_leaf g) → IsChanged (g.Q.Bound.bytes c.args.new.now.to.now) c.args.nodes.now
+changed : (g : given.Over) (c : In-Some-write_in_leaf g) → IsChanged (g.P.Bound.bytes c.args.new.now.to.now) c.args.nodes.now
     c.write_in_leaf.new.nodes 0 c.in-Some.leaf.slot (Raised c.in-Some.leaf)
 changed g c =
     let h = (goal.at.In-Some-write_in_leaf g c).In-Some in

@@ -21,7 +21,7 @@ module _ (g : given.Over) (c : Joined-is_some g) where
   open c use {args.{new.{now as new}, run}, requires.{can_write}, if-run.{entries.{now as put}}, item.{result as other}}
 
   abbrev bytes : KeyBytes
-  bytes = g.Q.Bound.bytes new.to.now
+  bytes = g.P.Bound.bytes new.to.now
 
   put_is : put ≡ entries_put run.ended new.first other
   put_is = elim c.if-run.branch [
@@ -32,7 +32,7 @@ module _ (g : given.Over) (c : Joined-is_some g) where
   few_put : length put ≤ 2
   few_put = rw put_is (at_most_two run.ended new.first other)
 
-  second_is : bytes other.key ≡ Some (g.Q.Bound.target new.to.now)
+  second_is : bytes other.key ≡ Some (g.P.Bound.target new.to.now)
   second_is = ap (λ x. bytes x.key) c.item.ensures.item ∙ new.second_is
 
   -- the keys of both new entries are known
@@ -40,7 +40,7 @@ module _ (g : given.Over) (c : Joined-is_some g) where
   put_known =
       simp put_is (both_put (IsKnown bytes) run.ended new.first other
       (record { text = g.P.Bound.target new.from.now; known = new.first_is; are_bytes = new.from_bytes })
-      (record { text = g.Q.Bound.target new.to.now; known = second_is; are_bytes = new.to_bytes }))
+      (record { text = g.P.Bound.target new.to.now; known = second_is; are_bytes = new.to_bytes }))
 
   -- The heads are those of the new keys, where both targets begin as all keys do.
   heads_beside : c.if-is_some.have_prefix ≡ true → AreHeadsBeside bytes (key_heads_of can_write.leaf) (keys_of put)

@@ -88,7 +88,7 @@ is_below_at-ended-requires g c =
     let new = c.args.self.now.new.now in
     let past = key_heads_kept _ _ (λ key text is. new.past_bytes key ∙ is) _ headed in
     let own = IfSome_then c.head_for-to_head.result c.head_for-to_head.ensures.head.head
-    (same_head (g.R.Bound.bytes new.past.now) _ _ (g.R.Bound.target new.past.now) _ (λ key. sym (new.past_bytes key))
+    (same_head (g.P.Bound.bytes new.past.now) _ _ (g.P.Bound.target new.past.now) _ (λ key. sym (new.past_bytes key))
     (sym new.past_target)) in
     (search rules, (past, (search rules, own)))
 
@@ -102,10 +102,10 @@ slice_bounds-put_taken-start g c =
 
 -- The last entry before the second bound has this version.
 last_is : (g : given.Over) (c : After-map_or-last g) (x : Item)
-    → IsLast x (items_below (g.Q.Bound.below c.args.self.now.new.now.to.now) (map item_of (entries_of c.header_ref-leaf.result.now)))
+    → IsLast x (items_below (g.P.Bound.below c.args.self.now.new.now.to.now) (map item_of (entries_of c.header_ref-leaf.result.now)))
     → to_z w64 (of_z w64 c.map_or-last.result) ≡ x.version
 last_is g c x ends =
-    let q = g.Q.Bound.below c.args.self.now.new.now.to.now in
+    let q = g.P.Bound.below c.args.self.now.new.now.to.now in
     let es = entries_of c.header_ref-leaf.result.now in
     let second_bound = (leaf_can_step c.requires.can_change c.header_ref-leaf.ensures.header).can_find.partitioned in
     to_z-of_z w64 c.map_or-last.result (search rules)
@@ -125,7 +125,7 @@ module _ (g : given.Over) (c : Joined-end-len g) where
   p = g.P.Bound.below new.from.now
 
   abbrev q : ℕ → Bool
-  q = g.Q.Bound.below new.to.now
+  q = g.P.Bound.below new.to.now
 
   abbrev es : List Entry
   es = entries_of leaf
@@ -146,7 +146,7 @@ module _ (g : given.Over) (c : Joined-end-len g) where
   ]
 
   -- whether an item of the leaf, or behind it, has the second key
-  told : ended ≡ first_is_below (g.R.Bound.below new.past.now) (first_key place.behind (behind q (map item_of es)))
+  told : ended ≡ first_is_below (g.P.Bound.below new.past.now) (first_key place.behind (behind q (map item_of es)))
   told =
       let others = (parted q es end (leaf_can_step can_change header).can_find.partitioned ends).1 in
       elim c.if-end-len.branch [
@@ -162,7 +162,7 @@ module _ (g : given.Over) (c : Joined-end-len g) where
   whole : (last : ℤ) → ((x : Item) → IsLast x (items_below q (map item_of es)) → last ≡ x.version) → (now : List Item)
       → now ≡ map item_of (take begin (entries_at nodes slot)) ++ (item_of new.first
       ∷ ended_by ended (record { key = new.second; version = unwrap_or new.last last }) ++ map item_of (drop end (entries_at nodes slot)))
-      → GivesWhole p q (g.R.Bound.below new.past.now) (item_of new.first) new.second new.last ended
+      → GivesWhole p q (g.P.Bound.below new.past.now) (item_of new.first) new.second new.last ended
       (map item_of c.put_taken.new.taken.items) place.is_first place.behind (map item_of (entries_at nodes slot)) now
   whole last ends_so now = rw (entries_from_header nodes slot leaf header) (whole_run p q _ new.nested es begin end
       (leaf_can_find nodes slot (leaf_can_step can_change header).can_find _ p new.bytes header can_change.wanted).partitioned

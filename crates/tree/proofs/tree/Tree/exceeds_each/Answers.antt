@@ -13,7 +13,7 @@ use Rattle.tree.proofs.tree.Tree.exceeds_each.Goals.{After-self}
 -- what is required, of the nodes
 asked : (g : Over) (c : After-self g)
     → All (λ q. IsAsked c.self.inside.nodes (least_of g.row.N) c.self.inside.root.height c.self.inside.root.slot
-    (g.P.Bound.bytes q.from) (g.P.Bound.below q.from) (g.Q.Bound.below q.to)) c.args.questions.now
+    (g.P.Bound.bytes q.from) (g.P.Bound.below q.from) (g.P.Bound.below q.to)) c.args.questions.now
 asked g c i q within =
     let can_reach = can_reach_root c.self.invariant.0 ((rw (← c.self.view_is) at c.requires.from) i q within) in
     let to = (rw (← c.self.view_is) at c.requires.to) i q within in

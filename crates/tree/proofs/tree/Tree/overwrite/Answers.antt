@@ -16,7 +16,7 @@ use Rattle.tree.proofs.tree.Tree.overwrite.Goals.{After-len}
 pub overwrite-written-requires : goal.overwrite-written-requires
 overwrite-written-requires g c =
     let can = rw (← c.self.view_is) at c.requires.can_overwrite in
-    let headed = headed_from_list (g.Q.Bound.bytes c.args.new.now.to.now) c.self.inside.nodes can.headed in
+    let headed = headed_from_list (g.P.Bound.bytes c.args.new.now.to.now) c.self.inside.nodes can.headed in
     let t = c.self.invariant in
     let known = can_change t.0 (omega arith) can.to headed ([], [], rw append-nil can.from) can.none_taken in
     (omega arith, (omega arith, (known, t.1)))
@@ -31,7 +31,7 @@ module _ (g : given.Over) (c : After-len g) where
   now = items_in nodes root.height root.slot
 
   -- what became of the items
-  done : Overwrites (g.P.Bound.below new.from.now) (g.Q.Bound.below new.to.now) (g.R.Bound.below new.past.now)
+  done : Overwrites (g.P.Bound.below new.from.now) (g.P.Bound.below new.to.now) (g.P.Bound.below new.past.now)
       (item_of new.first) new.second new.last written (map item_of taken.items) was now
   done =
       let can = rw (← c.self.view_is) at c.requires.can_overwrite in
