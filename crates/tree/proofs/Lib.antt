@@ -42,6 +42,7 @@ pub mod Placing
 pub mod Reaching
 pub mod Replacing
 pub mod Rooting
+pub mod Settling
 pub mod RunWritten
 pub mod Sharing
 pub mod Splicing

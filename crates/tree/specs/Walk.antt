@@ -1,5 +1,5 @@
 -- A walk to a leaf, what it changes there, and what it gives. This project's own.
-use Rattle.std.specs.Prelude.{◌≡◌, ◌≤◌, ◌<◌, ◌+◌, ◌⊎◌, ◌↔◌, ◌++◌, ℕ, zero, suc, ℤ, Bool, true, false, List, [], length, nat_eq, Option, None, Some, IfSome, IsTrue}
+use Rattle.std.specs.Prelude.{◌≡◌, ◌≤◌, ◌<◌, ◌+◌, ◌⊎◌, ◌↔◌, ◌++◌, ℕ, zero, suc, ℤ, Bool, true, false, List, [], length, take, drop, nat_eq, Option, None, Some, IfSome, IsTrue}
 use Rattle.std.specs.List.{All, Any, IsDistinct}
 use Rattle.std.specs.FinMap as map
 use Rattle.arena.specs.Arena.{Arena, spare_of}
@@ -12,7 +12,7 @@ use Rattle.tree.specs.Heads.{KeyBytes, AllAreHeads, IsCommonPrefixAt}
 use Rattle.tree.specs.Item.{Item}
 use Rattle.tree.specs.Node.{all_heads_of}
 use Rattle.tree.specs.Path.{IsPartitioned, first_key}
-use Rattle.tree.specs.Children.{slots_with, Changes, IsKeyless}
+use Rattle.tree.specs.Children.{child_at, items_of, items_with, slots_with, Changes, IsKeyless}
 use Rattle.tree.specs.Subtree.{entries_at, items_in, slots_in, IsSubtree}
 use Rattle.tree.specs.Tree.{least_of, IsRooted}
 
@@ -108,6 +108,36 @@ module _ {N : ℕ} where
     pub changes : Changes old new (slots_in old height slot) (slots_with new height slot (added_by outcome))
     pub taken : spare_of old 0 ≤ spare_of new 0 + (height + 1)
     pub headed : AllAreHeads bytes (all_heads_of new)
+
+  -- The node at a slot of a subtree that may be changed, and its child at an index. The child was changed since, and became this.
+  pub record IsUnsettled (bytes : KeyBytes) (old now : Arena (Node N)) (height below slot index child : ℕ) (outcome : Outcome)
+      : Type 0 where
+    pub can : CanChange old height slot
+    pub next : suc below ≡ height
+    pub within : index < length (entries_at old slot)
+    pub child_is : child ≡ child_at (entries_at old slot) index
+    pub changed : IsChanged bytes old now below child outcome
+
+  -- A node whose child at an index has become this.
+  pub record CanSettle (bytes : KeyBytes) (now : Arena (Node N)) (slot index : ℕ) (outcome : Outcome) : Type 0 where
+    pub old : Arena (Node N)
+    pub height : ℕ
+    pub below : ℕ
+    pub child : ℕ
+    pub unsettled : IsUnsettled bytes old now height below slot index child outcome
+
+  -- The node is right again. Of its items, only those of the child have changed.
+  pub record IsSettled (bytes : KeyBytes) (old now new : Arena (Node N)) (height below slot index child : ℕ) (outcome result : Outcome)
+      : Type 0 where
+    pub changed : IsChanged bytes old new height slot result
+    pub items : items_with new height slot (added_by result) ≡ items_of old below (take index (entries_at old slot))
+        ++ (items_with now below child (added_by outcome) ++ items_of old below (drop (index + 1) (entries_at old slot)))
+
+  -- That is so of the nodes before the child was changed, whatever they were.
+  abbrev pub Settles : KeyBytes → Arena (Node N) → Arena (Node N) → ℕ → ℕ → Outcome → Outcome → Type 0
+  Settles bytes now new slot index outcome result =
+      (old : Arena (Node N)) (height below child : ℕ) → IsUnsettled bytes old now height below slot index child outcome
+      → IsSettled bytes old now new height below slot index child outcome result
 
   -- A tree that may be changed.
   pub record CanChangeTree (nodes : Arena (Node N)) (root height : ℕ) : Type 0 where

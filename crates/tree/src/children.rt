@@ -9,6 +9,7 @@ ghost use Rattle.tree.specs.Subtree.{entries_at};
 ghost use Rattle.tree.specs.Tree.{least_of};
 ghost use Rattle.tree.specs.Children.{child_at, entries_at_both, HasRaisedEntry, IsFamilyAt};
 ghost use Rattle.tree.specs.Children.{IsKeyless, IsLinked, IsRebalancedAt, TellsWritten};
+ghost use Rattle.tree.specs.Walk.{CanSettle, Settles};
 
 use crate::bound::Bound;
 use crate::entry::Entry;
@@ -17,10 +18,37 @@ use crate::rebalance::{entry_for, least, merge_or_redistribute};
 use crate::walk::{Outcome, RaisedLeaf};
 use arena::{Arena, Slot};
 
-/// Makes the entry at an index right in the node at a slot, whose child was split, and puts one for
-/// the child's right neighbour after it. Returns the slot of the node's own right neighbour if it
-/// is split, too.
-pub fn insert_child<P: Bound, const N: usize>(
+/// Makes the node at a slot right, of which the child at an index became this, and splits or
+/// rebalances it where that is due. Returns what became of the node.
+#[inline(always)]
+pub fn settle<P: Bound, const N: usize>(
+    nodes: &mut Arena<Node<N>>,
+    slot: Slot,
+    index: usize,
+    child: Outcome,
+    bound: &P,
+) -> Outcome
+    requires can_settle { CanSettle (P.bytes bound.now) nodes.old slot index child }
+    ensures settled { Settles (P.bytes bound.now) nodes.old nodes.new slot index child result }
+{
+    match child {
+        Outcome::Same => Outcome::Same,
+        Outcome::Raised(leaf) => raise_entry(nodes, slot, index, leaf, bound),
+        Outcome::Changed => {
+            rebalance_child(nodes, slot, index, bound);
+            Outcome::Changed
+        }
+        Outcome::Split(added) => match insert_child(nodes, slot, index, added, bound) {
+            Some(added) => Outcome::Split(added),
+            None => Outcome::Changed,
+        },
+    }
+}
+
+// Makes the entry at an index right in the node at a slot, whose child was split, and puts one for
+// the child's right neighbour after it. Returns the slot of the node's own right neighbour if it
+// is split, too.
+fn insert_child<P: Bound, const N: usize>(
     nodes: &mut Arena<Node<N>>,
     slot: Slot,
     index: usize,
@@ -85,9 +113,9 @@ pub fn split<P: Bound, const N: usize>(
     place(nodes, right)
 }
 
-/// Makes the entry at an index right in the node at a slot, whose child has changed: where the node
-/// lies, unless the child has too few entries.
-pub fn rebalance_child<P: Bound, const N: usize>(
+// Makes the entry at an index right in the node at a slot, whose child has changed: where the node
+// lies, unless the child has too few entries.
+fn rebalance_child<P: Bound, const N: usize>(
     nodes: &mut Arena<Node<N>>,
     slot: Slot,
     index: usize,
@@ -109,10 +137,10 @@ pub fn rebalance_child<P: Bound, const N: usize>(
     merge_or_redistribute(nodes, slot, index.saturating_sub(1), bound);
 }
 
-/// Makes the entry at an index right in the node at a slot, where an item came into this leaf of
-/// the entry's child, which has enough entries. Returns what became of the node.
+// Makes the entry at an index right in the node at a slot, where an item came into this leaf of
+// the entry's child, which has enough entries. Returns what became of the node.
 #[inline(always)]
-pub fn raise_entry<P: Bound, const N: usize>(
+fn raise_entry<P: Bound, const N: usize>(
     nodes: &mut Arena<Node<N>>,
     slot: Slot,
     index: usize,

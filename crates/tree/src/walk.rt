@@ -8,7 +8,7 @@ ghost use Rattle.tree.specs.Subtree.{items_in};
 ghost use Rattle.tree.specs.Walk.{added_by, CanChangeLeaf, IsChanged, IsChangedWithin};
 
 use crate::bound::Bound;
-use crate::children::{insert_child, raise_entry, rebalance_child};
+use crate::children::settle;
 use crate::entry::{Entry, key_at};
 use crate::node::Node;
 use crate::way::Way;
@@ -150,18 +150,6 @@ pub fn change_leaf<C: LeafChange<N>, const N: usize>(
         behind: key_at(entries, step.index + 1, place.behind),
         is_first: place.is_first && step.index == 0,
     };
-    match change_leaf(nodes, child, height - 1, change, below, taken, way) {
-        Outcome::Same => Outcome::Same,
-        Outcome::Raised(leaf) => raise_entry(nodes, slot, step.index, leaf, change.leaf_bound()),
-        Outcome::Changed => {
-            rebalance_child(nodes, slot, step.index, change.leaf_bound());
-            Outcome::Changed
-        }
-        Outcome::Split(added) => {
-            match insert_child(nodes, slot, step.index, added, change.leaf_bound()) {
-                Some(added) => Outcome::Split(added),
-                None => Outcome::Changed,
-            }
-        }
-    }
+    let outcome = change_leaf(nodes, child, height - 1, change, below, taken, way);
+    settle(nodes, slot, step.index, outcome, change.leaf_bound())
 }

@@ -4,23 +4,20 @@ use Rattle.tree.specs.Item.{Item}
 use Rattle.tree.specs.Node.{entries_of}
 use Rattle.tree.specs.Path.{index_in}
 use Rattle.tree.specs.Subtree.{entries_at, items_in}
-use Rattle.tree.specs.declared.walk.Outcome.TheVariants.{Same, Raised, Changed, Split}
-use Rattle.tree.specs.declared.walk.RaisedLeaf.{RaisedLeaf}
 use Rattle.tree.specs.Tree.{least_of}
 use Rattle.tree.specs.Children.{items_of}
-use Rattle.tree.specs.Walk.{CanChangeLeaf, IsChangedWithin, added_by}
+use Rattle.tree.specs.Walk.{CanChangeLeaf, IsChangedWithin, IsUnsettled}
 use Rattle.tree.proofs.callers.Times.{once_if_distinct}
-use Rattle.tree.proofs.ChangedLeaf.{unchanged}
 use Rattle.tree.proofs.FirstKeys.{known_below}
 use Rattle.tree.proofs.Headed.{headed_at}
 use Rattle.tree.proofs.Placing.{entries_from_header}
 use Rattle.tree.proofs.Found.{read_partitioned, found, found_partitioned}
-use Rattle.tree.proofs.Stepping.{IsAt, around, child_can, items_split}
+use Rattle.tree.proofs.Stepping.{IsAt, around, child_can, items_split, x_at}
 use Rattle.tree.proofs.Walking.{first_if, within_at}
-use Rattle.tree.proofs.Walked.{within_leaf, can_rebalance, can_insert, child_filled, family, raised_below, tells_written, step_rebalanced, changed_above, step_linked, linked_above}
+use Rattle.tree.proofs.Walked.{within_leaf}
 use Rattle.tree.proofs.walk.+change_leaf.Given.{Over}
 use Rattle.tree.proofs.walk.+change_leaf.Goals as goal
-use Rattle.tree.proofs.walk.+change_leaf.Goals.{After-index-entries-step, After-change_leaf, After-raise_entry, After-rebalance_child}
+use Rattle.tree.proofs.walk.+change_leaf.Goals.{After-index-entries-step, After-change_leaf-outcome}
 
 pub change-requires : goal.change-requires
 change-requires g t c = (search rules, (search rules, rw c.if-height-eq0.true at c.requires.can_change))
@@ -118,15 +115,15 @@ module _ (g : Over) (t : ℕ) (c : After-index-entries-step g t) where
       }
 
 -- A leaf of the child is changed.
-within : (g : Over) (t : ℕ) (c : After-change_leaf g t) (Gives : Bool → Option ℕ → List Item → List Item → Type 0)
-    (now all : List Item) → (let k = (goal.at.After-change_leaf g t c).After-index-entries-step in
+within : (g : Over) (t : ℕ) (c : After-change_leaf-outcome g t) (Gives : Bool → Option ℕ → List Item → List Item → Type 0)
+    (now all : List Item) → (let k = (goal.at.After-change_leaf-outcome g t c).After-index-entries-step in
     let below = IsChangedWithin (is_below g t k) Gives c.if-place.below c.key_at.result in
     let here = IsChangedWithin (is_below g t k) Gives c.args.place.is_first c.args.place.behind in
     let a = c.args.nodes.now in
     all ≡ around (at_child g t k) now → below (items_in a (h g t k) (x g t k)) now
     → here (items_in a c.args.height c.args.slot) all)
 within g t c Gives now all all_is changed =
-    let k = (goal.at.After-change_leaf g t c).After-index-entries-step in
+    let k = (goal.at.After-change_leaf-outcome g t c).After-index-entries-step in
     within_at (at_child g t k) (index_is g t k ∙ ap (index_in (is_below g t k)) (sym (read g t k))) Gives _ _ _ _ now all c.requires.can_change.searched.partitioned
     (first_if _ _ _ c.if-place.below-true c.if-place.below-false)
     (rw (read g t k, ← c.entries-entries.ensures.entries) c.key_at.ensures.key) all_is changed
@@ -136,107 +133,33 @@ change_leaf-requires g t c κs low =
     let can = can_change_child g t (goal.at.change_leaf-requires g t c).After-index-entries-step in
     (search rules, (search rules, (search rules, (search rules, (search rules, (search rules, can))))))
 
-pub raise_entry-requires : goal.raise_entry-requires
-raise_entry-requires g t c =
-    let at = at_child g t (goal.at.raise_entry-requires g t c).After-index-entries-step in
-    rw (c.leaf_bound-in-Raised.ensures.leaf_bound ∙ c.in-Raised.ensures.leaf_bound) (
-      search rules,
-      record {
-        rebalance = can_rebalance at c.in-Raised.ensures.changed refl;
-        filled = child_filled at c.in-Raised.ensures.changed refl _ refl;
-      },
-    )
-
-pub rebalance_child-requires : goal.rebalance_child-requires
-rebalance_child-requires g t c =
-    let at = at_child g t (goal.at.rebalance_child-requires g t c).After-index-entries-step in
-    rw (c.leaf_bound-in-Changed.ensures.leaf_bound ∙ c.in-Changed.ensures.leaf_bound)
-    (search rules, can_rebalance at c.in-Changed.ensures.changed refl)
-
-pub insert_child-requires : goal.insert_child-requires
-insert_child-requires g t c =
-    let at = at_child g t (goal.at.insert_child-requires g t c).After-index-entries-step in
-    rw (c.leaf_bound-in-Split.ensures.leaf_bound ∙ c.in-Split.ensures.leaf_bound)
-    (search rules, can_insert at c.in-Split.ensures.changed)
-
-pub returns-in-Same : goal.returns-in-Same
-returns-in-Same g t c =
-    let here = goal.at.returns-in-Same g t c in
-    let same = c.in-Same.ensures.changed.same refl in
-    let at = at_child g t here.After-index-entries-step in
-    rw same record {
-      changed = unchanged _ c.args.nodes.now c.args.height c.args.slot at.can c.requires.can_change.searched.headed;
-      items = within g t here.After-change_leaf _ _ _ (items_split at) (rw same at c.in-Same.ensures.items);
-      leaf_bound = search rules;
-    }
-
-raised_not_same : (leaf : RaisedLeaf) → Raised leaf ≡ Same → ⊥
-raised_not_same leaf is = cc
-
-changed_not_same : Changed ≡ Same → ⊥
-changed_not_same is = cc
-
-changed_not_raised : (leaf : RaisedLeaf) → Changed ≡ Raised leaf → ⊥
-changed_not_raised leaf is = cc
-
-pub returns-in-Raised : goal.returns-in-Raised
-returns-in-Raised g t c =
-    let here = goal.at.returns-in-Raised g t c in
-    let at = at_child g t here.After-index-entries-step in
-    let put = c.in-Raised.ensures.changed in
-    let made = c.raise_entry.ensures.rebalanced (c.args.height - 1) (family at put refl) (tells_written at put refl _ refl) in
-    let rest = rw (c.leaf_bound-in-Raised.ensures.leaf_bound ∙ c.in-Raised.ensures.leaf_bound) at c.raise_entry.ensures.rest in
-    let told = c.raise_entry.ensures.outcome in
-    let alone : added_by c.raise_entry.result ≡ None =
-    elim told [ inl is ↦ ap added_by is | inr is ↦ ap added_by is.0 ] in
-    let changed = changed_above at put refl made c.raise_entry.result alone
-    (λ e. elim told [ inl is ↦ changed_not_same (sym is ∙ e) | inr is ↦ raised_not_same c.in-Raised.leaf (sym is.0 ∙ e) ])
-    (λ leaf e. elim told [
-      | inl is ↦ absurd (changed_not_raised leaf (sym is ∙ e))
-      | inr is ↦ (let same = sym is.0 ∙ e in (same, raised_below at put refl leaf is.1 (cc (same)) same))
-    ]) rest in
-    rw alone record {
-      changed = changed;
-      items = within g t here.After-change_leaf _ _ _ (step_rebalanced at put refl made).items_are c.in-Raised.ensures.items;
-      leaf_bound = search rules;
-    }
-
-pub returns-in-Changed : goal.returns-in-Changed
-returns-in-Changed g t c =
-    let here = goal.at.returns-in-Changed g t c in
-    let at = at_child g t here.After-index-entries-step in
-    let put = c.in-Changed.ensures.changed in
-    let made = c.rebalance_child.ensures.rebalanced (c.args.height - 1) (family at put refl) in
-    let same = c.leaf_bound-in-Changed.ensures.leaf_bound ∙ c.in-Changed.ensures.leaf_bound in
-    let rest = rw same at c.rebalance_child.ensures.rest in
+-- The node is as its child became.
+unsettled : (g : Over) (t : ℕ) (c : After-change_leaf-outcome g t)
+    → (let k = (goal.at.After-change_leaf-outcome g t c).After-index-entries-step in
+    IsUnsettled (g.C.LeafBound.Bound.bytes (g.C.LeafChange.bound_of c.args.change.now)) c.args.nodes.now
+    c.change_leaf-outcome.new.nodes c.args.height (h g t k) c.args.slot (i g t k) (x g t k) c.change_leaf-outcome.result)
+unsettled g t c =
+    let at = at_child g t (goal.at.After-change_leaf-outcome g t c).After-index-entries-step in
     record {
-      changed = changed_above at put refl made Changed refl changed_not_same (λ leaf is. absurd (changed_not_raised leaf is)) rest;
-      items = within g t here.After-change_leaf _ _ _ (step_rebalanced at put refl made).items_are c.in-Changed.ensures.items;
-      leaf_bound = search rules;
+      can = at.can;
+      next = at.next;
+      within = at.within;
+      child_is = x_at at;
+      changed = c.change_leaf-outcome.ensures.changed;
     }
 
-pub returns-in-Some : goal.returns-in-Some
-returns-in-Some g t c =
-    let here = goal.at.returns-in-Some g t c in
-    let at = at_child g t here.After-index-entries-step in
-    let put = rw (c.leaf_bound-in-Split.ensures.leaf_bound ∙ c.in-Split.ensures.leaf_bound) at c.in-Some.ensures.stored in
-    let step = step_linked at c.in-Split.ensures.changed (Split c.in-Some.added) c.in-Some.ensures.linked put in
-    record {
-      changed = linked_above at c.in-Split.ensures.changed (Split c.in-Some.added) c.in-Some.ensures.linked put
-          (λ is. absurd (cc)) (λ leaf is. absurd (cc));
-      items = within g t here.After-change_leaf _ _ _ step.items_are c.in-Split.ensures.items;
-      leaf_bound = search rules;
-    }
+pub settle-requires : goal.settle-requires
+settle-requires g t c =
+    let u = unsettled g t (goal.at.settle-requires g t c).After-change_leaf-outcome in
+    rw (c.leaf_bound-2.ensures.leaf_bound ∙ c.change_leaf-outcome.ensures.leaf_bound) (search rules, record { unsettled = u })
 
-pub returns-in-None : goal.returns-in-None
-returns-in-None g t c =
-    let here = goal.at.returns-in-None g t c in
-    let at = at_child g t here.After-index-entries-step in
-    let put = rw (c.leaf_bound-in-Split.ensures.leaf_bound ∙ c.in-Split.ensures.leaf_bound) at c.in-None.ensures.stored in
-    let step = step_linked at c.in-Split.ensures.changed Changed c.in-None.ensures.linked put in
+pub returns : goal.returns
+returns g t c =
+    let here = (goal.at.returns g t c).After-change_leaf-outcome in
+    let settles = rw (c.leaf_bound-2.ensures.leaf_bound ∙ c.change_leaf-outcome.ensures.leaf_bound) at c.settle.ensures.settled in
+    let settled = settles _ _ _ _ (unsettled g t here) in
     record {
-      changed = linked_above at c.in-Split.ensures.changed Changed c.in-None.ensures.linked put (λ is. absurd (cc))
-          (λ leaf is. absurd (cc));
-      items = within g t here.After-change_leaf _ _ _ step.items_are c.in-Split.ensures.items;
-      leaf_bound = search rules;
+      changed = settled.changed;
+      items = within g t here _ _ _ settled.items c.change_leaf-outcome.ensures.items;
+      leaf_bound = c.change_leaf-outcome.ensures.leaf_bound;
     }
