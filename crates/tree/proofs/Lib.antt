@@ -12,6 +12,7 @@ pub mod FirstKeys
 pub mod Found
 pub mod Frames
 pub mod FromLast
+pub mod GivenHeads
 pub mod Greatest
 pub mod GreatestParts
 pub mod HeadAt

@@ -1,5 +1,5 @@
 -- Two bounds in one leaf: the target begins alike, and the first one is no farther on.
-use Rattle.std.proofs.Common.{rules, ◌≡◌, ℕ, ◌≤◌, Bool, true, false, List, [], ◌∷◌, Option, Some, None, is_some, unwrap_or, length, slice_get, take, filter, refl, sym, ◌∙◌, ap, arith}
+use Rattle.std.proofs.Common.{rules, ◌≡◌, ℕ, ◌≤◌, Bool, true, false, List, [], ◌∷◌, Option, Some, None, is_some, unwrap_or, option_map, length, slice_get, take, filter, refl, sym, ◌∙◌, ap, arith}
 use Rattle.std.specs.Prelude.{IfSome}
 use Rattle.std.specs.List.{All, AllZip}
 use Rattle.std.proofs.lemmas.List.{take-take}
@@ -9,6 +9,7 @@ use Rattle.tree.specs.declared.entry.Entry.{Entry}
 use Rattle.tree.proofs.HeadChanges.{target_beside}
 use Rattle.tree.specs.Heads.{KeyBytes, HaveCommonPrefix, IsCommonPrefixAt, KeyHeads, HasPrefix, IsHeadBeside, IsTargetHead}
 use Rattle.tree.specs.Node.{keys_of}
+use Rattle.tree.specs.Splice.{both_of}
 use Rattle.tree.proofs.Overwriting.{entries_put}
 use Rattle.tree.proofs.FromLast.{fewer_before}
 
@@ -47,10 +48,10 @@ same_head bytes near key_heads target other same is head for =
 
 -- It is that of a key that has these bytes, where it is known.
 pub key_beside : (bytes near : KeyBytes) (key_heads : KeyHeads) (own : List ℕ) (head : Option ℕ)
-    → ((key : ℕ) → near key ≡ bytes key) → IfSome head (IsTargetHead near key_heads own) → is_some head ≡ true
-    → (key : ℕ) → bytes key ≡ Some own → IsBytes own → IsHeadBeside bytes key_heads key (unwrap_or head 0)
-key_beside bytes near key_heads own None same for some key is are_bytes = absurd (cc)
-key_beside bytes near key_heads own (Some head) same for some key is are_bytes =
+    → ((key : ℕ) → near key ≡ bytes key) → IfSome head (IsTargetHead near key_heads own) → (key : ℕ) → bytes key ≡ Some own
+    → IsBytes own → IfSome head (IsHeadBeside bytes key_heads key)
+key_beside bytes near key_heads own None same for key is are_bytes = tt
+key_beside bytes near key_heads own (Some head) same for key is are_bytes =
     target_beside bytes key_heads key head (record { text = own; known = is; are_bytes = are_bytes })
     (λ text there. same_head bytes near key_heads text own same (cc (is, there)) head for)
 
@@ -60,12 +61,15 @@ pub both_put : (P : ℕ → Type 0) (ended : Bool) (first second : Entry) → P 
 both_put P true first second p q = All-cons P first.key [] p (All-nil P)
 both_put P false first second p q = All-cons P first.key (second.key ∷ []) p (All-cons P second.key [] q (All-nil P))
 
--- what holds of both keys and their heads holds of as many heads as entries are put in
-pub both_zipped : (R : ℕ → ℕ → Type 0) (ended : Bool) (first second : Entry) (one other : ℕ) → R first.key one
-    → R second.key other → AllZip R (keys_of (entries_put ended first second))
-    (take (length (entries_put ended first second)) (one ∷ other ∷ []))
-both_zipped R true first second one other p q = (p, tt)
-both_zipped R false first second one other p q = (p, (q, tt))
+-- As many of both heads as entries are put in are those of their keys.
+pub both_beside : (R : ℕ → ℕ → Type 0) (ended : Bool) (first second : Entry) (one other : Option ℕ) → IfSome one (R first.key)
+    → IfSome other (R second.key)
+    → IfSome (option_map (λ h. take (length (entries_put ended first second)) h) (both_of one other))
+    (λ h. AllZip R (keys_of (entries_put ended first second)) h)
+both_beside R ended first second None other p q = tt
+both_beside R ended first second (Some one) None p q = tt
+both_beside R true first second (Some one) (Some other) p q = (p, tt)
+both_beside R false first second (Some one) (Some other) p q = (p, (q, tt))
 
 -- no more are below the first bound than the second
 pub no_more : (p q : ℕ → Bool) → ((key : ℕ) → p key ≡ true → q key ≡ true) → (es : List Entry)

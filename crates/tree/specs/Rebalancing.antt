@@ -1,5 +1,5 @@
 -- What must hold where nodes are changed, and the ones above them made right. This project's own.
-use Rattle.std.specs.Prelude.{◌≡◌, ◌≢◌, ◌≤◌, ◌<◌, ◌+◌, ◌*◌, ◌-◌, ◌∷◌, ℕ, List, [], length, nat_eq, Bool, Option, Some, IfSome, IsTrue}
+use Rattle.std.specs.Prelude.{◌≡◌, ◌≢◌, ◌≤◌, ◌<◌, ◌+◌, ◌*◌, ◌-◌, ◌∷◌, ℕ, List, [], length, nat_eq, Option, Some, IfSome}
 use Rattle.std.specs.List.{All, IsDistinct}
 use Rattle.std.specs.FinMap as map_of
 use Rattle.arena.specs.Arena.{Arena, IsLive, spare_of}
@@ -13,10 +13,10 @@ use Rattle.tree.specs.Subtree.{entries_at, slots_in, IsSubtree}
 use Rattle.tree.specs.Tree.{least_of}
 
 module _ {N : ℕ} where
-  -- The node at a slot, which is too full for the entries that replace those from one index up to another, and so is split. It may be
-  -- known that their keys begin as all others do, with their heads.
-  pub record CanSplit (bytes : KeyBytes) (nodes : Arena (Node N)) (slot from to : ℕ) (new : List Entry) (heads : List ℕ)
-      (have_prefix : Bool) : Type 0 where
+  -- The node at a slot, which is too full for the entries that replace those from one index up to another, and so is split. If their
+  -- heads are given, their keys begin as all others do.
+  pub record CanSplit (bytes : KeyBytes) (nodes : Arena (Node N)) (slot from to : ℕ) (new : List Entry) (heads : Option (List ℕ))
+      : Type 0 where
     pub fan_out : 4 ≤ N
     pub live : IsLive nodes slot
     pub keyless : IsKeyless nodes
@@ -27,8 +27,7 @@ module _ {N : ℕ} where
     pub many : N < from + length new + (length (entries_at nodes slot) - to)
     pub headed : AllAreHeads bytes (all_heads_of nodes)
     pub known : All (IsKnown bytes) (keys_of new)
-    pub same_len : length heads ≡ length new
-    pub beside : IsTrue have_prefix → IfSome (all_heads_of nodes slot) (λ own. AreHeadsBeside bytes own (keys_of new) heads)
+    pub beside : IfSome heads (λ h. IfSome (all_heads_of nodes slot) (λ own. AreHeadsBeside bytes own (keys_of new) h))
 
   -- A node is stored at a slot, and its right neighbour, if any, at one that was spare.
   pub record IsStored (bytes : KeyBytes) (old new : Arena (Node N)) (slot : ℕ) (added : Option ℕ) : Type 0 where

@@ -1,7 +1,8 @@
 //! A node whose child has changed: its entry for the child is made right, and the node is split or
 //! rebalanced where that is due.
 
-ghost use Rattle.std.specs.Prelude.{◌≡◌, ◌<◌, ◌+◌, ◌⊎◌, ◌++◌, ℕ, [], take, drop, Some};
+ghost use Rattle.std.specs.Prelude.{◌≡◌, ◌<◌, ◌+◌, ◌⊎◌, ◌++◌, ℕ, [], take, drop, option_map};
+ghost use Rattle.std.specs.Prelude.{Some};
 ghost use Rattle.arena.specs.Arena.{spare_of};
 ghost use Rattle.tree.specs.Rebalancing.{CanInsertChild, CanRaise, CanRebalance, CanSplit};
 ghost use Rattle.tree.specs.Rebalancing.{IsPlaced, IsStored, LosesOneAtMost};
@@ -13,7 +14,7 @@ ghost use Rattle.tree.specs.Walk.{CanSettle, Settles};
 
 use crate::bound::Bound;
 use crate::entry::Entry;
-use crate::node::Node;
+use crate::node::{Node, both, heads_for};
 use crate::rebalance::{entry_for, least, merge_or_redistribute};
 use crate::walk::{Outcome, RaisedLeaf};
 use arena::{Arena, Slot};
@@ -64,27 +65,17 @@ fn insert_child<P: Bound, const N: usize>(
     let node = nodes.header_ref(slot);
     let child = node.entries()[index].child;
     let new = [entry_for(nodes, child), entry_for(nodes, added)];
-    let (head, added_head) = (
+    let heads = both(
         node.head_of(new[0].key, index, bound),
         node.head_of(new[1].key, index, bound),
     );
-    let heads = [head.unwrap_or(0), added_head.unwrap_or(0)];
-    let have_prefix = head.is_some() && added_head.is_some();
+    let heads = heads_for(&heads, 2);
     if node.len() == N {
-        return Some(split(
-            nodes,
-            slot,
-            index,
-            index + 1,
-            &new,
-            &heads,
-            have_prefix,
-            bound,
-        ));
+        return Some(split(nodes, slot, index, index + 1, &new, heads, bound));
     }
     nodes
         .header_mut(slot)
-        .splice_with_heads(index, index + 1, &new, &heads, have_prefix, bound);
+        .splice_with_heads(index, index + 1, &new, heads, bound);
     None
 }
 
@@ -96,12 +87,11 @@ pub fn split<P: Bound, const N: usize>(
     from: usize,
     to: usize,
     new: &[Entry],
-    heads: &[u32],
-    have_prefix: bool,
+    heads: Option<&[u32]>,
     bound: &P,
 ) -> Slot
-    requires can_split { CanSplit (P.bytes bound.now) nodes.old slot from to new.now heads.now
-        have_prefix }
+    requires can_split { CanSplit (P.bytes bound.now) nodes.old slot from to new.now
+        (option_map (λ h. h.now) heads) }
     ensures entries { entries_at_both nodes.new slot (Some result)
         ≡ take from (entries_at nodes.old slot)
         ++ (new.now ++ drop to (entries_at nodes.old slot)) }
@@ -109,7 +99,7 @@ pub fn split<P: Bound, const N: usize>(
 {
     let right = nodes
         .header_mut(slot)
-        .splice_apart(from, to, new, heads, have_prefix, bound);
+        .splice_apart(from, to, new, heads, bound);
     place(nodes, right)
 }
 

@@ -10,6 +10,7 @@ mod heads;
 mod lower_bound;
 mod step;
 
+pub use heads::{both, heads_for};
 pub use step::Step;
 
 // Stands where there is no head of a key: no head is above it.
@@ -31,7 +32,7 @@ pub struct Node<const N: usize> {
 
 impl<const N: usize> Node<N> {
     ghost use Rattle.std.specs.Prelude.{◌≡◌, ◌<◌, ◌+◌, ◌-◌, ◌*◌, ◌∷◌, ◌++◌, [], length, take, drop};
-    ghost use Rattle.std.specs.Prelude.{slice_get, slice_set, Some};
+    ghost use Rattle.std.specs.Prelude.{slice_get, slice_set, IfSome, Some};
     ghost use Rattle.std.specs.List.{copy_within};
     ghost use Rattle.tree.specs.Item.{IsGreatest, version_of};
     ghost use Rattle.tree.specs.Heads.{AreHeads, KeyBytes};
@@ -138,24 +139,27 @@ impl<const N: usize> Node<N> {
         }
     }
 
-    /// Replaces the entries from one index up to another by these, with their heads.
-    pub fn splice(&mut self, from: usize, to: usize, new: &[Entry], heads: &[u32])
+    /// Replaces the entries from one index up to another by these, with their heads if they are
+    /// given.
+    pub fn splice(&mut self, from: usize, to: usize, new: &[Entry], heads: Option<&[u32]>)
         requires ordered { from ≤ to }
         requires within { to ≤ length (entries_of self.old) }
-        requires same_len { length heads.now ≡ length new.now }
+        requires same_len { IfSome heads (λ h. length h.now ≡ length new.now) }
         requires room { from + length new.now + (length (entries_of self.old) - to) ≤ N }
         ensures entries { entries_of self.new
             ≡ take from (entries_of self.old) ++ (new.now ++ drop to (entries_of self.old)) }
-        ensures heads { HasHeads self.old self.new
+        ensures heads { IfSome heads.entry (λ h. HasHeads self.old self.new
             (take from (key_heads_of self.old).heads
-            ++ (heads.now ++ drop to (key_heads_of self.old).heads)) }
+            ++ (h.now ++ drop to (key_heads_of self.old).heads))) }
     {
         let end = from + new.len();
         self.move_tail(to, end);
         let entries = &mut self.entries[..];
         copy_few(new, &mut entries[from..end]);
-        let own = &mut self.heads[..];
-        copy_few(heads, &mut own[from..end]);
+        if let Some(heads) = heads {
+            let own = &mut self.heads[..];
+            copy_few(heads, &mut own[from..end]);
+        }
     }
 
     // Appends entries of another node, with their heads.

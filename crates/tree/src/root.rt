@@ -166,7 +166,7 @@ fn grow<P: Bound, const N: usize>(
         None }
 {
     let mut node = Node::of(entry_for(nodes, root.slot));
-    node.splice(1, 1, &[entry_for(nodes, added)], &[0]);
+    node.splice(1, 1, &[entry_for(nodes, added)], None);
     node.compute_heads(bound);
     Root {
         slot: place(nodes, node),

@@ -12,7 +12,7 @@ ghost use Rattle.tree.specs.Tree.{ended_by};
 use crate::bound::Bound;
 use crate::children::split;
 use crate::entry::Entry;
-use crate::node::Node;
+use crate::node::{Node, both, heads_for};
 use crate::overwrite::Overwrite;
 use crate::tree::item;
 use arena::{Arena, Slot};
@@ -74,15 +74,14 @@ pub fn write_run<P: Bound, const N: usize>(
         &entries[..]
     };
     // The keys of both entries have the bytes of the targets, and so their heads.
-    let heads = [run.begin_head.unwrap_or(0), run.end_head.unwrap_or(0)];
-    let heads = &heads[..entries.len()];
-    let have_prefix = run.begin_head.is_some() && run.end_head.is_some();
+    let heads = both(run.begin_head, run.end_head);
+    let heads = heads_for(&heads, entries.len());
     let (begin, end) = (run.begin, run.end);
     if begin + entries.len() > N - (nodes.header_ref(slot).len() - end) {
-        return Some(split(nodes, slot, begin, end, entries, heads, have_prefix, new.to));
+        return Some(split(nodes, slot, begin, end, entries, heads, new.to));
     }
     nodes
         .header_mut(slot)
-        .splice_with_heads(begin, end, entries, heads, have_prefix, new.to);
+        .splice_with_heads(begin, end, entries, heads, new.to);
     None
 }

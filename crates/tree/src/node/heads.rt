@@ -3,11 +3,12 @@
 
 ghost use Rattle.std.specs.Prelude.{◌≡◌, ◌≢◌, ◌<◌, ◌≤◌, ◌+◌, ◌-◌, ◌*◌, ◌++◌, ℕ, List, [], length};
 ghost use Rattle.std.specs.Prelude.{take, drop, slice_index, slice_set, Some, IfSome, IsTrue};
+ghost use Rattle.std.specs.Prelude.{option_map};
 ghost use Rattle.std.specs.Int.{w32, to_be_bytes};
 ghost use Rattle.std.specs.List.{All, Contains};
 ghost use Rattle.tree.specs.Heads.{HasPrefix, AreHeads, IsHeadBeside, IsKnown, Begins};
 ghost use Rattle.tree.specs.Node.{entries_of, key_heads_of, keys_of};
-ghost use Rattle.tree.specs.Splice.{AreBothHeaded, AreHalfFull, CanSplice};
+ghost use Rattle.tree.specs.Splice.{AreBothHeaded, AreHalfFull, CanSplice, both_of};
 
 use super::Node;
 use crate::bound::Bound;
@@ -86,27 +87,25 @@ impl<const N: usize> Node<N> {
         self.heads[index] = bound.head_of(entry.key, self.prefix_len());
     }
 
-    /// Replaces the entries from one index up to another by these. `have_prefix` says that their
-    /// keys begin as all others do, and that these are their heads. Else all heads are computed
-    /// anew.
+    /// Replaces the entries from one index up to another by these. The heads are those of their
+    /// keys, which begin as all others do. If they are missing, all heads are computed anew.
     pub fn splice_with_heads<P: Bound>(
         &mut self,
         from: usize,
         to: usize,
         new: &[Entry],
-        heads: &[u32],
-        have_prefix: bool,
+        heads: Option<&[u32]>,
         bound: &P,
     )
-        requires can_splice { CanSplice (P.bytes bound.now) self.old from to new.now heads.now
-            have_prefix }
+        requires can_splice { CanSplice (P.bytes bound.now) self.old from to new.now
+            (option_map (λ h. h.now) heads) }
         requires room { from + length new.now + (length (entries_of self.old) - to) ≤ N }
         ensures entries { entries_of self.new
             ≡ take from (entries_of self.old) ++ (new.now ++ drop to (entries_of self.old)) }
         ensures headed { AreHeads (P.bytes bound.now) (key_heads_of self.new) }
     {
         self.splice(from, to, new, heads);
-        if !have_prefix {
+        if heads.is_none() {
             self.compute_heads(bound);
         }
     }
@@ -118,12 +117,11 @@ impl<const N: usize> Node<N> {
         from: usize,
         to: usize,
         new: &[Entry],
-        heads: &[u32],
-        have_prefix: bool,
+        heads: Option<&[u32]>,
         bound: &P,
     ) -> Node<N>
-        requires can_splice { CanSplice (P.bytes bound.now) self.old from to new.now heads.now
-            have_prefix }
+        requires can_splice { CanSplice (P.bytes bound.now) self.old from to new.now
+            (option_map (λ h. h.now) heads) }
         requires few_new { 2 * length new.now ≤ N }
         requires many { N < from + length new.now + (length (entries_of self.old) - to) }
         ensures entries { entries_of self.new ++ entries_of result
@@ -135,11 +133,11 @@ impl<const N: usize> Node<N> {
         if from + new.len() <= N {
             self.splice(from, to, new, heads);
         } else {
-            self.splice(from, to, &[], &[]);
+            self.splice(from, to, &[], Some(&[]));
             right.splice(0, 0, new, heads);
         }
         self.redistribute(&mut right);
-        if have_prefix {
+        if heads.is_some() {
             self.lengthen_prefix(bound);
             right.lengthen_prefix(bound);
         } else {
@@ -164,7 +162,7 @@ impl<const N: usize> Node<N> {
             return;
         };
         let have_prefix = self.prefix_len == other.prefix_len && self.begins(first.key, bound);
-        self.splice(index, index, other.entries(), other.heads());
+        self.splice(index, index, other.entries(), Some(other.heads()));
         if !have_prefix {
             return self.compute_heads(bound);
         }
@@ -236,6 +234,27 @@ impl<const N: usize> Node<N> {
             (Some(first), Some(last)) => same_head_bytes(*first, *last) >= NARROW,
             _ => false,
         }
+    }
+}
+
+/// Returns the heads of two keys, if both are known.
+pub fn both(first: Option<u32>, second: Option<u32>) -> Option<[u32; 2]>
+    ensures both { result ≡ both_of first second }
+{
+    match (first, second) {
+        (Some(first), Some(second)) => Some([first, second]),
+        _ => None,
+    }
+}
+
+/// Returns as many of two heads, if they are known, as there are keys.
+pub fn heads_for(both: &Option<[u32; 2]>, count: usize) -> Option<&[u32]>
+    requires few { count ≤ 2 }
+    ensures heads { option_map (λ h. h.now) result ≡ option_map (λ h. take count h) both.now }
+{
+    match both {
+        Some(heads) => Some(&heads[..count]),
+        None => None,
     }
 }
 
