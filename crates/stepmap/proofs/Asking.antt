@@ -9,33 +9,24 @@ use Rattle.tree.specs.Tree.{CanSearchItems, Items}
 use Rattle.tree.specs.declared.question.Question.{Question}
 use Rattle.stepmap.specs.Asking.{Exceeds, IsAt, AsksFor}
 use Rattle.stepmap.specs.Boundary.{AreBoundaries}
-use Rattle.stepmap.specs.KeyBound.{slot_is_below}
+use Rattle.tree.specs.KeyBound.{below_of, slot_is_below}
 use Rattle.stepmap.specs.Stored.{boundaries_of, AreIndexed}
-use Rattle.stepmap.specs.contracts.key_bound.KeyBoundBound.TheImpl.{ghosts}
-use Rattle.stepmap.specs.declared.key_bound.KeyBound.{KeyBound}
+use Rattle.tree.specs.declared.key_bound.KeyBound.{KeyBound}
 use Rattle.stepmap.proofs.Partitioning.{stored_partitioned}
 use Rattle.stepmap.proofs.LastFound.{some_is_below}
 use Rattle.stepmap.proofs.LastAndInside.{above_told}
 
--- what the tree is asked between two bounds
-abbrev pub BoundQuestion : Type 0
-BoundQuestion = Question KeyBound ghosts
-
 -- a question is that for a range and a version that the function is asked
-abbrev pub Asks : Arena (Unit {0}) → Range × ℤ → BoundQuestion → Type 0
+abbrev pub Asks : Arena (Unit {0}) → Range × ℤ → Question → Type 0
 Asks keys a q = AsksFor keys a.0 q.from q.to × (q.version ≡ a.1)
-
--- whether the key of a slot comes before the bound
-abbrev pub is_below : KeyBound → ℕ → Bool
-is_below bound = slot_is_below bound.keys.now bound.up_to bound.key.now
 
 -- an item is above the number, among those that are looked at between two bounds
 abbrev pub IsToldAbove : Items → (ℕ → Bool) → (ℕ → Bool) → ℤ → Bool → Type 0
 IsToldAbove tree from to s above = IsTrue above ↔ Any (λ (x : Item). s <ℤ x.version) (from_last from (Some to) tree.items)
 
 -- the tree answers the question so
-abbrev pub Told : Items → BoundQuestion → Bool → Type 0
-Told tree q above = IsToldAbove tree (is_below q.from) (is_below q.to) q.version above
+abbrev pub Told : Items → Question → Bool → Type 0
+Told tree q above = IsToldAbove tree (below_of q.from) (below_of q.to) q.version above
 
 -- what is said of the query at a place gives more of it
 pub query_gives : {A : Type 0} (o : Option A) (P R : A → Type 0) → ((a : A) → P a → R a) → IsSomeAnd o P → IsSomeAnd o R
@@ -54,14 +45,14 @@ module _ (keys : Arena (Unit {0})) (tree : Items) (indexed : AreIndexed keys tre
       record { partitioned = (stored_partitioned keys tree indexed.stored up_to key).partitioned; headed = indexed.headed }
 
   pub can_search_at : (up_to : Bool) (key : List ℕ) (bound : KeyBound) → IsAt keys up_to key bound
-      → CanSearchItems (is_below bound) (key_at bound.keys.now) tree
+      → CanSearchItems (below_of bound) (key_at bound.keys.now) tree
   can_search_at up_to key bound at = rw (at.arena, at.side) (can_search up_to bound.key.now)
 
-  pub some_pass : (key : List ℕ) (bound : KeyBound) → IsAt keys true key bound → items_below (is_below bound) tree.items ≢ []
+  pub some_pass : (key : List ℕ) (bound : KeyBound) → IsAt keys true key bound → items_below (below_of bound) tree.items ≢ []
   some_pass key bound at = rw (at.arena, at.side) (some_is_below keys tree indexed.stored bound.key.now)
 
   -- its answer is that of the function
-  pub told_above : AreBoundaries (boundaries_of keys tree.items) → (a : Range × ℤ) (q : BoundQuestion) (above : Bool)
+  pub told_above : AreBoundaries (boundaries_of keys tree.items) → (a : Range × ℤ) (q : Question) (above : Bool)
       → Asks keys a q → Told tree q above → IsTrue above ↔ Exceeds (boundaries_of keys tree.items) a
   told_above are a q above asks told =
       let begin = asks.0.begin in

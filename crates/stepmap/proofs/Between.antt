@@ -15,7 +15,7 @@ use Rattle.keys.proofs.callers.KeyOrder.{at_most_before, before_at_most_same, be
 use Rattle.keys.proofs.callers.Booleans.{true_or_false}
 use Rattle.stepmap.specs.Boundary.{Boundary, AreBoundaries, AreInOrder, value_at, last_version, below, from_on}
 use Rattle.stepmap.proofs.Indexes.{up_to, after}
-use Rattle.stepmap.specs.KeyBound.{is_below_at, slot_is_below}
+use Rattle.tree.specs.KeyBound.{is_below_at, slot_is_below}
 use Rattle.stepmap.specs.Stored.{boundary_of, boundaries_of, IsStored}
 use Rattle.stepmap.proofs.Order.{rising_in_order, rising_filter}
 use Rattle.stepmap.proofs.Looking.{not_not}

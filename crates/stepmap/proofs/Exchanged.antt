@@ -13,7 +13,7 @@ use Rattle.tree.specs.Tree.{Items, tree_heads, KnowItems}
 use Rattle.tree.proofs.callers.Partitions.{All-front, All-back}
 use Rattle.tree.proofs.callers.Times.{times, once_cases, once_if_distinct, distinct_if_once, none_or_some}
 use Rattle.stepmap.specs.Boundary.{Boundary, AreInOrder}
-use Rattle.stepmap.specs.KeyBound.{is_below_at, slot_is_below}
+use Rattle.tree.specs.KeyBound.{is_below_at, slot_is_below}
 use Rattle.stepmap.specs.Stored.{bytes_at, boundary_of, boundaries_of, IsStored}
 use Rattle.stepmap.proofs.Partitioning.{filtered, stored_partitioned, slot_is_below_live}
 use Rattle.stepmap.proofs.Indexed.{headed_keys}

@@ -13,7 +13,7 @@ use Rattle.keys.specs.Key.{IsBytes}
 use Rattle.keys.specs.Range.{Holds, IsEmpty}
 use Rattle.keys.specs.declared.range.Range.{Range}
 use Rattle.stepmap.specs.Boundary.{Boundary, AreBoundaries, value_at}
-use Rattle.stepmap.specs.KeyBound.{slot_is_below}
+use Rattle.tree.specs.KeyBound.{slot_is_below}
 use Rattle.stepmap.specs.Stored.{boundary_of, boundaries_of, IsStored}
 use Rattle.stepmap.proofs.Between.{nested, between_inside, above_by_begin, above_by_inside, inside_if_above}
 use Rattle.stepmap.proofs.Partitioning.{stored_partitioned}

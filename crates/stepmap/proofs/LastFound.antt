@@ -34,7 +34,7 @@ use Rattle.keys.proofs.callers.KeyOrder.{not_before_itself}
 use Rattle.keys.proofs.callers.Booleans.{not_both_ways}
 use Rattle.stepmap.specs.Boundary.{Boundary, AreInOrder, value_at, last_version}
 use Rattle.stepmap.proofs.Indexes.{up_to, after}
-use Rattle.stepmap.specs.KeyBound.{is_below_at, slot_is_below}
+use Rattle.tree.specs.KeyBound.{is_below_at, slot_is_below}
 use Rattle.stepmap.specs.Stored.{boundary_of, boundaries_of, IsStored}
 use Rattle.keys.proofs.callers.KeyOrder.{not_before_if}
 use Rattle.stepmap.proofs.Order.{Rising, rising_in_order, rise_middle}

@@ -16,7 +16,7 @@ use Rattle.tree.specs.Overwrite.{Overwrites, OverwritesWhole, OverwritesPart}
 use Rattle.tree.specs.Path.{items_below, behind, between}
 use Rattle.tree.specs.Tree.{Items, IsLast, ended_by, tree_heads, KnowItems}
 use Rattle.stepmap.specs.Boundary.{Boundary, AreBoundaries, AreInOrder, below, from_on, value_at}
-use Rattle.stepmap.specs.KeyBound.{slot_is_below}
+use Rattle.tree.specs.KeyBound.{slot_is_below}
 use Rattle.stepmap.specs.Stored.{boundary_of, boundaries_of, IsStored, AreIndexed}
 use Rattle.stepmap.specs.Writing.{closed_at, written_to}
 use Rattle.stepmap.proofs.Between.{nested}

@@ -11,7 +11,7 @@ use Rattle.tree.specs.Tree.{Items, IsLast}
 use Rattle.keys.specs.Key.{is_before}
 use Rattle.keys.proofs.callers.Booleans.{true_or_false}
 use Rattle.stepmap.specs.Boundary.{Boundary, AreInOrder, last_version}
-use Rattle.stepmap.specs.KeyBound.{is_below_at, slot_is_below}
+use Rattle.tree.specs.KeyBound.{is_below_at, slot_is_below}
 use Rattle.stepmap.specs.Stored.{bytes_at, boundary_of, boundaries_of, IsStored, first_key}
 use Rattle.stepmap.specs.Sweeping.{is_left, left_from, passed_to}
 use Rattle.stepmap.proofs.Order.{not_before_empty}

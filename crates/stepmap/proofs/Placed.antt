@@ -14,7 +14,7 @@ use Rattle.tree.specs.Path.{IsPartitioned}
 use Rattle.tree.specs.Tree.{Items}
 use Rattle.tree.proofs.callers.Times.{once_cases, distinct_if_once}
 use Rattle.stepmap.specs.Boundary.{AreInOrder}
-use Rattle.stepmap.specs.KeyBound.{is_below_at, slot_is_below}
+use Rattle.tree.specs.KeyBound.{is_below_at, slot_is_below}
 use Rattle.stepmap.specs.Stored.{bytes_at, boundary_of, boundaries_of, IsStored}
 
 pub none_is_not_live : {X : Type 0} (o : Option X) → o ≡ None → IsSome o → ⊥

@@ -10,7 +10,7 @@ use Rattle.keys.specs.Key.{is_before, IsBefore, IsAtMost}
 use Rattle.keys.specs.Range.{Holds, IsSingle}
 use Rattle.keys.specs.declared.range.Range.{Range}
 use Rattle.keys.proofs.callers.KeyOrder.{not_both, at_most_itself, before_at_most_same, before_or_at_most}
-use Rattle.stepmap.specs.KeyBound.{is_below_at, slot_is_below}
+use Rattle.tree.specs.KeyBound.{is_below_at, slot_is_below}
 
 -- the lesser first byte comes first
 before_by_first : (x y : ℕ) (a b : List ℕ) → x < y → IsBefore (x ∷ a) (y ∷ b)

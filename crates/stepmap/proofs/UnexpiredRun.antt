@@ -18,7 +18,7 @@ use Rattle.tree.specs.Expire.{RemovesExpired}
 use Rattle.tree.specs.Tree.{Items, unexpired as unexpired_items, tree_heads, KnowItems}
 use Rattle.tree.proofs.callers.Partitions.{All-back}
 use Rattle.stepmap.specs.Boundary.{Boundary, AreInOrder, RiseFrom, last_version}
-use Rattle.stepmap.specs.KeyBound.{slot_is_below}
+use Rattle.tree.specs.KeyBound.{slot_is_below}
 use Rattle.stepmap.specs.Stored.{bytes_at, boundary_of, boundaries_of, first_key as first_boundary, IsStored, AreIndexed}
 use Rattle.stepmap.specs.Sweeping.{is_left, left_from, passed_to, unexpired}
 use Rattle.stepmap.proofs.Partitioning.{stored_partitioned}

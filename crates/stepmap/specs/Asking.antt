@@ -5,7 +5,7 @@ use Rattle.keys.specs.Key.{IsBytes}
 use Rattle.keys.specs.Range.{Holds, IsEmpty}
 use Rattle.keys.specs.declared.range.Range.{Range}
 use Rattle.stepmap.specs.Boundary.{Boundary, value_at}
-use Rattle.stepmap.specs.declared.key_bound.KeyBound.{KeyBound}
+use Rattle.tree.specs.declared.key_bound.KeyBound.{KeyBound}
 
 -- a question is a range and a version: whether the function is above the version at some key of the range
 abbrev pub Exceeds : List Boundary → Range × ℤ → Type 0

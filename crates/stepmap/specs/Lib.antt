@@ -9,7 +9,6 @@ pub mod Rooted
 pub mod Counting
 pub mod Uniting
 pub mod Laws
-pub mod KeyBound
 pub mod Stored
 pub mod Asking
 pub mod Filtering

@@ -1,9 +1,10 @@
 -- How boundaries are stored: their versions in a tree of items, and their keys in an arena. This project's own.
-use Rattle.std.specs.Prelude.{◌≡◌, ℕ, List, [], ◌∷◌, length, map, nat_eq, slice_index, unwrap_or}
+use Rattle.std.specs.Prelude.{◌≡◌, ℕ, List, [], ◌∷◌, length, map, nat_eq, slice_index}
 use Rattle.std.specs.List.{All, IsDistinct, flat_map}
 use Rattle.std.specs.FinMap as finite
 use Rattle.arena.specs.Arena.{Arena, IsLive, key_at}
 use Rattle.tree.specs.Heads.{AllAreHeads}
+pub use Rattle.tree.specs.KeyBound.{bytes_at}
 use Rattle.tree.specs.Item.{Item}
 use Rattle.tree.specs.Tree.{Items, tree_heads}
 use Rattle.stepmap.specs.Boundary.{Boundary, AreInOrder}
@@ -31,10 +32,6 @@ first_key [] = []
 first_key (b ∷ bs) = b.key
 
 module _ {H : Type 0} where
-  -- the bytes of the key of a slot
-  abbrev pub bytes_at : Arena H → ℕ → List ℕ
-  bytes_at keys slot = unwrap_or (key_at keys slot) []
-
   abbrev pub boundary_of : Arena H → Item → Boundary
   boundary_of keys x = record { key = bytes_at keys x.key; version = x.version }
 

@@ -12,10 +12,9 @@ ghost use Rattle.stepmap.specs.Stored.{spare_in, each_length};
 ghost use Rattle.stepmap.specs.Writing.{written, written_to};
 ghost use Rattle.tree.specs.declared.question.TheConstants.{SIDE};
 
-use crate::key_bound::KeyBound;
 use crate::key_lengths::{KeyLengths, put_each_length};
 use crate::query::QueryList;
-use crate::questions::{BoundQuestion, no_question, put_questions};
+use crate::questions::{no_question, put_questions};
 use crate::release::release_run;
 use crate::single::keys_prefix_len;
 use crate::step_map::MAX_LIMIT;
@@ -25,7 +24,7 @@ use keys::{HashedRange, Range};
 use std::alloc::{AllocError, Global};
 use std::array;
 use std::marker::Model;
-use tree::{Entry, Overwrite, SIDE, Tree, Written, item};
+use tree::{Entry, KeyBound, Overwrite, Question, SIDE, Tree, Written, item};
 
 // The boundaries of a step function, in the order of their keys, the empty key first. Contracts see
 // them, and for how many more there is memory.
@@ -135,7 +134,7 @@ impl<const N: usize> Boundaries<N> {
         ensures above { AllZip (λ place above. IsSomeAnd (slice_get (L.queries queries.now) place)
             (λ q. IsTrue above ↔ Exceeds self.now.boundaries q)) places.now result.items }
     {
-        let mut questions: [BoundQuestion<'a>; SIDE] = array::from_fn(|_| no_question(&self.keys));
+        let mut questions: [Question<'a>; SIDE] = array::from_fn(|_| no_question(&self.keys));
         put_questions(&self.keys, queries, places, &mut questions);
         self.tree.exceeds_each(&questions[..places.len()])
     }
@@ -225,9 +224,9 @@ impl<const N: usize> Boundaries<N> {
             up_to: true,
         };
         let new = Overwrite {
-            from: &begin,
-            to: &end,
-            past: &past,
+            from: begin,
+            to: end,
+            past,
             targets_prefix_len: keys_prefix_len(range),
             first: item(begin_key, version),
             second: end_key,

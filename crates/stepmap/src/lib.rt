@@ -17,7 +17,6 @@
 mod boundaries;
 mod bounding;
 mod error;
-mod key_bound;
 mod key_lengths;
 pub mod laws;
 mod left;

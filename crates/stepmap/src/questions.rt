@@ -5,18 +5,14 @@ ghost use Rattle.keys.specs.Hash.{IsHashOf};
 ghost use Rattle.keys.specs.Range.{IsEmpty};
 ghost use Rattle.stepmap.specs.Asking.{AsksFor};
 
-use crate::key_bound::KeyBound;
 use crate::query::{QueryList, RangeQuery};
 use arena::Arena;
 use keys::common_prefix_len;
-use tree::Question;
-
-// What a tree of an arena's keys is asked.
-pub type BoundQuestion<'a> = Question<KeyBound<'a>>;
+use tree::{KeyBound, Question};
 
 // Returns the question to a tree of this arena's keys for the query, whose range isn't empty. It
 // has a hash if that holds one key alone.
-pub fn question<'a>(keys: &'a Arena<()>, query: RangeQuery<'a>) -> BoundQuestion<'a>
+pub fn question<'a>(keys: &'a Arena<()>, query: RangeQuery<'a>) -> Question<'a>
     requires filled { ¬ IsEmpty query.range }
     requires hash { IsHashOf query.range query.hash }
     ensures asks { AsksFor keys.now query.entry.range result.from result.to }
@@ -49,7 +45,7 @@ pub fn question<'a>(keys: &'a Arena<()>, query: RangeQuery<'a>) -> BoundQuestion
 }
 
 // Returns a question that stands where none is asked.
-pub fn no_question(keys: &Arena<()>) -> BoundQuestion<'_> {
+pub fn no_question(keys: &Arena<()>) -> Question<'_> {
     Question {
         from: KeyBound {
             keys,
@@ -73,7 +69,7 @@ pub fn put_questions<'a, L: QueryList>(
     keys: &'a Arena<()>,
     queries: &'a L,
     places: &[usize],
-    questions: &mut [BoundQuestion<'a>],
+    questions: &mut [Question<'a>],
 )
     requires filled { All (λ place. IsSomeAnd (slice_get (L.queries queries.now) place)
         (λ q. ¬ IsEmpty q.0)) places.now }

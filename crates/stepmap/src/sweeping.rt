@@ -10,9 +10,9 @@ ghost use Rattle.stepmap.specs.Stored.{spare_in, first_key, bytes_at};
 ghost use Rattle.stepmap.specs.Sweeping.{left_from, passed_to, swept, unexpired};
 
 use crate::boundaries::Boundaries;
-use crate::key_bound::KeyBound;
 use crate::release::release_run;
 use arena::{Arena, Slot};
+use tree::KeyBound;
 
 // What was looked at of boundaries.
 #[derive(Drop)]

@@ -24,6 +24,7 @@ pub mod Headed
 pub mod InTurn
 pub mod Inserting
 pub mod Keys
+pub mod KeyBounds
 pub mod KnownItems
 pub mod KnownKeys
 pub mod LastRun

@@ -1,6 +1,7 @@
 -- In the order in which one reads them aloud.
 pub mod Item
 pub mod Heads
+pub mod KeyBound
 pub mod Node
 pub mod Splice
 pub mod Subtree

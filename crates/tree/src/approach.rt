@@ -5,6 +5,7 @@ ghost use Rattle.std.specs.Prelude.{◌≡◌, ◌≤◌, ◌<◌, ◌+◌, true
 ghost use Rattle.std.specs.Prelude.{IsTrue};
 ghost use Rattle.tree.specs.Finding.{HasHead, IsSearched};
 ghost use Rattle.tree.specs.Heads.{IsCommonPrefixAt};
+ghost use Rattle.tree.specs.KeyBound.{below_of, bytes_of, target_of};
 ghost use Rattle.tree.specs.Node.{entries_of, key_heads_of};
 ghost use Rattle.tree.specs.Path.{index_in};
 ghost use Rattle.tree.specs.Question.{IsApproach, IsAsked};
@@ -12,7 +13,7 @@ ghost use Rattle.tree.specs.Subtree.{entries_at};
 ghost use Rattle.tree.specs.Tree.{least_of};
 ghost use Rattle.tree.specs.declared.entry.Entry.{Entry};
 
-use crate::bound::Bound;
+use crate::key_bound::KeyBound;
 use crate::descent::common_prefix_len_at;
 use crate::node::Node;
 use crate::question::Question;
@@ -45,23 +46,23 @@ pub enum Approach {
 // Goes down a subtree to the leaf that answers a question. `common_prefix_len` is how many bytes
 // the first key of the subtree and the target of the first bound begin with in common. `clear` says
 // that the items after the subtree don't come before the second bound.
-fn descend<P: Bound, const N: usize>(
+fn descend<const N: usize>(
     nodes: &Arena<Node<N>>,
     slot: Slot,
     height: usize,
-    question: &Question<P>,
+    question: &Question<'_>,
     common_prefix_len: usize,
     clear: bool,
 ) -> Approach
-    requires asked { IsAsked nodes.now (least_of N) height slot (P.bytes question.now.from)
-        (P.below question.now.from)
-        (P.below question.now.to) }
-    requires known { IsCommonPrefixAt (P.bytes question.now.from) (P.below question.now.from)
-        (P.target question.now.from) (Some common_prefix_len)
+    requires asked { IsAsked nodes.now (least_of N) height slot (bytes_of question.now.from)
+        (below_of question.now.from)
+        (below_of question.now.to) }
+    requires known { IsCommonPrefixAt (bytes_of question.now.from) (below_of question.now.from)
+        (target_of question.now.from) (Some common_prefix_len)
         (entries_at nodes.now slot) 0 }
-    ensures approach { IsApproach nodes.now height slot (P.bytes question.now.from)
-        (P.below question.now.from)
-        (P.below question.now.to) (P.target question.now.from) question.now.version clear result }
+    ensures approach { IsApproach nodes.now height slot (bytes_of question.now.from)
+        (below_of question.now.from)
+        (below_of question.now.to) (target_of question.now.from) question.now.version clear result }
 {
     if height == 0 {
         return Approach::Leaf(Near {
@@ -113,23 +114,23 @@ fn descend<P: Bound, const N: usize>(
 // that target, if it is known to begin as all keys do. `clear` says of the items after the node's
 // what this says of those after the child. Unless `look` is set, the next entry isn't looked at,
 // and may be before the second bound.
-fn is_clear<P: Bound, const N: usize>(
+fn is_clear<const N: usize>(
     node: &Node<N>,
     index: usize,
-    question: &Question<P>,
+    question: &Question<'_>,
     common_prefix_len: usize,
     from_head: Option<u32>,
     clear: bool,
     look: bool,
 ) -> bool
-    requires searched { IsSearched (P.bytes question.now.from) (P.below question.now.from)
-        (P.target question.now.from) node.now
+    requires searched { IsSearched (bytes_of question.now.from) (below_of question.now.from)
+        (target_of question.now.from) node.now
         common_prefix_len from_head }
     requires within { index < length (entries_of node.now) }
-    requires last_below { index ≡ index_in (P.below question.now.from) (entries_of node.now) }
+    requires last_below { index ≡ index_in (below_of question.now.from) (entries_of node.now) }
     ensures next { IsTrue result → (e : Entry)
         → slice_get (entries_of node.now) (index + 1) ≡ Some e
-        → P.below question.now.to e.key ≡ false }
+        → below_of question.now.to e.key ≡ false }
     ensures last { IsTrue result → length (entries_of node.now) ≤ index + 1 → IsTrue clear }
 {
     let next = index + 1;
@@ -146,16 +147,16 @@ fn is_clear<P: Bound, const N: usize>(
 
 /// Returns the head of the target of the second bound, if it is known to begin as all keys of the
 /// node do. `from_head` is that of the first one's.
-pub fn end_head<P: Bound, const N: usize>(
+pub fn end_head<const N: usize>(
     node: &Node<N>,
-    question: &Question<P>,
+    question: &Question<'_>,
     common_prefix_len: usize,
     from_head: Option<u32>,
 ) -> Option<u32>
-    requires searched { IsSearched (P.bytes question.now.from) (P.below question.now.from)
-        (P.target question.now.from) node.now
+    requires searched { IsSearched (bytes_of question.now.from) (below_of question.now.from)
+        (target_of question.now.from) node.now
         common_prefix_len from_head }
-    ensures head { HasHead (P.bytes question.now.to) (P.target question.now.to) result
+    ensures head { HasHead (bytes_of question.now.to) (target_of question.now.to) result
         (key_heads_of node.now) }
 {
     let targets_prefix_len = question.targets_prefix_len;
@@ -168,17 +169,17 @@ pub fn end_head<P: Bound, const N: usize>(
 }
 
 /// Goes down a tree from its root, as `descend` does.
-pub fn descend_from<P: Bound, const N: usize>(
+pub fn descend_from<const N: usize>(
     nodes: &Arena<Node<N>>,
     root: Root,
-    question: &Question<P>,
+    question: &Question<'_>,
 ) -> Approach
     requires asked { IsAsked nodes.now (least_of N) root.height root.slot
-        (P.bytes question.now.from)
-        (P.below question.now.from) (P.below question.now.to) }
-    ensures approach { IsApproach nodes.now root.height root.slot (P.bytes question.now.from)
-        (P.below question.now.from)
-        (P.below question.now.to) (P.target question.now.from) question.now.version true result }
+        (bytes_of question.now.from)
+        (below_of question.now.from) (below_of question.now.to) }
+    ensures approach { IsApproach nodes.now root.height root.slot (bytes_of question.now.from)
+        (below_of question.now.from)
+        (below_of question.now.to) (target_of question.now.from) question.now.version true result }
 {
     let Root { slot, height } = root;
     let common_prefix_len = common_prefix_len_at(nodes, slot, &question.from).unwrap_or(0);

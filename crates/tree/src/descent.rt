@@ -3,13 +3,14 @@
 ghost use Rattle.std.specs.Prelude.{◌≡◌, ◌≤◌, length};
 ghost use Rattle.arena.specs.Arena.{IsLive};
 ghost use Rattle.tree.specs.Heads.{AllAreHeads, IsCommonPrefixAt};
+ghost use Rattle.tree.specs.KeyBound.{below_of, bytes_of, target_of};
 ghost use Rattle.tree.specs.Node.{all_heads_of};
 ghost use Rattle.tree.specs.Reached.{CanReach};
 ghost use Rattle.tree.specs.Subtree.{entries_at};
 ghost use Rattle.tree.specs.Tree.{least_of};
 ghost use Rattle.tree.specs.Path.{leaf_in, behind_leaf, first_key};
 
-use crate::bound::Bound;
+use crate::key_bound::KeyBound;
 use crate::entry::key_at;
 use crate::node::Node;
 use arena::{Arena, Slot};
@@ -28,15 +29,15 @@ pub struct Reached {
 /// Returns how many bytes the first key of a node and the target begin with in common, or none if
 /// that key isn't below the bound.
 #[inline(always)]
-pub fn common_prefix_len_at<P: Bound, const N: usize>(
+pub fn common_prefix_len_at<const N: usize>(
     nodes: &Arena<Node<N>>,
     slot: Slot,
-    bound: &P,
+    bound: &KeyBound<'_>,
 ) -> Option<usize>
     requires live { IsLive nodes.now slot }
     requires some { 1 ≤ length (entries_at nodes.now slot) }
-    requires headed { AllAreHeads (P.bytes bound.now) (all_heads_of nodes.now) }
-    ensures known { IsCommonPrefixAt (P.bytes bound.now) (P.below bound.now) (P.target bound.now)
+    requires headed { AllAreHeads (bytes_of bound.now) (all_heads_of nodes.now) }
+    ensures known { IsCommonPrefixAt (bytes_of bound.now) (below_of bound.now) (target_of bound.now)
         result (entries_at nodes.now slot) 0 }
 {
     nodes.header_ref(slot).first_common_prefix_len(bound)
@@ -46,25 +47,25 @@ pub fn common_prefix_len_at<P: Bound, const N: usize>(
 /// `common_prefix_len` is how many bytes the first key of the subtree and the target begin with in
 /// common, or none if that key isn't below the bound. `behind` is the key of the first item after
 /// the subtree.
-pub fn find<P: Bound, const N: usize>(
+pub fn find<const N: usize>(
     nodes: &Arena<Node<N>>,
     slot: Slot,
     height: usize,
-    bound: &P,
+    bound: &KeyBound<'_>,
     common_prefix_len: Option<usize>,
     behind: Option<Slot>,
 ) -> Reached
-    requires can_reach { CanReach (P.bytes bound.now) (P.below bound.now) nodes.now (least_of N)
+    requires can_reach { CanReach (bytes_of bound.now) (below_of bound.now) nodes.now (least_of N)
         height slot }
-    requires known { IsCommonPrefixAt (P.bytes bound.now) (P.below bound.now) (P.target bound.now)
+    requires known { IsCommonPrefixAt (bytes_of bound.now) (below_of bound.now) (target_of bound.now)
         common_prefix_len (entries_at nodes.now slot) 0 }
-    ensures leaf { result.leaf ≡ leaf_in nodes.now height slot (P.below bound.now) }
-    ensures known { IsCommonPrefixAt (P.bytes bound.now) (P.below bound.now) (P.target bound.now)
+    ensures leaf { result.leaf ≡ leaf_in nodes.now height slot (below_of bound.now) }
+    ensures known { IsCommonPrefixAt (bytes_of bound.now) (below_of bound.now) (target_of bound.now)
         result.common_prefix_len
         (entries_at nodes.now result.leaf) 0 }
     ensures some { 1 ≤ length (entries_at nodes.now result.leaf) }
     ensures behind { result.behind
-        ≡ first_key behind (behind_leaf nodes.now height slot (P.below bound.now)) }
+        ≡ first_key behind (behind_leaf nodes.now height slot (below_of bound.now)) }
 {
     if height == 0 {
         return Reached {

@@ -7,9 +7,10 @@ ghost use Rattle.tree.specs.Heads.{AreHeads, KeyBytes};
 ghost use Rattle.tree.specs.Node.{entries_of, key_heads_of};
 ghost use Rattle.tree.specs.Path.{first_key};
 ghost use Rattle.tree.specs.Expire.{GivesUnexpired};
+ghost use Rattle.tree.specs.KeyBound.{below_of};
 ghost use Rattle.tree.specs.Tree.{IsLast, unexpired, expired};
 
-use crate::bound::Bound;
+use crate::key_bound::KeyBound;
 use crate::entry::{Entry, key_at};
 use crate::node::Node;
 use crate::walk::{LeafChange, Outcome, Place};
@@ -30,8 +31,8 @@ pub struct Removal {
 /// A run of a leaf's items that begins with the last one below the bound, of which the expired ones
 /// are removed.
 #[derive(Debug, Drop)]
-pub struct Expiring<'a, P: Bound> {
-    pub bound: &'a P,
+pub struct Expiring<'a> {
+    pub bound: KeyBound<'a>,
     /// How many items are looked at, at most: at least one.
     pub count: usize,
     pub edge: i64,
@@ -42,18 +43,16 @@ pub struct Expiring<'a, P: Bound> {
     ghost some: { 1 ≤ count },
 }
 
-impl<'a, P: Bound, const N: usize> LeafChange<N> for Expiring<'a, P> {
-    type LeafBound = P;
-
-    ghost bound_of = { λ t. t.bound.now };
+impl<'a, const N: usize> LeafChange<N> for Expiring<'a> {
+    ghost bound_of = { λ t. t.bound };
 
     ghost wants = { λ t items. Unit {0} };
 
     ghost gives = { λ t done run is_first next was now.
-        GivesUnexpired (P.below t.bound.now) t.count t.edge t.before done.removal run next was now };
+        GivesUnexpired (below_of t.bound) t.count t.edge t.before done.removal run next was now };
 
-    fn leaf_bound(&self) -> &P {
-        self.bound
+    fn leaf_bound(&self) -> &KeyBound<'_> {
+        &self.bound
     }
 
     // A sweep goes from leaf to leaf.
@@ -69,7 +68,7 @@ impl<'a, P: Bound, const N: usize> LeafChange<N> for Expiring<'a, P> {
         taken: &mut ArrayVec<Entry, N>,
     ) -> Outcome {
         let leaf = nodes.header_ref(slot);
-        let below = leaf.lower_bound(self.bound, place.common_prefix_len);
+        let below = leaf.lower_bound(&self.bound, place.common_prefix_len);
         if below == 0 {
             return Outcome::Same;
         }
@@ -82,7 +81,7 @@ impl<'a, P: Bound, const N: usize> LeafChange<N> for Expiring<'a, P> {
         }
         let leaf = nodes.header_mut(slot);
         remove_expired(leaf, begin, end, edge, before, taken);
-        leaf.lengthen_prefix(self.bound);
+        leaf.lengthen_prefix(self.bound.keys);
         Outcome::Changed
     }
 

@@ -5,12 +5,13 @@ ghost use Rattle.std.specs.Prelude.{MatchOption};
 ghost use Rattle.std.specs.List.{Any};
 ghost use Rattle.tree.specs.Finding.{CanFind, IsLowerBound};
 ghost use Rattle.tree.specs.Item.{IsGreatest, IsGreatestWith, greater_of, version_of};
+ghost use Rattle.tree.specs.KeyBound.{below_of, bytes_of};
 ghost use Rattle.tree.specs.Path.{below_from, below_to, from_last};
 ghost use Rattle.tree.specs.Reached.{CanReach};
 ghost use Rattle.tree.specs.Subtree.{items_in, IsSubtree};
 ghost use Rattle.tree.specs.Tree.{least_of};
 
-use crate::bound::Bound;
+use crate::key_bound::KeyBound;
 use crate::entry::Entry;
 use crate::node::Node;
 use arena::{Arena, Slot};
@@ -19,24 +20,24 @@ use arena::{Arena, Slot};
 /// second bound, of those before the first one the last alone. If the first bound is missing, no
 /// item is before it; if the second one is, all are. Subtrees that have none above it are passed
 /// over.
-pub fn greatest<P: Bound, const N: usize>(
+pub fn greatest<const N: usize>(
     nodes: &Arena<Node<N>>,
     slot: Slot,
     height: usize,
-    from: Option<&P>,
-    to: Option<&P>,
+    from: Option<&KeyBound<'_>>,
+    to: Option<&KeyBound<'_>>,
     least: Option<i64>,
 ) -> Option<i64>
     requires subtree { IsSubtree nodes.now (least_of N) height slot }
-    requires from { IfSome from (λ p. CanReach (P.bytes p.now) (P.below p.now) nodes.now
+    requires from { IfSome from (λ p. CanReach (bytes_of p.now) (below_of p.now) nodes.now
         (least_of N) height slot) }
-    requires to { IfSome to (λ q. CanReach (P.bytes q.now) (P.below q.now) nodes.now (least_of N)
+    requires to { IfSome to (λ q. CanReach (bytes_of q.now) (below_of q.now) nodes.now (least_of N)
         height slot) }
-    requires nested { IfSome from (λ p. IfSome to (λ q. (key : ℕ) → P.below p.now key ≡ true
-        → P.below q.now key ≡ true)) }
+    requires nested { IfSome from (λ p. IfSome to (λ q. (key : ℕ) → below_of p.now key ≡ true
+        → below_of q.now key ≡ true)) }
     ensures greatest { IsGreatestWith least
-        (from_last (below_from (option_map (λ p. P.below p.now) from.entry))
-        (option_map (λ q. P.below q.now) to.entry) (items_in nodes.now height slot)) result }
+        (from_last (below_from (option_map (λ p. below_of p.now) from.entry))
+        (option_map (λ q. below_of q.now) to.entry) (items_in nodes.now height slot)) result }
 {
     let node = nodes.header_ref(slot);
     let begin = begin_of(node, from);
@@ -72,9 +73,9 @@ pub fn any_above(entries: &[Entry], version: i64) -> bool
 }
 
 // Returns how many of the entries of a node stand before the first bound: none where it is missing.
-fn begin_of<P: Bound, const N: usize>(node: &Node<N>, from: Option<&P>) -> usize
-    requires can_find { IfSome from (λ p. CanFind (P.bytes p.now) (P.below p.now) node.now) }
-    ensures count { IsLowerBound (below_from (option_map (λ p. P.below p.now) from.entry)) node.now
+fn begin_of<const N: usize>(node: &Node<N>, from: Option<&KeyBound<'_>>) -> usize
+    requires can_find { IfSome from (λ p. CanFind (bytes_of p.now) (below_of p.now) node.now) }
+    ensures count { IsLowerBound (below_from (option_map (λ p. below_of p.now) from.entry)) node.now
         result }
 {
     match from {
@@ -84,9 +85,9 @@ fn begin_of<P: Bound, const N: usize>(node: &Node<N>, from: Option<&P>) -> usize
 }
 
 // Returns how many of the entries of a node stand before the second bound: all where it is missing.
-fn end_of<P: Bound, const N: usize>(node: &Node<N>, to: Option<&P>) -> usize
-    requires can_find { IfSome to (λ q. CanFind (P.bytes q.now) (P.below q.now) node.now) }
-    ensures count { IsLowerBound (below_to (option_map (λ q. P.below q.now) to.entry)) node.now
+fn end_of<const N: usize>(node: &Node<N>, to: Option<&KeyBound<'_>>) -> usize
+    requires can_find { IfSome to (λ q. CanFind (bytes_of q.now) (below_of q.now) node.now) }
+    ensures count { IsLowerBound (below_to (option_map (λ q. below_of q.now) to.entry)) node.now
         result }
 {
     match to {

@@ -1,18 +1,18 @@
 //! A B+-tree of items in the order of their keys, each with a version.
 //!
-//! Keys are slots of another arena: a [`Bound`] alone reads their bytes. A search looks for it:
-//! items are below it, or they aren't. Nodes are records of an arena of their own, named by slots.
-//! All leaves are at one depth. An entry for a child has the first key and the greatest version of
-//! its subtree.
+//! Keys are records of another arena: a [`KeyBound`] alone reads their bytes. A search looks for
+//! it: items are below it, or they aren't. Nodes are records of an arena of their own, named by
+//! slots. All leaves are at one depth. An entry for a child has the first key and the greatest
+//! version of its subtree.
 #![tactic(auto)]
 
 mod approach;
-mod bound;
 mod children;
 mod descent;
 mod entry;
 mod expiring;
 mod greatest_version;
+mod key_bound;
 mod node;
 mod overwrite;
 mod question;
@@ -21,13 +21,14 @@ mod rebalance;
 mod remembered;
 mod root;
 mod run;
+mod stored_key;
 mod tree;
 mod walk;
 mod way;
 
-pub use bound::Bound;
 pub use entry::Entry;
 pub use expiring::Removal;
+pub use key_bound::KeyBound;
 pub use overwrite::{Overwrite, Written};
 pub use question::{Question, SIDE};
 pub use tree::{Tree, item};

@@ -3,9 +3,10 @@
 ghost use Rattle.std.specs.Prelude.{◌≡◌, ◌<◌, ◌-◌, ℕ, true, take, Some};
 ghost use Rattle.keys.specs.Key.{IsBytes};
 ghost use Rattle.tree.specs.Item.{item_of};
+ghost use Rattle.tree.specs.KeyBound.{below_of, bytes_of, target_of};
 ghost use Rattle.tree.specs.Overwrite.{GivesWritten, IsPartOfPartitioned, part_of_part, put_of};
 
-use crate::bound::Bound;
+use crate::key_bound::KeyBound;
 use crate::entry::Entry;
 use crate::node::Node;
 use crate::rebalance::least;
@@ -40,11 +41,11 @@ impl Written {
 
 /// What is written over a run of items: it stands between the first two bounds.
 #[derive(Debug, Drop)]
-pub struct Overwrite<'a, P: Bound> {
-    pub from: &'a P,
-    pub to: &'a P,
+pub struct Overwrite<'a> {
+    pub from: KeyBound<'a>,
+    pub to: KeyBound<'a>,
     /// Its target is that of the second bound, and an item of just this key is below it.
-    pub past: &'a P,
+    pub past: KeyBound<'a>,
     /// How many bytes the targets of the first two bounds begin with in common, or fewer.
     pub targets_prefix_len: usize,
     /// The entry that replaces the run.
@@ -54,40 +55,38 @@ pub struct Overwrite<'a, P: Bound> {
     /// The version of that entry. If it is missing, that of the last item before the second bound
     /// is taken.
     pub last: Option<i64>,
-    ghost nested: { (key : ℕ) → P.below from.now key ≡ true → P.below to.now key ≡ true },
-    ghost outer: { (key : ℕ) → P.below to.now key ≡ true → P.below past.now key ≡ true },
-    ghost bytes: { (key : ℕ) → P.bytes from.now key ≡ P.bytes to.now key },
-    ghost past_bytes: { (key : ℕ) → P.bytes past.now key ≡ P.bytes to.now key },
-    ghost common_prefix: { take targets_prefix_len (P.target from.now)
-        ≡ take targets_prefix_len (P.target to.now) },
-    ghost past_target: { P.target past.now ≡ P.target to.now },
-    ghost first_is: { P.bytes to.now first.key ≡ Some (P.target from.now) },
-    ghost second_is: { P.bytes to.now second ≡ Some (P.target to.now) },
-    ghost from_bytes: { IsBytes (P.target from.now) },
-    ghost to_bytes: { IsBytes (P.target to.now) },
+    ghost nested: { (key : ℕ) → below_of from key ≡ true → below_of to key ≡ true },
+    ghost outer: { (key : ℕ) → below_of to key ≡ true → below_of past key ≡ true },
+    ghost bytes: { (key : ℕ) → bytes_of from key ≡ bytes_of to key },
+    ghost past_bytes: { (key : ℕ) → bytes_of past key ≡ bytes_of to key },
+    ghost common_prefix: { take targets_prefix_len (target_of from)
+        ≡ take targets_prefix_len (target_of to) },
+    ghost past_target: { target_of past ≡ target_of to },
+    ghost first_is: { bytes_of to first.key ≡ Some (target_of from) },
+    ghost second_is: { bytes_of to second ≡ Some (target_of to) },
+    ghost from_bytes: { IsBytes (target_of from) },
+    ghost to_bytes: { IsBytes (target_of to) },
 }
 
 /// The writing over a run.
 #[derive(Debug, Drop)]
-pub struct Overwriting<'a, 'b, P: Bound> {
-    pub new: &'b Overwrite<'a, P>,
+pub struct Overwriting<'a, 'b> {
+    pub new: &'b Overwrite<'a>,
     /// How far it has come.
     pub written: Written,
 }
 
-impl<'a, 'b, P: Bound, const N: usize> LeafChange<N>
-    for Overwriting<'a, 'b, P> {
-    type LeafBound = P;
+impl<'a, 'b, const N: usize> LeafChange<N>
+    for Overwriting<'a, 'b> {
+    ghost bound_of = { λ o. o.new.now.to };
 
-    ghost bound_of = { λ o. o.new.now.to.now };
+    ghost wants = { λ o items. IsPartOfPartitioned (below_of o.new.now.from) items };
 
-    ghost wants = { λ o items. IsPartOfPartitioned (P.below o.new.now.from.now) items };
+    ghost gives = { λ o done. GivesWritten (below_of o.new.now.from) (below_of o.new.now.to)
+        (below_of o.new.now.past) (item_of o.new.now.first) o.new.now.second o.new.now.last done.written };
 
-    ghost gives = { λ o done. GivesWritten (P.below o.new.now.from.now) (P.below o.new.now.to.now)
-        (P.below o.new.now.past.now) (item_of o.new.now.first) o.new.now.second o.new.now.last done.written };
-
-    fn leaf_bound(&self) -> &P {
-        self.new.to
+    fn leaf_bound(&self) -> &KeyBound<'_> {
+        &self.new.to
     }
 
     // The next write may come to any later leaf.
@@ -105,15 +104,15 @@ impl<'a, 'b, P: Bound, const N: usize> LeafChange<N>
         let new = self.new;
         let leaf = nodes.header_ref(slot);
         let common_prefix_len = place.common_prefix_len.unwrap_or(0);
-        let to_head = leaf.head_for(new.to, common_prefix_len);
-        let end = leaf.lower_bound_with(new.to, place.common_prefix_len, to_head);
+        let to_head = leaf.head_for(&new.to, common_prefix_len);
+        let end = leaf.lower_bound_with(&new.to, place.common_prefix_len, to_head);
         let from_has_prefix = to_head.is_some() && leaf.prefix_len() <= new.targets_prefix_len;
         let head = leaf.head_given(
             from_has_prefix,
-            new.from,
+            &new.from,
             common_prefix_len.min(new.targets_prefix_len),
         );
-        let begin = leaf.lower_bound_back(end, new.from, head);
+        let begin = leaf.lower_bound_back(end, &new.from, head);
         put_taken(taken, &leaf.entries()[begin..end]);
         let last = leaf.entries()[..end]
             .last()
@@ -124,7 +123,7 @@ impl<'a, 'b, P: Bound, const N: usize> LeafChange<N>
             return Outcome::Changed;
         }
         let ended = if end < leaf.len() {
-            leaf.is_below_at(end, new.past, to_head)
+            leaf.is_below_at(end, &new.past, to_head)
         } else {
             place.behind.is_some_and(|key| new.past.is_below(key))
         };
@@ -150,5 +149,5 @@ impl<'a, 'b, P: Bound, const N: usize> LeafChange<N>
         })
     }
 
-    ghost part = { λ o. part_of_part (P.below o.new.now.from.now) };
+    ghost part = { λ o. part_of_part (below_of o.new.now.from) };
 }

@@ -7,6 +7,7 @@ ghost use Rattle.std.specs.Prelude.{IsTrue};
 ghost use Rattle.std.specs.List.{All, AllZip};
 ghost use Rattle.tree.specs.Finding.{IsLowerBound, IsHeadFor, IsSearched};
 ghost use Rattle.tree.specs.Heads.{AllAreHeads};
+ghost use Rattle.tree.specs.KeyBound.{below_of, bytes_of, target_of};
 ghost use Rattle.tree.specs.Node.{all_heads_of, entries_of};
 ghost use Rattle.tree.specs.Path.{IsPartitioned};
 ghost use Rattle.tree.specs.Question.{Exceeds, IsApproach, IsAsked, IsLeading, IsLooked, IsNear};
@@ -16,7 +17,7 @@ ghost use Rattle.tree.specs.Tree.{least_of};
 ghost use Rattle.tree.specs.declared.question.TheConstants.{SIDE};
 
 use crate::approach::{Approach, Near, descend_from, end_head};
-use crate::bound::Bound;
+use crate::key_bound::KeyBound;
 use crate::greatest_version::{any_above, greatest};
 use crate::node::Node;
 use crate::question::{Question, SIDE};
@@ -34,12 +35,12 @@ pub struct Look {
 }
 
 // Looks at the leaf to which a question leads, for the first time.
-fn look_at<P: Bound, const N: usize>(nodes: &Arena<Node<N>>, approach: &Approach, from: &P) -> Look
-    requires leading { IsLeading nodes.now (P.bytes from.now) (P.below from.now) (P.target from.now)
+fn look_at<const N: usize>(nodes: &Arena<Node<N>>, approach: &Approach, from: &KeyBound<'_>) -> Look
+    requires leading { IsLeading nodes.now (bytes_of from.now) (below_of from.now) (target_of from.now)
         approach.now }
-    requires headed { AllAreHeads (P.bytes from.now) (all_heads_of nodes.now) }
+    requires headed { AllAreHeads (bytes_of from.now) (all_heads_of nodes.now) }
     ensures approach { result.approach ≡ approach.now }
-    ensures looked { IsLooked nodes.now (P.bytes from.now) (P.target from.now) approach.now
+    ensures looked { IsLooked nodes.now (bytes_of from.now) (target_of from.now) approach.now
         result.from_head }
 {
     let Approach::Leaf(near) = approach else {
@@ -57,21 +58,21 @@ fn look_at<P: Bound, const N: usize>(nodes: &Arena<Node<N>>, approach: &Approach
 
 // Answers a question if the leaf decides it. `from_head` is the result of the first look at the
 // leaf.
-fn leaf_told<P: Bound, const N: usize>(
+fn leaf_told<const N: usize>(
     nodes: &Arena<Node<N>>,
     near: Near,
-    question: &Question<P>,
+    question: &Question<'_>,
     from_head: Option<u32>,
 ) -> Option<bool>
-    requires asked { IsAsked nodes.now (least_of N) 0 near.leaf (P.bytes question.now.from)
-        (P.below question.now.from)
-        (P.below question.now.to) }
-    requires near { IsNear nodes.now (P.bytes question.now.from) (P.below question.now.from)
-        (P.target question.now.from) near }
+    requires asked { IsAsked nodes.now (least_of N) 0 near.leaf (bytes_of question.now.from)
+        (below_of question.now.from)
+        (below_of question.now.to) }
+    requires near { IsNear nodes.now (bytes_of question.now.from) (below_of question.now.from)
+        (target_of question.now.from) near }
     requires from_head { IfSome (all_heads_of nodes.now near.leaf)
-        (IsHeadFor (P.bytes question.now.from) (P.target question.now.from)
+        (IsHeadFor (bytes_of question.now.from) (target_of question.now.from)
         near.common_prefix_len from_head) }
-    ensures told { IsTold (P.below question.now.from) (P.below question.now.to) question.now.version
+    ensures told { IsTold (below_of question.now.from) (below_of question.now.to) question.now.version
         near.clear
         (items_in nodes.now 0 near.leaf) result }
 {
@@ -87,19 +88,19 @@ fn leaf_told<P: Bound, const N: usize>(
 
 // Returns how many of the entries are below the second bound. `begin` is how many are below the
 // first one, and `from_head` is the head of the target of that one.
-fn end_in<P: Bound, const N: usize>(
+fn end_in<const N: usize>(
     node: &Node<N>,
     begin: usize,
-    question: &Question<P>,
+    question: &Question<'_>,
     common_prefix_len: usize,
     from_head: Option<u32>,
 ) -> usize
-    requires searched { IsSearched (P.bytes question.now.from) (P.below question.now.from)
-        (P.target question.now.from) node.now
+    requires searched { IsSearched (bytes_of question.now.from) (below_of question.now.from)
+        (target_of question.now.from) node.now
         common_prefix_len from_head }
-    requires to { IsPartitioned (λ e. P.below question.now.to e.key) (entries_of node.now) }
-    requires begin { IsLowerBound (P.below question.now.from) node.now begin }
-    ensures count { IsLowerBound (P.below question.now.to) node.now result }
+    requires to { IsPartitioned (λ e. below_of question.now.to e.key) (entries_of node.now) }
+    requires begin { IsLowerBound (below_of question.now.from) node.now begin }
+    ensures count { IsLowerBound (below_of question.now.to) node.now result }
 {
     if question.is_single {
         return begin;
@@ -109,22 +110,22 @@ fn end_in<P: Bound, const N: usize>(
 }
 
 // Answers a question. `look` is what the first look at the leaf gave to which it leads.
-fn answer<P: Bound, const N: usize>(
+fn answer<const N: usize>(
     nodes: &Arena<Node<N>>,
     root: Root,
-    question: &Question<P>,
+    question: &Question<'_>,
     look: Look,
 ) -> bool
     requires asked { IsAsked nodes.now (least_of N) root.height root.slot
-        (P.bytes question.now.from)
-        (P.below question.now.from) (P.below question.now.to) }
-    requires approach { IsApproach nodes.now root.height root.slot (P.bytes question.now.from)
-        (P.below question.now.from)
-        (P.below question.now.to) (P.target question.now.from) question.now.version true
+        (bytes_of question.now.from)
+        (below_of question.now.from) (below_of question.now.to) }
+    requires approach { IsApproach nodes.now root.height root.slot (bytes_of question.now.from)
+        (below_of question.now.from)
+        (below_of question.now.to) (target_of question.now.from) question.now.version true
         look.approach }
-    requires looked { IsLooked nodes.now (P.bytes question.now.from) (P.target question.now.from)
+    requires looked { IsLooked nodes.now (bytes_of question.now.from) (target_of question.now.from)
         look.approach look.from_head }
-    ensures above { IsTrue result ↔ Exceeds (P.below question.now.from) (P.below question.now.to)
+    ensures above { IsTrue result ↔ Exceeds (below_of question.now.from) (below_of question.now.to)
         question.now.version
         (items_in nodes.now root.height root.slot) }
 {
@@ -143,15 +144,15 @@ fn answer<P: Bound, const N: usize>(
 }
 
 // Answers a question by one walk down the tree, by both of its bounds.
-fn exceeds<P: Bound, const N: usize>(
+fn exceeds<const N: usize>(
     nodes: &Arena<Node<N>>,
     root: Root,
-    question: &Question<P>,
+    question: &Question<'_>,
 ) -> bool
     requires asked { IsAsked nodes.now (least_of N) root.height root.slot
-        (P.bytes question.now.from)
-        (P.below question.now.from) (P.below question.now.to) }
-    ensures above { IsTrue result ↔ Exceeds (P.below question.now.from) (P.below question.now.to)
+        (bytes_of question.now.from)
+        (below_of question.now.from) (below_of question.now.to) }
+    ensures above { IsTrue result ↔ Exceeds (below_of question.now.from) (below_of question.now.to)
         question.now.version
         (items_in nodes.now root.height root.slot) }
 {
@@ -162,18 +163,18 @@ fn exceeds<P: Bound, const N: usize>(
 }
 
 /// Goes down a tree for each question. There are at most [`SIDE`].
-pub fn descend_each<P: Bound, const N: usize>(
+pub fn descend_each<const N: usize>(
     nodes: &Arena<Node<N>>,
     root: &Root,
-    questions: &[Question<P>],
+    questions: &[Question<'_>],
 ) -> ArrayVec<Approach, SIDE>
     requires few { length questions.now ≤ SIDE }
     requires asked { All (λ q. IsAsked nodes.now (least_of N) root.now.height root.now.slot
-        (P.bytes q.from) (P.below q.from)
-        (P.below q.to)) questions.now }
+        (bytes_of q.from) (below_of q.from)
+        (below_of q.to)) questions.now }
     ensures approaches { AllZip (λ q approach. IsApproach nodes.now root.now.height root.now.slot
-        (P.bytes q.from)
-        (P.below q.from) (P.below q.to) (P.target q.from) q.version true approach) questions.now
+        (bytes_of q.from)
+        (below_of q.from) (below_of q.to) (target_of q.from) q.version true approach) questions.now
         result.items }
 {
     let mut approaches = ArrayVec::new();
@@ -184,19 +185,19 @@ pub fn descend_each<P: Bound, const N: usize>(
 }
 
 /// Looks at each leaf to which a question leads, for the first time. There are at most [`SIDE`].
-pub fn look_at_each<P: Bound, const N: usize>(
+pub fn look_at_each<const N: usize>(
     nodes: &Arena<Node<N>>,
-    questions: &[Question<P>],
+    questions: &[Question<'_>],
     approaches: &[Approach],
 ) -> ArrayVec<Look, SIDE>
     requires few { length questions.now ≤ SIDE }
-    requires leading { AllZip (λ q approach. IsLeading nodes.now (P.bytes q.from) (P.below q.from)
-        (P.target q.from) approach)
+    requires leading { AllZip (λ q approach. IsLeading nodes.now (bytes_of q.from) (below_of q.from)
+        (target_of q.from) approach)
         questions.now approaches.now }
-    requires headed { All (λ q. AllAreHeads (P.bytes q.from) (all_heads_of nodes.now))
+    requires headed { All (λ q. AllAreHeads (bytes_of q.from) (all_heads_of nodes.now))
         questions.now }
     ensures approaches { map (λ l. l.approach) result.items ≡ approaches.now }
-    ensures looked { AllZip (λ q l. IsLooked nodes.now (P.bytes q.from) (P.target q.from) l.approach
+    ensures looked { AllZip (λ q l. IsLooked nodes.now (bytes_of q.from) (target_of q.from) l.approach
         l.from_head)
         questions.now result.items }
 {
@@ -208,24 +209,24 @@ pub fn look_at_each<P: Bound, const N: usize>(
 }
 
 /// Answers each question, in their order. There are at most [`SIDE`].
-pub fn answer_each<P: Bound, const N: usize>(
+pub fn answer_each<const N: usize>(
     nodes: &Arena<Node<N>>,
     root: &Root,
-    questions: &[Question<P>],
+    questions: &[Question<'_>],
     looks: &[Look],
 ) -> ArrayVec<bool, SIDE>
     requires few { length questions.now ≤ SIDE }
     requires asked { All (λ q. IsAsked nodes.now (least_of N) root.now.height root.now.slot
-        (P.bytes q.from) (P.below q.from)
-        (P.below q.to)) questions.now }
+        (bytes_of q.from) (below_of q.from)
+        (below_of q.to)) questions.now }
     requires approach { AllZip (λ q l. IsApproach nodes.now root.now.height root.now.slot
-        (P.bytes q.from)
-        (P.below q.from) (P.below q.to) (P.target q.from) q.version true l.approach) questions.now
+        (bytes_of q.from)
+        (below_of q.from) (below_of q.to) (target_of q.from) q.version true l.approach) questions.now
         looks.now }
-    requires looked { AllZip (λ q l. IsLooked nodes.now (P.bytes q.from) (P.target q.from)
+    requires looked { AllZip (λ q l. IsLooked nodes.now (bytes_of q.from) (target_of q.from)
         l.approach l.from_head) questions.now looks.now }
     ensures told { AllZip (λ q above. IsTrue above
-        ↔ Exceeds (P.below q.from) (P.below q.to) q.version
+        ↔ Exceeds (below_of q.from) (below_of q.to) q.version
         (items_in nodes.now root.now.height root.now.slot)) questions.now result.items }
 {
     let mut answers = ArrayVec::new();

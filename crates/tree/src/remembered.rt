@@ -4,9 +4,10 @@
 
 ghost use Rattle.std.specs.Prelude.{◌≡◌, MatchOption, IfSome, map};
 ghost use Rattle.tree.specs.Item.{item_of};
+ghost use Rattle.tree.specs.KeyBound.{below_of, bytes_of, target_of};
 ghost use Rattle.tree.specs.Run.{CanFindRun, CanWriteInLeaf, IsFoundRun, IsWrittenInLeaf};
 
-use crate::bound::Bound;
+use crate::key_bound::KeyBound;
 use crate::entry::Entry;
 use crate::node::Node;
 use crate::overwrite::Overwrite;
@@ -20,20 +21,20 @@ use arrayvec::ArrayVec;
 /// above has to be changed. Returns whether an item had the key of the second new one. If the run
 /// isn't sure to be there, or the leaf would get too many entries or too few, it changes nothing,
 /// and returns none.
-pub fn write_in_leaf<P: Bound, const N: usize>(
+pub fn write_in_leaf<const N: usize>(
     nodes: &mut Arena<Node<N>>,
     leaf: RaisedLeaf,
-    new: &Overwrite<'_, P>,
+    new: &Overwrite<'_>,
     taken: &mut ArrayVec<Entry, N>,
 ) -> Option<bool>
-    requires can_write { CanWriteInLeaf (P.below new.now.from.now) (P.below new.now.to.now)
-        (P.bytes new.now.to.now) nodes.old leaf.slot
+    requires can_write { CanWriteInLeaf (below_of new.now.from) (below_of new.now.to)
+        (bytes_of new.now.to) nodes.old leaf.slot
         taken.old.items }
     ensures written { MatchOption result ((nodes.new ≡ nodes.old)
         × (taken.new.items ≡ taken.old.items))
         (λ ended. (new.now.first.version ≡ leaf.version)
-        × IsWrittenInLeaf (P.below new.now.from.now) (P.below new.now.to.now)
-        (P.below new.now.past.now) (item_of new.now.first) new.now.second new.now.last ended (P.bytes new.now.to.now)
+        × IsWrittenInLeaf (below_of new.now.from) (below_of new.now.to)
+        (below_of new.now.past) (item_of new.now.first) new.now.second new.now.last ended (bytes_of new.now.to)
         (map item_of taken.new.items) nodes.old nodes.new leaf.slot) }
 {
     if new.first.version != leaf.version {
@@ -51,32 +52,32 @@ pub fn write_in_leaf<P: Bound, const N: usize>(
 // Finds the run among the entries of a leaf, if it is sure to stand between two of them, and the
 // leaf keeps enough entries and has room for two more. The key of the entry at `index`, which may
 // be any, tells whether the targets begin as all keys do.
-fn find_run<P: Bound, const N: usize>(
+fn find_run<const N: usize>(
     leaf: &Node<N>,
     index: usize,
-    new: &Overwrite<'_, P>,
+    new: &Overwrite<'_>,
 ) -> Option<Run>
-    requires can_find { CanFindRun (P.below new.now.from.now) (P.below new.now.to.now)
-        (P.bytes new.now.to.now) leaf.now }
-    ensures run { IfSome result (λ run. IsFoundRun (P.bytes new.now.from.now)
-        (P.bytes new.now.to.now) (P.below new.now.from.now)
-        (P.below new.now.to.now) (P.below new.now.past.now) (P.target new.now.from.now) (P.target new.now.to.now) new.now.last leaf.now
+    requires can_find { CanFindRun (below_of new.now.from) (below_of new.now.to)
+        (bytes_of new.now.to) leaf.now }
+    ensures run { IfSome result (λ run. IsFoundRun (bytes_of new.now.from)
+        (bytes_of new.now.to) (below_of new.now.from)
+        (below_of new.now.to) (below_of new.now.past) (target_of new.now.from) (target_of new.now.to) new.now.last leaf.now
         run) }
 {
     let prefix_len = leaf.prefix_len();
     let end_head = new.to.head(prefix_len);
     let is_there = leaf.ends_above(end_head) && prefix_len <= new.targets_prefix_len;
-    if !is_there || new.last.is_some() || !leaf.has_prefix_of(index, new.to) {
+    if !is_there || new.last.is_some() || !leaf.has_prefix_of(index, &new.to) {
         return None;
     }
     let (begin_head, end_head) = (Some(new.from.head(prefix_len)), Some(end_head));
-    let end = leaf.lower_bound_by_head(new.to, end_head);
-    let begin = leaf.lower_bound_back(end, new.from, begin_head);
+    let end = leaf.lower_bound_by_head(&new.to, end_head);
+    let begin = leaf.lower_bound_back(end, &new.from, begin_head);
     let len = leaf.len();
     if begin == 0 || end == len || len + 2 > N || len < least(N) + (end - begin) {
         return None;
     }
-    let ended = leaf.is_below_at(end, new.past, end_head);
+    let ended = leaf.is_below_at(end, &new.past, end_head);
     Some(Run {
         begin,
         end,

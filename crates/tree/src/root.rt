@@ -1,6 +1,7 @@
 //! The root of a tree, and what becomes of it where a leaf changes.
 
 ghost use Rattle.std.specs.Prelude.{◌≡◌, [], map, None, MatchOption, Some, true};
+ghost use Rattle.arena.specs.Arena.{key_at};
 ghost use Rattle.tree.specs.Item.{item_of};
 ghost use Rattle.tree.specs.Heads.{AllAreHeads, KeyBytes};
 ghost use Rattle.tree.specs.Overwrite.{GivesWritten, IsPartOfPartitioned};
@@ -10,10 +11,11 @@ ghost use Rattle.tree.specs.Subtree.{items_in};
 ghost use Rattle.tree.specs.Path.{items_below, behind, first_key};
 ghost use Rattle.tree.specs.Reached.{CanReach, IsReached};
 ghost use Rattle.tree.specs.Children.{items_with};
+ghost use Rattle.tree.specs.KeyBound.{below_of, bytes_of, target_of};
 ghost use Rattle.tree.specs.Tree.{least_of, IsLast};
 ghost use Rattle.tree.specs.Walk.{CanChangeBy, IsChangedWithin, IsNewTree, IsRaisedInTree};
 
-use crate::bound::Bound;
+use crate::key_bound::KeyBound;
 use crate::children::place;
 use crate::descent::{Reached, common_prefix_len_at, find};
 use crate::entry::{Entry, key_at};
@@ -35,10 +37,10 @@ pub struct Root {
 }
 
 // Finds the leaf that has the last item below the bound, or else the first leaf.
-fn reach<P: Bound, const N: usize>(nodes: &Arena<Node<N>>, root: Root, bound: &P) -> Reached
-    requires can_reach { CanReach (P.bytes bound.now) (P.below bound.now) nodes.now (least_of N)
+fn reach<const N: usize>(nodes: &Arena<Node<N>>, root: Root, bound: &KeyBound<'_>) -> Reached
+    requires can_reach { CanReach (bytes_of bound.now) (below_of bound.now) nodes.now (least_of N)
         root.height root.slot }
-    ensures reached { IsReached (P.bytes bound.now) (P.below bound.now) (P.target bound.now)
+    ensures reached { IsReached (bytes_of bound.now) (below_of bound.now) (target_of bound.now)
         nodes.now root.height root.slot result }
 {
     let common_prefix_len = common_prefix_len_at(nodes, root.slot, bound);
@@ -53,19 +55,19 @@ fn reach<P: Bound, const N: usize>(nodes: &Arena<Node<N>>, root: Root, bound: &P
 }
 
 /// Returns the last item below the bound, and the key of the first one that isn't.
-pub fn last_and_next<P: Bound, const N: usize>(
+pub fn last_and_next<const N: usize>(
     nodes: &Arena<Node<N>>,
     root: Root,
-    bound: &P,
+    bound: &KeyBound<'_>,
 ) -> (Option<Entry>, Option<Slot>)
-    requires can_reach { CanReach (P.bytes bound.now) (P.below bound.now) nodes.now (least_of N)
+    requires can_reach { CanReach (bytes_of bound.now) (below_of bound.now) nodes.now (least_of N)
         root.height root.slot }
     ensures last { MatchOption result.0
-        (items_below (P.below bound.now) (items_in nodes.now root.height root.slot) ≡ [])
-        (λ e. IsLast (item_of e) (items_below (P.below bound.now)
+        (items_below (below_of bound.now) (items_in nodes.now root.height root.slot) ≡ [])
+        (λ e. IsLast (item_of e) (items_below (below_of bound.now)
         (items_in nodes.now root.height root.slot))) }
     ensures next { result.1 ≡ first_key None
-        (behind (P.below bound.now) (items_in nodes.now root.height root.slot)) }
+        (behind (below_of bound.now) (items_in nodes.now root.height root.slot)) }
 {
     let reached = reach(nodes, root, bound);
     let leaf = nodes.header_ref(reached.leaf);
@@ -87,15 +89,15 @@ pub fn change<C: LeafChange<N>, const N: usize>(
     taken: &mut ArrayVec<Entry, N>,
     way: &mut Way,
 ) -> Option<RaisedLeaf>
-    requires can_change { CanChangeBy (C.LeafBound.bytes (C.bound_of change.old))
-        (C.LeafBound.below (C.bound_of change.old))
+    requires can_change { CanChangeBy (bytes_of (C.bound_of change.old))
+        (below_of (C.bound_of change.old))
         (C.wants change.old) nodes.old root.old.slot root.old.height taken.old.items }
-    ensures items { IsChangedWithin (C.LeafBound.below (C.bound_of change.old))
+    ensures items { IsChangedWithin (below_of (C.bound_of change.old))
         (C.gives change.old change.new (map item_of taken.new.items))
         true None
         (items_in nodes.old root.old.height root.old.slot)
         (items_in nodes.new root.new.height root.new.slot) }
-    ensures tree { IsNewTree (C.LeafBound.bytes (C.bound_of change.old)) nodes.old nodes.new
+    ensures tree { IsNewTree (bytes_of (C.bound_of change.old)) nodes.old nodes.new
         root.new.slot root.new.height result }
 {
     let place = Place {
@@ -111,7 +113,7 @@ pub fn change<C: LeafChange<N>, const N: usize>(
             None
         }
         Outcome::Split(added) => {
-            *root = grow(nodes, *root, added, change.leaf_bound());
+            *root = grow(nodes, *root, added, change.leaf_bound().keys);
             None
         }
     }
@@ -119,24 +121,24 @@ pub fn change<C: LeafChange<N>, const N: usize>(
 
 /// Writes over a run of a tree, and puts the removed entries into `taken`: in the leaf of the last
 /// write, if it continues there, or else by a walk. `raised` is that leaf, if there is one.
-pub fn overwrite<P: Bound, const N: usize>(
+pub fn overwrite<const N: usize>(
     nodes: &mut Arena<Node<N>>,
     root: &mut Root,
     raised: &mut Option<RaisedLeaf>,
-    new: &Overwrite<'_, P>,
+    new: &Overwrite<'_>,
     taken: &mut ArrayVec<Entry, N>,
     way: &mut Way,
 ) -> Written
-    requires can_change { CanChangeBy (P.bytes new.now.to.now) (P.below new.now.to.now)
-        (IsPartOfPartitioned (P.below new.now.from.now))
+    requires can_change { CanChangeBy (bytes_of new.now.to) (below_of new.now.to)
+        (IsPartOfPartitioned (below_of new.now.from))
         nodes.old root.old.slot root.old.height taken.old.items }
     requires raised { IsRaisedInTree nodes.old root.old.slot root.old.height raised.old }
-    ensures items { IsChangedWithin (P.below new.now.to.now)
-        (GivesWritten (P.below new.now.from.now) (P.below new.now.to.now)
-        (P.below new.now.past.now) (item_of new.now.first) new.now.second new.now.last result (map item_of taken.new.items)) true None
+    ensures items { IsChangedWithin (below_of new.now.to)
+        (GivesWritten (below_of new.now.from) (below_of new.now.to)
+        (below_of new.now.past) (item_of new.now.first) new.now.second new.now.last result (map item_of taken.new.items)) true None
         (items_in nodes.old root.old.height root.old.slot)
         (items_in nodes.new root.new.height root.new.slot) }
-    ensures tree { IsNewTree (P.bytes new.now.to.now) nodes.old nodes.new root.new.slot
+    ensures tree { IsNewTree (bytes_of new.now.to) nodes.old nodes.new root.new.slot
         root.new.height raised.new }
 {
     if let Some(leaf) = *raised {
@@ -153,21 +155,21 @@ pub fn overwrite<P: Bound, const N: usize>(
 }
 
 // Puts a new root over the old one and its right neighbour.
-fn grow<P: Bound, const N: usize>(
+fn grow<const N: usize>(
     nodes: &mut Arena<Node<N>>,
     root: Root,
     added: Slot,
-    bound: &P,
+    keys: &Arena<()>,
 ) -> Root
-    requires can_grow { CanGrow (P.bytes bound.now) nodes.old root.height root.slot added }
+    requires can_grow { CanGrow (key_at keys.now) nodes.old root.height root.slot added }
     ensures items { items_in nodes.new result.height result.slot
         ≡ items_with nodes.old root.height root.slot (Some added) }
-    ensures tree { IsNewTree (P.bytes bound.now) nodes.old nodes.new result.slot result.height
+    ensures tree { IsNewTree (key_at keys.now) nodes.old nodes.new result.slot result.height
         None }
 {
     let mut node = Node::of(entry_for(nodes, root.slot));
     node.splice(1, 1, &[entry_for(nodes, added)], None);
-    node.compute_heads(bound);
+    node.compute_heads(keys);
     Root {
         slot: place(nodes, node),
         height: root.height + 1,

@@ -5,11 +5,12 @@ ghost use Rattle.std.specs.Prelude.{unwrap_or};
 ghost use Rattle.tree.specs.Item.{item_of};
 ghost use Rattle.tree.specs.Rebalancing.{IsStored};
 ghost use Rattle.tree.specs.Children.{items_with};
+ghost use Rattle.tree.specs.KeyBound.{below_of, bytes_of, target_of};
 ghost use Rattle.tree.specs.Run.{CanWriteRun};
 ghost use Rattle.tree.specs.Subtree.{entries_at};
 ghost use Rattle.tree.specs.Tree.{ended_by};
 
-use crate::bound::Bound;
+use crate::key_bound::KeyBound;
 use crate::children::split;
 use crate::entry::Entry;
 use crate::node::{Node, both, heads_for};
@@ -47,23 +48,23 @@ pub fn put_taken<const N: usize>(taken: &mut ArrayVec<Entry, N>, run: &[Entry])
 /// bound. Returns the slot of the leaf's right neighbour where there is no room for all, so that it
 /// is split.
 #[inline(always)]
-pub fn write_run<P: Bound, const N: usize>(
+pub fn write_run<const N: usize>(
     nodes: &mut Arena<Node<N>>,
     slot: Slot,
-    new: &Overwrite<'_, P>,
+    new: &Overwrite<'_>,
     run: Run,
     last: i64,
 ) -> Option<Slot>
-    requires can_write { CanWriteRun (P.bytes new.now.from.now) (P.bytes new.now.to.now)
-        (P.below new.now.from.now)
-        (P.below new.now.to.now) (P.target new.now.from.now) (P.target new.now.to.now) nodes.old
+    requires can_write { CanWriteRun (bytes_of new.now.from) (bytes_of new.now.to)
+        (below_of new.now.from)
+        (below_of new.now.to) (target_of new.now.from) (target_of new.now.to) nodes.old
         slot run }
     ensures written { items_with nodes.new 0 slot result
         ≡ map item_of (take run.begin (entries_at nodes.old slot))
         ++ (item_of new.now.first ∷ ended_by run.ended
         (record { key = new.now.second; version = unwrap_or new.now.last last })
         ++ map item_of (drop run.end (entries_at nodes.old slot))) }
-    ensures stored { IsStored (P.bytes new.now.to.now) nodes.old nodes.new slot result }
+    ensures stored { IsStored (bytes_of new.now.to) nodes.old nodes.new slot result }
     ensures fits { run.begin + 2 + (length (entries_at nodes.old slot) - run.end) ≤ N
         → result ≡ None }
 {
@@ -78,10 +79,10 @@ pub fn write_run<P: Bound, const N: usize>(
     let heads = heads_for(&heads, entries.len());
     let (begin, end) = (run.begin, run.end);
     if begin + entries.len() > N - (nodes.header_ref(slot).len() - end) {
-        return Some(split(nodes, slot, begin, end, entries, heads, new.to));
+        return Some(split(nodes, slot, begin, end, entries, heads, new.to.keys));
     }
     nodes
         .header_mut(slot)
-        .splice_with_heads(begin, end, entries, heads, new.to);
+        .splice_with_heads(begin, end, entries, heads, new.to.keys);
     None
 }

@@ -7,12 +7,13 @@ ghost use Rattle.tree.specs.Item.{item_of, IsGreatest};
 ghost use Rattle.tree.specs.Heads.{AllAreHeads, KeyBytes};
 ghost use Rattle.tree.specs.Overwrite.{CanOverwrite, Overwrites};
 ghost use Rattle.tree.specs.Expire.{CanRemoveExpired, RemovesExpired};
+ghost use Rattle.tree.specs.KeyBound.{below_of, bytes_of};
 ghost use Rattle.tree.specs.Path.{IsPartitioned, items_below, behind, first_key, from_last};
 ghost use Rattle.tree.specs.Question.{Exceeds};
 ghost use Rattle.tree.specs.declared.question.TheConstants.{SIDE};
 ghost use Rattle.tree.specs.Tree.{CanSearchItems, IsLast, tree_heads, KnowItems};
 
-use crate::bound::Bound;
+use crate::key_bound::KeyBound;
 use crate::entry::Entry;
 use crate::expiring::{Expiring, Removal};
 use crate::greatest_version::greatest;
@@ -134,11 +135,11 @@ impl<const N: usize> Tree<N> {
     }
 
     /// Returns the last item below the bound, and the key of the first one that isn't.
-    pub fn last_and_next<P: Bound>(&self, bound: &P) -> (Option<Entry>, Option<Slot>)
-        requires can_search { CanSearchItems (P.below bound.now) (P.bytes bound.now) self.now }
-        ensures last { MatchOption result.0 (items_below (P.below bound.now) self.now.items ≡ [])
-            (λ e. IsLast (item_of e) (items_below (P.below bound.now) self.now.items)) }
-        ensures next { result.1 ≡ first_key None (behind (P.below bound.now) self.now.items) }
+    pub fn last_and_next(&self, bound: &KeyBound<'_>) -> (Option<Entry>, Option<Slot>)
+        requires can_search { CanSearchItems (below_of bound.now) (bytes_of bound.now) self.now }
+        ensures last { MatchOption result.0 (items_below (below_of bound.now) self.now.items ≡ [])
+            (λ e. IsLast (item_of e) (items_below (below_of bound.now) self.now.items)) }
+        ensures next { result.1 ≡ first_key None (behind (below_of bound.now) self.now.items) }
     {
         last_and_next(&self.nodes, self.root, bound)
     }
@@ -146,18 +147,18 @@ impl<const N: usize> Tree<N> {
     /// Returns for each question, in their order, whether a version of the items before its second
     /// bound, of those before its first one the last alone, is above its own. There are at most
     /// [`SIDE`], and they are answered side by side. It takes no memory.
-    pub fn exceeds_each<P: Bound>(
+    pub fn exceeds_each(
         &self,
-        questions: &[Question<P>],
+        questions: &[Question<'_>],
     ) -> ArrayVec<bool, SIDE>
         requires few { length questions.now ≤ SIDE }
-        requires from { All (λ q. CanSearchItems (P.below q.from) (P.bytes q.from) self.now)
+        requires from { All (λ q. CanSearchItems (below_of q.from) (bytes_of q.from) self.now)
             questions.now }
-        requires to { All (λ q. IsPartitioned (λ x. P.below q.to x.key) self.now.items)
+        requires to { All (λ q. IsPartitioned (λ x. below_of q.to x.key) self.now.items)
             questions.now }
-        requires some { All (λ q. items_below (P.below q.from) self.now.items ≢ []) questions.now }
+        requires some { All (λ q. items_below (below_of q.from) self.now.items ≢ []) questions.now }
         ensures told { AllZip (λ q above. IsTrue above
-            ↔ Exceeds (P.below q.from) (P.below q.to) q.version self.now.items)
+            ↔ Exceeds (below_of q.from) (below_of q.to) q.version self.now.items)
             questions.now result.items }
     {
         let approaches = descend_each(&self.nodes, &self.root, questions);
@@ -167,13 +168,13 @@ impl<const N: usize> Tree<N> {
 
     /// Returns the greatest version of the items before the second bound, of those before the first
     /// one the last alone, of which there is one.
-    pub fn greatest<P: Bound>(&self, from: &P, to: &P) -> i64
-        requires from { CanSearchItems (P.below from.now) (P.bytes from.now) self.now }
-        requires to { CanSearchItems (P.below to.now) (P.bytes to.now) self.now }
-        requires nested { (key : ℕ) → P.below from.now key ≡ true → P.below to.now key ≡ true }
-        requires some { items_below (P.below from.now) self.now.items ≢ [] }
+    pub fn greatest(&self, from: &KeyBound<'_>, to: &KeyBound<'_>) -> i64
+        requires from { CanSearchItems (below_of from.now) (bytes_of from.now) self.now }
+        requires to { CanSearchItems (below_of to.now) (bytes_of to.now) self.now }
+        requires nested { (key : ℕ) → below_of from.now key ≡ true → below_of to.now key ≡ true }
+        requires some { items_below (below_of from.now) self.now.items ≢ [] }
         ensures greatest { IsGreatest (λ x. x.version) result
-            (from_last (P.below from.now) (Some (P.below to.now)) self.now.items) }
+            (from_last (below_of from.now) (Some (below_of to.now)) self.now.items) }
     {
         let Root { slot, height } = self.root;
         greatest(&self.nodes, slot, height, Some(from), Some(to), None).unwrap()
@@ -184,20 +185,20 @@ impl<const N: usize> Tree<N> {
     /// between that bound and a third one. If more than one leaf has those items and the one before
     /// them, it only takes out those that the last of these leaves has. Puts the entries that are
     /// taken out into `taken`.
-    pub fn overwrite<P: Bound>(
+    pub fn overwrite(
         &mut self,
-        new: &Overwrite<'_, P>,
+        new: &Overwrite<'_>,
         taken: &mut ArrayVec<Entry, N>,
     ) -> Written
-        requires can_overwrite { CanOverwrite (P.below new.now.from.now) (P.below new.now.to.now)
-            (P.below new.now.past.now)
-            (P.bytes new.now.to.now) self.old taken.old.items }
-        ensures items { Overwrites (P.below new.now.from.now) (P.below new.now.to.now)
-            (P.below new.now.past.now)
+        requires can_overwrite { CanOverwrite (below_of new.now.from) (below_of new.now.to)
+            (below_of new.now.past)
+            (bytes_of new.now.to) self.old taken.old.items }
+        ensures items { Overwrites (below_of new.now.from) (below_of new.now.to)
+            (below_of new.now.past)
             (item_of new.now.first) new.now.second new.now.last result (map item_of taken.new.items)
             self.old.items self.new.items }
         ensures room { self.new.room ≡ self.old.room }
-        ensures headed { AllAreHeads (P.bytes new.now.to.now) (tree_heads self.new) }
+        ensures headed { AllAreHeads (bytes_of new.now.to) (tree_heads self.new) }
         ensures known { KnowItems self.new }
     {
         let written = overwrite(
@@ -215,26 +216,26 @@ impl<const N: usize> Tree<N> {
     /// Looks at a run of items that begins with the last one below the bound, at most `count` of
     /// them, and takes out each whose version and predecessor's version are below `edge`, into
     /// `taken`. `before` is the version of the item before the run.
-    pub fn remove_expired<P: Bound>(
+    pub fn remove_expired(
         &mut self,
-        bound: &P,
+        bound: &KeyBound<'_>,
         count: usize,
         edge: i64,
         before: i64,
         taken: &mut ArrayVec<Entry, N>,
     ) -> Removal
-        requires can_remove { CanRemoveExpired (P.below bound.now) (P.bytes bound.now) count edge
+        requires can_remove { CanRemoveExpired (below_of bound.now) (bytes_of bound.now) count edge
             before self.old
             taken.old.items }
-        ensures removal { RemovesExpired (P.below bound.now) count edge before result
+        ensures removal { RemovesExpired (below_of bound.now) count edge before result
             (map item_of taken.new.items) None
             self.old.items self.new.items }
         ensures room { self.new.room ≡ self.old.room }
-        ensures headed { AllAreHeads (P.bytes bound.now) (tree_heads self.new) }
+        ensures headed { AllAreHeads (bytes_of bound.now) (tree_heads self.new) }
         ensures known { KnowItems self.new }
     {
         let mut expiring = Expiring {
-            bound,
+            bound: *bound,
             count,
             edge,
             before,

@@ -4,10 +4,12 @@
 ghost use Rattle.std.specs.Prelude.{◌≡◌, ◌++◌, ℕ, Bool, List, Option, map};
 ghost use Rattle.tree.specs.Item.{Item, item_of};
 ghost use Rattle.tree.specs.Children.{items_with};
+ghost use Rattle.tree.specs.KeyBound.{below_of, bytes_of, target_of};
 ghost use Rattle.tree.specs.Subtree.{items_in};
+ghost use Rattle.tree.specs.declared.key_bound.KeyBound.{KeyBound};
 ghost use Rattle.tree.specs.Walk.{added_by, CanChangeLeaf, IsChanged, IsChangedWithin};
 
-use crate::bound::Bound;
+use crate::key_bound::KeyBound;
 use crate::children::settle;
 use crate::entry::{Entry, key_at};
 use crate::node::Node;
@@ -65,11 +67,8 @@ impl Outcome {
 
 /// A change of one leaf: the one that has the last item below a bound, or else the first leaf.
 pub trait LeafChange<const N: usize> {
-    /// The bound by which the leaf is found.
-    type LeafBound: Bound;
-
     // the bound by which the leaf is found
-    ghost bound_of: { Self → Self.LeafBound };
+    ghost bound_of: { Self → KeyBound };
 
     // What is wanted of the items of the leaf.
     ghost wants: { Self → List Item → Type 0 };
@@ -80,7 +79,7 @@ pub trait LeafChange<const N: usize> {
     ghost gives: { Self → Self → List Item → Bool → Option ℕ → List Item → List Item → Type 0 };
 
     /// Returns the bound by which the leaf is found.
-    fn leaf_bound(&self) -> &Self::LeafBound
+    fn leaf_bound(&self) -> &KeyBound<'_>
         ensures leaf_bound { result.now ≡ bound_of self.now };
 
     /// Returns whether the next change is likely to come to the next leaf, so that its memory is
@@ -95,11 +94,11 @@ pub trait LeafChange<const N: usize> {
         place: Place,
         taken: &mut ArrayVec<Entry, N>,
     ) -> Outcome
-        requires can_change { CanChangeLeaf (Self.LeafBound.bytes (bound_of self.old))
-            (Self.LeafBound.below (bound_of self.old))
-            (Self.LeafBound.target (bound_of self.old)) (wants self.old) nodes.old 0 slot place.common_prefix_len
+        requires can_change { CanChangeLeaf (bytes_of (bound_of self.old))
+            (below_of (bound_of self.old))
+            (target_of (bound_of self.old)) (wants self.old) nodes.old 0 slot place.common_prefix_len
             taken.old.items }
-        ensures changed { IsChanged (Self.LeafBound.bytes (bound_of self.old)) nodes.old nodes.new 0
+        ensures changed { IsChanged (bytes_of (bound_of self.old)) nodes.old nodes.new 0
             slot result }
         ensures items { gives self.old self.new (map item_of taken.new.items) place.is_first
             place.behind (items_in nodes.old 0 slot)
@@ -124,13 +123,13 @@ pub fn change_leaf<C: LeafChange<N>, const N: usize>(
     taken: &mut ArrayVec<Entry, N>,
     way: &mut Way,
 ) -> Outcome
-    requires can_change { CanChangeLeaf (C.LeafBound.bytes (C.bound_of change.old))
-        (C.LeafBound.below (C.bound_of change.old))
-        (C.LeafBound.target (C.bound_of change.old)) (C.wants change.old) nodes.old height slot place.common_prefix_len
+    requires can_change { CanChangeLeaf (bytes_of (C.bound_of change.old))
+        (below_of (C.bound_of change.old))
+        (target_of (C.bound_of change.old)) (C.wants change.old) nodes.old height slot place.common_prefix_len
         taken.old.items }
-    ensures changed { IsChanged (C.LeafBound.bytes (C.bound_of change.old)) nodes.old nodes.new
+    ensures changed { IsChanged (bytes_of (C.bound_of change.old)) nodes.old nodes.new
         height slot result }
-    ensures items { IsChangedWithin (C.LeafBound.below (C.bound_of change.old))
+    ensures items { IsChangedWithin (below_of (C.bound_of change.old))
         (C.gives change.old change.new (map item_of taken.new.items))
         place.is_first place.behind (items_in nodes.old height slot) (items_with nodes.new height slot (added_by result)) }
     ensures leaf_bound { C.bound_of change.new ≡ C.bound_of change.old }
@@ -151,5 +150,5 @@ pub fn change_leaf<C: LeafChange<N>, const N: usize>(
         is_first: place.is_first && step.index == 0,
     };
     let outcome = change_leaf(nodes, child, height - 1, change, below, taken, way);
-    settle(nodes, slot, step.index, outcome, change.leaf_bound())
+    settle(nodes, slot, step.index, outcome, change.leaf_bound().keys)
 }

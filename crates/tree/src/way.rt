@@ -1,8 +1,9 @@
 //! The way of the last walk, from the root towards a leaf: a guess for the next one.
 
 ghost use Rattle.tree.specs.Finding.{CanStep, IsStep};
+ghost use Rattle.tree.specs.KeyBound.{below_of, bytes_of, target_of};
 
-use crate::bound::Bound;
+use crate::key_bound::KeyBound;
 use crate::entry::Entry;
 use crate::node::{Node, Step};
 use arena::Arena;
@@ -35,16 +36,16 @@ impl Way {
     /// It tries the entry that the last walk went through at this height first, unless the node
     /// stands right above the leaves: there it is seldom the same.
     #[inline(always)]
-    pub fn step<P: Bound, const N: usize>(
+    pub fn step<const N: usize>(
         &mut self,
         node: &Node<N>,
         height: usize,
-        bound: &P,
+        bound: &KeyBound<'_>,
         common_prefix_len: Option<usize>,
     ) -> Step
-        requires can_step { CanStep (P.bytes bound.now) (P.below bound.now) (P.target bound.now)
+        requires can_step { CanStep (bytes_of bound.now) (below_of bound.now) (target_of bound.now)
             node.now common_prefix_len }
-        ensures step { IsStep (P.bytes bound.now) (P.below bound.now) (P.target bound.now) node.now
+        ensures step { IsStep (bytes_of bound.now) (below_of bound.now) (target_of bound.now) node.now
             result }
     {
         if height < 2 || height >= HEIGHTS {

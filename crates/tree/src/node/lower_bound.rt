@@ -5,12 +5,13 @@ ghost use Rattle.std.specs.Prelude.{slice_get, None, Some, IsTrue};
 ghost use Rattle.tree.specs.Finding.{AreTied, CanFind, CanStep, CanStepBy, HasHead, IsLowerBound};
 ghost use Rattle.tree.specs.Finding.{IsHeadFor};
 ghost use Rattle.tree.specs.Heads.{HasPrefix, HaveCommonPrefix, AreHeads};
+ghost use Rattle.tree.specs.KeyBound.{below_of, bytes_of, target_of};
 ghost use Rattle.tree.specs.Node.{entries_of, key_heads_of};
 ghost use Rattle.tree.specs.Path.{IsPartitioned};
 ghost use Rattle.tree.specs.declared.node.TheConstants.{PADDING};
 
 use super::Node;
-use crate::bound::Bound;
+use crate::key_bound::KeyBound;
 use crate::entry::Entry;
 
 // How many heads a search looks at side by side.
@@ -22,10 +23,10 @@ impl<const N: usize> Node<N> {
     /// Returns how many of the entries are below the bound. `common_prefix_len` is how many bytes
     /// the first key and the target begin with in common, or none if that key isn't below the
     /// bound.
-    pub fn lower_bound<P: Bound>(&self, bound: &P, common_prefix_len: Option<usize>) -> usize
-        requires can_step { CanStep (P.bytes bound.now) (P.below bound.now) (P.target bound.now)
+    pub fn lower_bound(&self, bound: &KeyBound<'_>, common_prefix_len: Option<usize>) -> usize
+        requires can_step { CanStep (bytes_of bound.now) (below_of bound.now) (target_of bound.now)
             self.now common_prefix_len }
-        ensures count { IsLowerBound (P.below bound.now) self.now result }
+        ensures count { IsLowerBound (below_of bound.now) self.now result }
     {
         let head = self.head_for(bound, common_prefix_len.unwrap_or(0));
         self.lower_bound_with(bound, common_prefix_len, head)
@@ -34,16 +35,16 @@ impl<const N: usize> Node<N> {
     /// Returns how many of the entries are below the bound, as `lower_bound` does. `head` is what
     /// `head_for` returns for it.
     #[inline(always)]
-    pub fn lower_bound_with<P: Bound>(
+    pub fn lower_bound_with(
         &self,
-        bound: &P,
+        bound: &KeyBound<'_>,
         common_prefix_len: Option<usize>,
         head: Option<u32>,
     ) -> usize
-        requires can_step { CanStepBy (P.bytes bound.now) (P.below bound.now) (P.target bound.now)
+        requires can_step { CanStepBy (bytes_of bound.now) (below_of bound.now) (target_of bound.now)
             self.now
             common_prefix_len head }
-        ensures count { IsLowerBound (P.below bound.now) self.now result }
+        ensures count { IsLowerBound (below_of bound.now) self.now result }
     {
         match common_prefix_len {
             Some(_) => self.lower_bound_by_head(bound, head),
@@ -54,14 +55,14 @@ impl<const N: usize> Node<N> {
     /// Returns how many of the entries are below the bound. `head` is that of the target, if it
     /// begins as all keys do.
     #[inline(always)]
-    pub fn lower_bound_by_head<P: Bound>(&self, bound: &P, head: Option<u32>) -> usize
-        requires can_find { CanFind (P.bytes bound.now) (P.below bound.now) self.now }
-        requires head { HasHead (P.bytes bound.now) (P.target bound.now) head
+    pub fn lower_bound_by_head(&self, bound: &KeyBound<'_>, head: Option<u32>) -> usize
+        requires can_find { CanFind (bytes_of bound.now) (below_of bound.now) self.now }
+        requires head { HasHead (bytes_of bound.now) (target_of bound.now) head
             (key_heads_of self.now) }
         requires none { head ≡ None → get_or (key_heads_of self.now).heads 0 0 ≢ 0
-            → length (filter (λ e. P.below bound.now e.key) (entries_of self.now))
+            → length (filter (λ e. below_of bound.now e.key) (entries_of self.now))
             ≡ length (entries_of self.now) }
-        ensures count { IsLowerBound (P.below bound.now) self.now result }
+        ensures count { IsLowerBound (below_of bound.now) self.now result }
     {
         let Some(head) = head else {
             return self.lower_bound_by_keys(bound);
@@ -72,12 +73,12 @@ impl<const N: usize> Node<N> {
 
     // Returns how many of the entries are below the bound, where the first one is and the target
     // doesn't begin as all keys do.
-    fn lower_bound_by_keys<P: Bound>(&self, bound: &P) -> usize
-        requires can_find { CanFind (P.bytes bound.now) (P.below bound.now) self.now }
+    fn lower_bound_by_keys(&self, bound: &KeyBound<'_>) -> usize
+        requires can_find { CanFind (bytes_of bound.now) (below_of bound.now) self.now }
         requires all { get_or (key_heads_of self.now).heads 0 0 ≢ 0
-            → length (filter (λ e. P.below bound.now e.key) (entries_of self.now))
+            → length (filter (λ e. below_of bound.now e.key) (entries_of self.now))
             ≡ length (entries_of self.now) }
-        ensures count { IsLowerBound (P.below bound.now) self.now result }
+        ensures count { IsLowerBound (below_of bound.now) self.now result }
     {
         if self.heads[0] == 0 {
             return self.lower_bound_from(0, bound, None);
@@ -89,14 +90,14 @@ impl<const N: usize> Node<N> {
     /// first key and the target begin with `common_prefix_len` bytes in common, at least, unless
     /// that key is empty.
     #[inline(always)]
-    pub fn head_for<P: Bound>(&self, bound: &P, common_prefix_len: usize) -> Option<u32>
-        requires headed { AreHeads (P.bytes bound.now) (key_heads_of self.now) }
+    pub fn head_for(&self, bound: &KeyBound<'_>, common_prefix_len: usize) -> Option<u32>
+        requires headed { AreHeads (bytes_of bound.now) (key_heads_of self.now) }
         requires some { 0 < length (entries_of self.now) }
         requires common_prefix_len { (e : Entry) (text : List ℕ)
             → slice_get (entries_of self.now) 0 ≡ Some e
-            → P.bytes bound.now e.key ≡ Some text
-            → HaveCommonPrefix common_prefix_len text (P.target bound.now) }
-        ensures head { IsHeadFor (P.bytes bound.now) (P.target bound.now) common_prefix_len result
+            → bytes_of bound.now e.key ≡ Some text
+            → HaveCommonPrefix common_prefix_len text (target_of bound.now) }
+        ensures head { IsHeadFor (bytes_of bound.now) (target_of bound.now) common_prefix_len result
             (key_heads_of self.now) }
     {
         let has_prefix = if self.heads[0] == 0 && self.prefix_len > 0 {
@@ -113,21 +114,21 @@ impl<const N: usize> Node<N> {
     /// Returns the head as `head_for` does. `has_prefix` says that the target begins as all keys
     /// do, and may be false although it does.
     #[inline(always)]
-    pub fn head_given<P: Bound>(
+    pub fn head_given(
         &self,
         has_prefix: bool,
-        bound: &P,
+        bound: &KeyBound<'_>,
         common_prefix_len: usize,
     ) -> Option<u32>
-        requires headed { AreHeads (P.bytes bound.now) (key_heads_of self.now) }
+        requires headed { AreHeads (bytes_of bound.now) (key_heads_of self.now) }
         requires some { 0 < length (entries_of self.now) }
         requires has_prefix { IsTrue has_prefix
-            → HasPrefix (P.bytes bound.now) (key_heads_of self.now) (P.target bound.now) }
+            → HasPrefix (bytes_of bound.now) (key_heads_of self.now) (target_of bound.now) }
         requires common_prefix_len { (e : Entry) (text : List ℕ)
             → slice_get (entries_of self.now) 0 ≡ Some e
-            → P.bytes bound.now e.key ≡ Some text
-            → HaveCommonPrefix common_prefix_len text (P.target bound.now) }
-        ensures head { HasHead (P.bytes bound.now) (P.target bound.now) result
+            → bytes_of bound.now e.key ≡ Some text
+            → HaveCommonPrefix common_prefix_len text (target_of bound.now) }
+        ensures head { HasHead (bytes_of bound.now) (target_of bound.now) result
             (key_heads_of self.now) }
     {
         if has_prefix {
@@ -138,10 +139,10 @@ impl<const N: usize> Node<N> {
 
     /// Returns whether the target has the common prefix, as the key at an index has it. It may be
     /// false where that key may be empty, and is where there is none.
-    pub fn has_prefix_of<P: Bound>(&self, index: usize, bound: &P) -> bool
-        requires headed { AreHeads (P.bytes bound.now) (key_heads_of self.now) }
+    pub fn has_prefix_of(&self, index: usize, bound: &KeyBound<'_>) -> bool
+        requires headed { AreHeads (bytes_of bound.now) (key_heads_of self.now) }
         ensures has_prefix { IsTrue result
-            → HasPrefix (P.bytes bound.now) (key_heads_of self.now) (P.target bound.now) }
+            → HasPrefix (bytes_of bound.now) (key_heads_of self.now) (target_of bound.now) }
     {
         if index >= self.len() || self.heads[index] == 0 {
             return false;
@@ -159,13 +160,13 @@ impl<const N: usize> Node<N> {
     /// Returns whether the entry at an index is below the bound. `head` is that of the target, if
     /// it begins as all keys do.
     #[inline(always)]
-    pub fn is_below_at<P: Bound>(&self, index: usize, bound: &P, head: Option<u32>) -> bool
-        requires headed { AreHeads (P.bytes bound.now) (key_heads_of self.now) }
+    pub fn is_below_at(&self, index: usize, bound: &KeyBound<'_>, head: Option<u32>) -> bool
+        requires headed { AreHeads (bytes_of bound.now) (key_heads_of self.now) }
         requires within { index < length (entries_of self.now) }
-        requires head { HasHead (P.bytes bound.now) (P.target bound.now) head
+        requires head { HasHead (bytes_of bound.now) (target_of bound.now) head
             (key_heads_of self.now) }
         ensures is_below { (e : Entry) → slice_get (entries_of self.now) index ≡ Some e
-            → result ≡ P.below bound.now e.key }
+            → result ≡ below_of bound.now e.key }
     {
         let own = self.heads[index];
         match head {
@@ -177,13 +178,13 @@ impl<const N: usize> Node<N> {
     /// Returns how many of the entries are below the bound, of which at least the first `from`
     /// are.
     #[inline(always)]
-    pub fn lower_bound_from<P: Bound>(&self, from: usize, bound: &P, head: Option<u32>) -> usize
-        requires can_find { CanFind (P.bytes bound.now) (P.below bound.now) self.now }
-        requires head { HasHead (P.bytes bound.now) (P.target bound.now) head
+    pub fn lower_bound_from(&self, from: usize, bound: &KeyBound<'_>, head: Option<u32>) -> usize
+        requires can_find { CanFind (bytes_of bound.now) (below_of bound.now) self.now }
+        requires head { HasHead (bytes_of bound.now) (target_of bound.now) head
             (key_heads_of self.now) }
         requires least { from ≤ length
-            (filter (λ e. P.below bound.now e.key) (entries_of self.now)) }
-        ensures count { IsLowerBound (P.below bound.now) self.now result }
+            (filter (λ e. below_of bound.now e.key) (entries_of self.now)) }
+        ensures count { IsLowerBound (below_of bound.now) self.now result }
     {
         let (from, to) = match head {
             Some(head) => self.tied(from, head),
@@ -217,13 +218,13 @@ impl<const N: usize> Node<N> {
     /// Returns how many of the entries are below the bound, at most the first `to`. It looks at
     /// these one by one, from the last one on.
     #[inline(always)]
-    pub fn lower_bound_back<P: Bound>(&self, to: usize, bound: &P, head: Option<u32>) -> usize
-        requires can_find { CanFind (P.bytes bound.now) (P.below bound.now) self.now }
-        requires head { HasHead (P.bytes bound.now) (P.target bound.now) head
+    pub fn lower_bound_back(&self, to: usize, bound: &KeyBound<'_>, head: Option<u32>) -> usize
+        requires can_find { CanFind (bytes_of bound.now) (below_of bound.now) self.now }
+        requires head { HasHead (bytes_of bound.now) (target_of bound.now) head
             (key_heads_of self.now) }
         requires within { to ≤ length (entries_of self.now) }
-        requires most { length (filter (λ e. P.below bound.now e.key) (entries_of self.now)) ≤ to }
-        ensures count { IsLowerBound (P.below bound.now) self.now result }
+        requires most { length (filter (λ e. below_of bound.now e.key) (entries_of self.now)) ≤ to }
+        ensures count { IsLowerBound (below_of bound.now) self.now result }
     {
         let mut count = to;
         while count > 0 && !self.is_below_at(count - 1, bound, head) {
@@ -262,10 +263,10 @@ fn heads_below<const N: usize>(heads: &[u32; N], head: u32) -> usize
 }
 
 // Returns how many of the entries are below the bound, which come first.
-fn lower_bound<P: Bound>(entries: &[Entry], bound: &P) -> usize
-    requires partitioned { IsPartitioned (λ e. P.below bound.now e.key) entries.now }
+fn lower_bound(entries: &[Entry], bound: &KeyBound<'_>) -> usize
+    requires partitioned { IsPartitioned (λ e. below_of bound.now e.key) entries.now }
     ensures within { result ≤ length entries.now }
-    ensures count { result ≡ length (filter (λ e. P.below bound.now e.key) entries.now) }
+    ensures count { result ≡ length (filter (λ e. below_of bound.now e.key) entries.now) }
 {
     entries.partition_point(|entry| bound.is_below(entry.key))
 }

@@ -5,11 +5,12 @@ ghost use Rattle.std.specs.Prelude.{◌≡◌, ◌<◌, ◌+◌, ◌-◌, length
 ghost use Rattle.std.specs.Prelude.{IsTrue};
 ghost use Rattle.tree.specs.Finding.{CanStep, CanStepBy, IsHeadFor, IsStep};
 ghost use Rattle.tree.specs.Heads.{AreHeads, IsCommonPrefixAt};
+ghost use Rattle.tree.specs.KeyBound.{below_of, bytes_of, target_of};
 ghost use Rattle.tree.specs.Node.{entries_of, key_heads_of};
 
 use super::Node;
 use super::heads::same_head_bytes;
-use crate::bound::Bound;
+use crate::key_bound::KeyBound;
 use crate::entry::Entry;
 
 /// The step of a search down from a node.
@@ -26,11 +27,11 @@ impl<const N: usize> Node<N> {
     /// Returns how many bytes the first key and the target begin with in common, or none if that
     /// key isn't below the bound.
     #[inline(always)]
-    pub fn first_common_prefix_len<P: Bound>(&self, bound: &P) -> Option<usize>
-        requires headed { AreHeads (P.bytes bound.now) (key_heads_of self.now) }
+    pub fn first_common_prefix_len(&self, bound: &KeyBound<'_>) -> Option<usize>
+        requires headed { AreHeads (bytes_of bound.now) (key_heads_of self.now) }
         requires some { 0 < length (entries_of self.now) }
-        ensures known { IsCommonPrefixAt (P.bytes bound.now) (P.below bound.now)
-            (P.target bound.now) result (entries_of self.now) 0 }
+        ensures known { IsCommonPrefixAt (bytes_of bound.now) (below_of bound.now)
+            (target_of bound.now) result (entries_of self.now) 0 }
     {
         // Every target begins as all keys do where these have no byte in common, so that it has a
         // head.
@@ -47,10 +48,10 @@ impl<const N: usize> Node<N> {
     /// bytes the first key and the target begin with in common, or none if that key isn't below the
     /// bound.
     #[inline(always)]
-    pub fn step<P: Bound>(&self, bound: &P, common_prefix_len: Option<usize>) -> Step
-        requires can_step { CanStep (P.bytes bound.now) (P.below bound.now) (P.target bound.now)
+    pub fn step(&self, bound: &KeyBound<'_>, common_prefix_len: Option<usize>) -> Step
+        requires can_step { CanStep (bytes_of bound.now) (below_of bound.now) (target_of bound.now)
             self.now common_prefix_len }
-        ensures step { IsStep (P.bytes bound.now) (P.below bound.now) (P.target bound.now) self.now
+        ensures step { IsStep (bytes_of bound.now) (below_of bound.now) (target_of bound.now) self.now
             result }
     {
         let Some(common_prefix_len) = common_prefix_len else {
@@ -69,15 +70,15 @@ impl<const N: usize> Node<N> {
     /// Finds the last entry below the bound, or else the first one, as `step` does. It tries the
     /// entry at `guess` first, which may be any number.
     #[inline(always)]
-    pub fn step_by_guess<P: Bound>(
+    pub fn step_by_guess(
         &self,
-        bound: &P,
+        bound: &KeyBound<'_>,
         common_prefix_len: Option<usize>,
         guess: usize,
     ) -> Step
-        requires can_step { CanStep (P.bytes bound.now) (P.below bound.now) (P.target bound.now)
+        requires can_step { CanStep (bytes_of bound.now) (below_of bound.now) (target_of bound.now)
             self.now common_prefix_len }
-        ensures step { IsStep (P.bytes bound.now) (P.below bound.now) (P.target bound.now) self.now
+        ensures step { IsStep (bytes_of bound.now) (below_of bound.now) (target_of bound.now) self.now
             result }
     {
         let Some(common_prefix_len) = common_prefix_len else {
@@ -119,11 +120,11 @@ impl<const N: usize> Node<N> {
     /// many bytes the first key and the target begin with in common. `head` is what `head_for`
     /// returns for it.
     #[inline(always)]
-    pub fn step_by<P: Bound>(&self, bound: &P, common_prefix_len: usize, head: Option<u32>) -> Step
-        requires can_step { CanStepBy (P.bytes bound.now) (P.below bound.now) (P.target bound.now)
+    pub fn step_by(&self, bound: &KeyBound<'_>, common_prefix_len: usize, head: Option<u32>) -> Step
+        requires can_step { CanStepBy (bytes_of bound.now) (below_of bound.now) (target_of bound.now)
             self.now
             (Some common_prefix_len) head }
-        ensures step { IsStep (P.bytes bound.now) (P.below bound.now) (P.target bound.now) self.now
+        ensures step { IsStep (bytes_of bound.now) (below_of bound.now) (target_of bound.now) self.now
             result }
     {
         let index = self.lower_bound_by_head(bound, head).saturating_sub(1);
@@ -138,24 +139,24 @@ impl<const N: usize> Node<N> {
     // `common_prefix_len` is the same of the first key. Both are below the bound. `head` is that of
     // the target, if it begins as all keys do.
     #[inline(always)]
-    fn common_prefix_len_in<P: Bound>(
+    fn common_prefix_len_in(
         &self,
         index: usize,
-        bound: &P,
+        bound: &KeyBound<'_>,
         common_prefix_len: usize,
         head: Option<u32>,
     ) -> usize
-        requires headed { AreHeads (P.bytes bound.now) (key_heads_of self.now) }
+        requires headed { AreHeads (bytes_of bound.now) (key_heads_of self.now) }
         requires within { index < length (entries_of self.now) }
-        requires known { IsCommonPrefixAt (P.bytes bound.now) (P.below bound.now)
-            (P.target bound.now) (Some common_prefix_len)
+        requires known { IsCommonPrefixAt (bytes_of bound.now) (below_of bound.now)
+            (target_of bound.now) (Some common_prefix_len)
             (entries_of self.now) 0 }
         requires is_below { (e : Entry) → slice_get (entries_of self.now) index ≡ Some e
-            → IsTrue (P.below bound.now e.key) }
-        requires head { IsHeadFor (P.bytes bound.now) (P.target bound.now) common_prefix_len head
+            → IsTrue (below_of bound.now e.key) }
+        requires head { IsHeadFor (bytes_of bound.now) (target_of bound.now) common_prefix_len head
             (key_heads_of self.now) }
-        ensures known { IsCommonPrefixAt (P.bytes bound.now) (P.below bound.now)
-            (P.target bound.now) (Some result)
+        ensures known { IsCommonPrefixAt (bytes_of bound.now) (below_of bound.now)
+            (target_of bound.now) (Some result)
             (entries_of self.now) index }
     {
         if index == 0 {

@@ -3,7 +3,8 @@ use Rattle.std.specs.Prelude.{IsSomeAnd}
 use Rattle.std.specs.List.{AllZip}
 use Rattle.std.proofs.lemmas.List.{take_more_set}
 use Rattle.keys.specs.declared.range.Range.{Range}
-use Rattle.stepmap.proofs.Asking.{BoundQuestion, Asks}
+use Rattle.tree.specs.declared.question.Question.{Question}
+use Rattle.stepmap.proofs.Asking.{Asks}
 use Rattle.stepmap.proofs.InTurn.{AllZip-next, get_or_twice}
 use Rattle.stepmap.proofs.questions.put_questions.Goals as goal
 
@@ -14,7 +15,7 @@ loop-index-preserved g c =
     let i = c.loop-index.index in
     let made = c.question.result in
     let questions = c.loop-index.questions in
-    let Right = λ (place : ℕ) (q : BoundQuestion). IsSomeAnd (slice_get queries place) (λ a. Asks c.args.keys.now a q) in
+    let Right = λ (place : ℕ) (q : Question). IsSomeAnd (slice_get queries place) (λ a. Asks c.args.keys.now a q) in
     let inside : i < length places = c.loop-index-test.true in
     let room : i < length questions = omega (arith, inside, c.requires.room, c.loop-index.invariant.0) in (
       length-set questions i made ∙ c.loop-index.invariant.0,

@@ -1,5 +1,6 @@
 use Rattle.std.proofs.Common.{rules, ◌≡◌, ◌≤◌, ℕ, ◌+◌, ◌-◌, Bool, false, List, length, filter, get_or, Option, Some, refl, arith}
 use Rattle.std.proofs.lemmas.Option.{slice_get_read}
+use Rattle.tree.specs.KeyBound.{below_of, bytes_of, target_of}
 use Rattle.tree.proofs.Words.{Entry, CanStep, IsTold, entries_of, items_in, least_of}
 use Rattle.tree.proofs.Approaches.{approach_wider}
 use Rattle.tree.proofs.Above.{at_most_tested}
@@ -15,8 +16,8 @@ use Rattle.tree.proofs.approach.+descend.Goals.{After-entries-entries, After-is_
 
 -- what is asked of the search in a node
 asked : (g : Over) (t : ℕ) (c : After-entries-entries g t)
-    → CanStep (g.P.Bound.bytes c.args.question.now.from) (g.P.Bound.below c.args.question.now.from)
-    (g.P.Bound.target c.args.question.now.from) c.header_ref-node.result.now (Some c.args.common_prefix_len)
+    → CanStep (bytes_of c.args.question.now.from) (below_of c.args.question.now.from)
+    (target_of c.args.question.now.from) c.header_ref-node.result.now (Some c.args.common_prefix_len)
 asked g t c = can_step_at c.requires.asked.can_reach c.header_ref-node.ensures.header c.requires.known
 
 pub head_for-from_head-requires : goal.head_for-from_head-requires
@@ -31,10 +32,10 @@ is_clear-clear-requires g t c = search (rules, asked g t (goal.at.is_clear-clear
 -- the child of the entry at which the search goes on
 module _ (g : Over) (t : ℕ) (c : After-is_clear-clear g t) where
   abbrev p : ℕ → Bool
-  p = g.P.Bound.below c.args.question.now.from
+  p = below_of c.args.question.now.from
 
   abbrev q : ℕ → Bool
-  q = g.P.Bound.below c.args.question.now.to
+  q = below_of c.args.question.now.to
 
   abbrev es : List Entry
   es = entries_of c.header_ref-node.result.now
@@ -71,9 +72,9 @@ descend-requires g t c κs within_lives =
     least_some in
     let to = child_partitioned _ _ _ _ _ _ _ _ _ k c.if-height-eq0.false _ _ step.within (is g t at) _ c.requires.asked.to in
     let there = slice_get_read (es g t at) _ _ c.index-entries-step.result refl step.within (is g t at) in
-    let bytes = g.P.Bound.bytes c.args.question.now.from in
-    let below = g.P.Bound.below c.args.question.now.from in
-    let target = g.P.Bound.target c.args.question.now.from in
+    let bytes = bytes_of c.args.question.now.from in
+    let below = below_of c.args.question.now.from in
+    let target = target_of c.args.question.now.from in
     let some_below = known_some_below bytes below target _ _ node.tells c.in-Some.is (step.knows _ there) in
     let knows = knows_child _ _ _ _ _ bytes below target c.step_by-step.result.common_prefix_len node refl (step.knows _ there) in
     (search rules, (search rules, (search rules, (search rules, (search rules, (search rules, rw c.in-Some.is at knows))))))

@@ -1,4 +1,5 @@
 use Rattle.std.proofs.Common.{rules, Some, IsTrue, sym, ◌∙◌, arith, leb-true}
+use Rattle.tree.specs.KeyBound.{below_of, bytes_of, target_of}
 use Rattle.tree.proofs.Words.{HasPrefix, key_heads_of}
 use Rattle.tree.proofs.Headed.{key_heads_kept}
 use Rattle.tree.proofs.NearBounds.{has_prefix_too, common_prefix_near, fewer_alike}
@@ -9,10 +10,10 @@ pub head_given-requires : goal.head_given-requires
 head_given-requires g c =
     let question = c.args.question.now in
     let can_step = c.requires.searched.can_step in
-    let bytes = g.P.Bound.bytes question.from in
-    let near = g.P.Bound.bytes question.to in
+    let bytes = bytes_of question.from in
+    let near = bytes_of question.to in
     let key_heads = key_heads_of c.args.node.now in
-    let other = g.P.Bound.target question.to in
+    let other = target_of question.to in
     let has_prefix : IsTrue c.if-is_some.has_prefix → HasPrefix near key_heads other =
     elim c.if-is_some.branch [
       | goal.then-is_some w ↦
@@ -23,7 +24,7 @@ head_given-requires g c =
       | goal.else-is_some w ↦ λ yes. absurd (not_both _ yes (w.has_prefix-is ∙ w.if-is_some.false))
     ] in
     let fewer = fewer_alike c.min.result _ _ other (omega (arith, c.min.ensures)) question.common_prefix in
-    let have_prefix = common_prefix_near bytes near (g.P.Bound.below question.from) _ other _ (Some c.args.common_prefix_len)
+    let have_prefix = common_prefix_near bytes near (below_of question.from) _ other _ (Some c.args.common_prefix_len)
     c.min.result can_step.known (omega (arith, c.min.ensures)) (sym fewer) (λ key. sym (question.bytes key)) in
     -- the other bound knows the same bytes
     let headed = key_heads_kept bytes near (λ key text is. sym (question.bytes key) ∙ is) key_heads can_step.can_find.headed in

@@ -1,6 +1,7 @@
 use Rattle.std.proofs.Common.{◌+◌, arith}
 use Rattle.std.proofs.lemmas.Option.{slice_get_within}
 use Rattle.tree.specs.Node.{entries_of}
+use Rattle.tree.specs.KeyBound.{below_of}
 use Rattle.tree.proofs.ToldKeys.{next_fails}
 use Rattle.tree.proofs.approach.is_clear.Goals as goal
 
@@ -8,7 +9,7 @@ pub returns-then-question-clause-next : goal.returns-then-question-clause-next
 returns-then-question-clause-next g c = λ _ e there.
     let question = c.args.question.now in
     let searched = c.requires.searched.can_step.can_find in
-    let fails = next_fails (g.P.Bound.below question.from) _ _ e searched.partitioned c.requires.last_below there in
+    let fails = next_fails (below_of question.from) _ _ e searched.partitioned c.requires.last_below there in
     elim c.then-question.branch [
       | goal.then-question-via-then-question w ↦ let so = question.single w.if-question.true e.key in grind (arith, so, fails)
       | goal.then-question-via-else-question+then-next-len w ↦

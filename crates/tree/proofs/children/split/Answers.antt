@@ -1,5 +1,6 @@
 use Rattle.std.proofs.Common.{rules, length, refl, ap, arith}
 use Rattle.arena.specs.Arena.{with_header}
+use Rattle.arena.specs.Arena.{key_at}
 use Rattle.tree.proofs.Headed.{headed_at}
 use Rattle.tree.proofs.KnownKeys.{headed_header}
 use Rattle.tree.proofs.Neighbours.{left_entries, left_live, both_changes}
@@ -50,7 +51,7 @@ returns g c =
           left = omega (arith, split.ensures.filled.left, ap length here);
           right = omega (arith, split.ensures.filled.right, ap length then.entries);
         };
-        headed = then.headed (g.P.Bound.bytes c.args.bound.now) split.ensures.headed.right
+        headed = then.headed (key_at c.args.keys.now) split.ensures.headed.right
             (headed_header _ old b slot split.new.self refl can.headed split.ensures.headed.left);
       };
     }

@@ -1,4 +1,5 @@
 use Rattle.std.proofs.Common.{rules, ℕ, get_or, ◌≤◌, ◌∙◌, ap, sym, arith}
+use Rattle.tree.specs.KeyBound.{below_of, bytes_of, target_of}
 use Rattle.tree.proofs.Words.{index_in, least_of}
 use Rattle.tree.proofs.Found.{IsFound, found, found_subtree, found_partitioned, found_leaf}
 use Rattle.tree.proofs.FirstKeys.{known_below, some_below}
@@ -13,7 +14,7 @@ step-step-requires g t c = search (rules, can_step_at c.requires.can_reach c.hea
 
 -- the child at which the search goes on
 child_found : (g : Over) (t : ℕ) (c : After-index-entries-step g t)
-    → IsFound c.args.nodes.now (least_of g.row.N) c.args.height c.args.slot (g.P.Bound.below c.args.bound.now)
+    → IsFound c.args.nodes.now (least_of g.row.N) c.args.height c.args.slot (below_of c.args.bound.now)
     (get_or c.entries-entries.result.now c.step-step.result.index c.index-entries-step.result).child
 child_found g t c =
     found _ _ c.args.height c.args.slot _ _ _ c.step-step.result.index c.index-entries-step.result c.if-height-eq0.false
@@ -24,7 +25,7 @@ pub find-requires : goal.find-requires
 find-requires g t c κs within =
     let some : 1 ≤ least_of g.row.N = omega arith in
     let f = child_found g t (goal.at.find-requires g t c).After-index-entries-step in
-    let known = known_below _ _ _ _ _ _ f (g.P.Bound.bytes c.args.bound.now) (g.P.Bound.target c.args.bound.now)
+    let known = known_below _ _ _ _ _ _ f (bytes_of c.args.bound.now) (target_of c.args.bound.now)
     c.step-step.result.common_prefix_len _ c.step-step.result.index c.header_ref-node.ensures.header
     c.step-step.ensures.step.index_is c.step-step.ensures.step.knows in
     search (rules, known, found_subtree _ _ _ _ _ _ f, some_below _ _ _ _ _ _ f some, found_partitioned _ _ _ _ _ _ f)

@@ -1,5 +1,6 @@
 use Rattle.std.proofs.Common.{rules, sym, ◌∙◌, arith}
 use Rattle.tree.specs.Node.{entries_of, key_heads_of}
+use Rattle.tree.specs.KeyBound.{bytes_of}
 use Rattle.tree.proofs.Headed.{key_heads_kept}
 use Rattle.tree.proofs.NearBounds.{no_more}
 use Rattle.tree.proofs.questions.end_in.Goals as goal
@@ -17,7 +18,7 @@ pub lower_bound_from-requires : goal.lower_bound_from-requires
 lower_bound_from-requires g c =
     let question = c.args.question.now in
     let find = c.requires.searched.can_step.can_find in
-    let headed = key_heads_kept (g.P.Bound.bytes question.from) (g.P.Bound.bytes question.to)
+    let headed = key_heads_kept (bytes_of question.from) (bytes_of question.to)
     (λ key text is. sym (question.bytes key) ∙ is) (key_heads_of c.args.node.now) find.headed in
     let more = no_more _ _ question.nested (entries_of c.args.node.now) in
     (search rules, (search rules, (c.end_head-head.ensures.head, omega (arith, c.requires.begin.count_is, more))))

@@ -1,5 +1,6 @@
 use Rattle.std.proofs.Common.{rules, sym, ◌∙◌, w64}
 use Rattle.std.proofs.lemmas.Int.{to_z-of_z}
+use Rattle.tree.specs.KeyBound.{bytes_of}
 use Rattle.tree.proofs.Exceeding.{above_by_most}
 use Rattle.tree.proofs.Headed.{headed_kept}
 use Rattle.tree.proofs.questions.exceeds.Goals as goal
@@ -8,7 +9,7 @@ pub greatest-requires : goal.greatest-requires
 greatest-requires g c =
     let question = c.args.question.now in
     let asked = c.requires.asked in
-    let headed = headed_kept (g.P.Bound.bytes question.from) (g.P.Bound.bytes question.to)
+    let headed = headed_kept (bytes_of question.from) (bytes_of question.to)
     (λ key text is. sym (question.bytes key) ∙ is) _ asked.can_reach.headed in
     search (rules, asked.can_reach, asked.to, headed, question.nested)
 

@@ -1,6 +1,8 @@
 use Rattle.std.proofs.Common.{rules, Some, refl, w64, arith}
 use Rattle.std.proofs.lemmas.Bool.{not-false}
 use Rattle.std.proofs.lemmas.Int.{to_z-of_z}
+use Rattle.tree.specs.KeyBound.{below_of, bytes_of, target_of}
+use Rattle.tree.proofs.KeyBounds.{key_order}
 use Rattle.tree.proofs.Words.{CanStep, entries_of, least_of}
 use Rattle.tree.proofs.HeadAt.{all_known}
 use Rattle.tree.proofs.Looks.{IsLook, can_step_at, look_bound, look_ordered}
@@ -13,8 +15,8 @@ use Rattle.tree.proofs.questions.leaf_told.Goals.{After-entries-entries, After-e
 
 -- what is asked of the search in a node
 asked : (g : Over) (c : After-entries-entries g)
-    → CanStep (g.P.Bound.bytes c.args.question.now.from) (g.P.Bound.below c.args.question.now.from)
-    (g.P.Bound.target c.args.question.now.from) c.header_ref-node.result.now (Some c.args.near.common_prefix_len)
+    → CanStep (bytes_of c.args.question.now.from) (below_of c.args.question.now.from)
+    (target_of c.args.question.now.from) c.header_ref-node.result.now (Some c.args.near.common_prefix_len)
 asked g c = can_step_at c.requires.asked.can_reach c.header_ref-node.ensures.header c.requires.near.known
 
 pub lower_bound_by_head-begin-requires : goal.lower_bound_by_head-begin-requires
@@ -22,22 +24,22 @@ lower_bound_by_head-begin-requires g c =
     let a = asked g (goal.at.lower_bound_by_head-begin-requires g c).After-entries-entries in
     let from_head = rw c.header_ref-node.ensures.header at c.requires.from_head in
     let bound = c.args.question.now.from in
-    let known = all_known (g.P.Bound.bytes bound) c.header_ref-node.result.now a.can_find.headed (g.P.Bound.target bound)
-    (g.P.Bound.below bound) (g.met.P.Bound.order bound) c.args.near.common_prefix_len a.can_find.some a.known in
+    let known = all_known (bytes_of bound) c.header_ref-node.result.now a.can_find.headed (target_of bound)
+    (below_of bound) (key_order bound) c.args.near.common_prefix_len a.can_find.some a.known in
     (search rules, (a.can_find, (from_head.head, (λ none. known (from_head.none none)))))
 
 pub end_in-end-requires : goal.end_in-end-requires
 end_in-end-requires g c =
     let a = asked g (goal.at.end_in-end-requires g c).After-entries-entries in
     let from_head = rw c.header_ref-node.ensures.header at c.requires.from_head in
-    let to = look_bound c.args.nodes.now (least_of g.row.N) 0 c.args.near.leaf (g.P.Bound.below c.args.question.now.to)
+    let to = look_bound c.args.nodes.now (least_of g.row.N) 0 c.args.near.leaf (below_of c.args.question.now.to)
     c.header_ref-node.result.now _ c.requires.near.live c.requires.asked.to c.header_ref-node.ensures.header refl in
     search rules
 
 -- the two bounds of a leaf
 leaf : (g : Over) (c : After-end_in-end g)
-    → IsLook c.args.nodes.now (least_of g.row.N) 0 c.args.near.leaf (g.P.Bound.below c.args.question.now.from)
-    (g.P.Bound.below c.args.question.now.to) (entries_of c.header_ref-node.result.now) c.lower_bound_by_head-begin.result
+    → IsLook c.args.nodes.now (least_of g.row.N) 0 c.args.near.leaf (below_of c.args.question.now.from)
+    (below_of c.args.question.now.to) (entries_of c.header_ref-node.result.now) c.lower_bound_by_head-begin.result
     c.end_in-end.result
 leaf g c = search (rules, entries_from_header c.args.nodes.now _ _ c.header_ref-node.ensures.header)
 
@@ -53,7 +55,7 @@ pub returns : goal.returns
 returns g c =
     let a = asked g (goal.at.returns g c).After-entries-entries in
     let k = leaf g (goal.at.returns g c).After-end_in-end in
-    let least = some_pass (g.P.Bound.below c.args.question.now.from) _ a.can_find.some (λ e is. (a.known e is).0) in
+    let least = some_pass (below_of c.args.question.now.from) _ a.can_find.some (λ e is. (a.known e is).0) in
     let kept = to_z-of_z w64 c.args.question.now.version (search rules) in
     record {
       told = told_by_leaf _ _ _ _ _ _ _ _ _ k c.args.question.now.version c.args.near.clear c.any_above.result refl

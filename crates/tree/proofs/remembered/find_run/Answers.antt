@@ -3,6 +3,7 @@ use Rattle.std.proofs.lemmas.Bool.{leb-true}
 use Rattle.tree.specs.Finding.{CanFind}
 use Rattle.tree.specs.Heads.{HasPrefix, IsTargetHead}
 use Rattle.tree.specs.Node.{entries_of, key_heads_of}
+use Rattle.tree.specs.KeyBound.{below_of, bytes_of, target_of}
 use Rattle.tree.proofs.Headed.{key_heads_kept}
 use Rattle.tree.proofs.NearBounds.{has_prefix_too, no_more}
 use Rattle.tree.proofs.WrittenLeaf.{none_if}
@@ -14,14 +15,14 @@ use Rattle.tree.proofs.remembered.find_run.Goals as goal
 module _ (g : given.Over) (c : After-head g) where
   open c use {args.{leaf.{now as leaf}, new.{now as new}}, requires.{can_find}}
 
-  end_head : IsTargetHead (g.P.Bound.bytes new.to.now) (key_heads_of leaf) (g.P.Bound.target new.to.now) c.head-end_head.result
+  end_head : IsTargetHead (bytes_of new.to) (key_heads_of leaf) (target_of new.to) c.head-end_head.result
   end_head = record {
     has_prefix = c.has_prefix_of.ensures.has_prefix (search rules);
     head_is = rw c.prefix_len-prefix_len.ensures.prefix_len at c.head-end_head.ensures.head;
     are_bytes = c.head-end_head.ensures.are_bytes;
   }
 
-  begin_agrees : HasPrefix (g.P.Bound.bytes new.from.now) (key_heads_of leaf) (g.P.Bound.target new.from.now)
+  begin_agrees : HasPrefix (bytes_of new.from) (key_heads_of leaf) (target_of new.from)
   begin_agrees = elim c.if-ends_above.branch [
     | then-ends_above w ↦
         has_prefix_too _ _ _ _ _ new.targets_prefix_len (Some c.head-end_head.result) (λ key. sym (new.bytes key)) end_head refl
@@ -30,14 +31,14 @@ module _ (g : given.Over) (c : After-head g) where
     | else-ends_above w ↦ absurd (cc)
   ]
 
-  begin_head : IsTargetHead (g.P.Bound.bytes new.from.now) (key_heads_of leaf) (g.P.Bound.target new.from.now) c.head.result
+  begin_head : IsTargetHead (bytes_of new.from) (key_heads_of leaf) (target_of new.from) c.head.result
   begin_head = record {
     has_prefix = begin_agrees;
     head_is = rw c.prefix_len-prefix_len.ensures.prefix_len at c.head.ensures.head;
     are_bytes = c.head.ensures.are_bytes;
   }
 
-  from_known : CanFind (g.P.Bound.bytes new.from.now) (g.P.Bound.below new.from.now) leaf
+  from_known : CanFind (bytes_of new.from) (below_of new.from) leaf
   from_known = record {
     headed = key_heads_kept _ _ (λ key text is. new.bytes key ∙ is) (key_heads_of leaf) can_find.second_bound.headed;
     partitioned = can_find.first_bound;

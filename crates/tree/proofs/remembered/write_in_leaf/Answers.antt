@@ -6,6 +6,7 @@ use Rattle.tree.specs.Node.{entries_of}
 use Rattle.tree.specs.Run.{CanFindRun}
 use Rattle.tree.specs.Subtree.{entries_at}
 use Rattle.tree.specs.Tree.{ended_by}
+use Rattle.tree.specs.KeyBound.{below_of, bytes_of}
 use Rattle.tree.proofs.Headed.{headed_at}
 use Rattle.tree.proofs.Leaves.{entries_of_partitioned}
 use Rattle.tree.proofs.Placing.{entries_from_header}
@@ -21,8 +22,8 @@ module _ (g : given.Over) (c : After-header_ref-node g) where
   read : entries_at c.args.nodes.now c.args.leaf.slot ≡ entries_of c.header_ref-node.result.now
   read = entries_from_header c.args.nodes.now c.args.leaf.slot _ c.header_ref-node.ensures.header
 
-  can_find : CanFindRun (g.P.Bound.below c.args.new.now.from.now) (g.P.Bound.below c.args.new.now.to.now)
-      (g.P.Bound.bytes c.args.new.now.to.now) c.header_ref-node.result.now
+  can_find : CanFindRun (below_of c.args.new.now.from) (below_of c.args.new.now.to)
+      (bytes_of c.args.new.now.to) c.header_ref-node.result.now
   can_find =
       let can = c.requires.can_write in
       record {
@@ -45,8 +46,8 @@ returns g c =
     let h = (goal.at.returns g c).After-header_ref-node in
     let can = can_find g h in
     let new = c.args.new.now in
-    let p = g.P.Bound.below new.from.now in
-    let q = g.P.Bound.below new.to.now in
+    let p = below_of new.from in
+    let q = below_of new.to in
     let es = entries_of c.header_ref-node.result.now in
     let run = c.in_ok-run.ensures.run in
     let begin = c.in_ok-run.run'.begin in
@@ -78,12 +79,12 @@ returns g c =
             length-map (drop end es) item_of,
             ap length (sym (items_parted q es end can.second_bound.partitioned ends).1 ∙ (rw (read g h) at none)),
           ));
-          gives = λ is_first next. rw (read g h) (whole_run p q (g.P.Bound.below new.past.now) new.nested es begin end
+          gives = λ is_first next. rw (read g h) (whole_run p q (below_of new.past) new.nested es begin end
               can.first_bound can.second_bound.partitioned (omega (arith, in_order, within)) begins ends (item_of new.first) new.second
               new.last ended is_first next _ _ (inl run.some_before) (omega (arith, run.some_before, in_order)) _ last
               (taken_out _ es begin end c.put_taken.ensures.taken c.requires.can_write.none_taken c.entries-entries.ensures.entries
               in_order)
-              (ended_in_leaf q (g.P.Bound.below new.past.now) es end others next ended run.some_behind run.ended) written);
+              (ended_in_leaf q (below_of new.past) es end others next ended run.some_behind run.ended) written);
           filled = omega (
             arith,
             run.filled,

@@ -8,6 +8,7 @@ use Rattle.tree.specs.Node.{entries_of, keys_of}
 use Rattle.tree.specs.Subtree.{slots_in}
 use Rattle.tree.specs.Children.{slots_of}
 use Rattle.tree.specs.Tree.{least_of}
+use Rattle.arena.specs.Arena.{key_at}
 use Rattle.tree.proofs.Changing.{moves_if_changes}
 use Rattle.tree.proofs.Replacing.{both_right}
 use Rattle.tree.proofs.Rooting.{grown}
@@ -15,7 +16,7 @@ use Rattle.tree.proofs.root.grow.Goals as goal
 
 pub compute_heads-requires : goal.compute_heads-requires
 compute_heads-requires g c =
-    let bytes = g.P.Bound.bytes c.args.bound.now in
+    let bytes = key_at c.args.keys.now in
     let first = c.entry_for.result in
     let second = c.entry_for-2.result in
     let es : List Entry = first ∷ second ∷ [] in
@@ -48,7 +49,7 @@ returns g c =
       tree = record {
         rooted = rw add-one root.1;
         spare = c.place.ensures.placed.changes.spare;
-        headed = c.place.ensures.placed.headed (g.P.Bound.bytes c.args.bound.now) c.compute_heads.ensures.headed can.headed;
+        headed = c.place.ensures.placed.headed (key_at c.args.keys.now) c.compute_heads.ensures.headed can.headed;
         raised_is = tt;
       };
     }

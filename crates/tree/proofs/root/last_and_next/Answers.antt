@@ -1,6 +1,7 @@
 use Rattle.std.proofs.Common.{◌<◌, rules, ◌≡◌, ◌∙◌, length, filter, take, drop, map, ◌++◌, None, sym, ap, refl, arith}
 use Rattle.std.specs.Prelude.{not}
 use Rattle.std.proofs.Math.Seq.{drop-append_seam, take-append_seam}
+use Rattle.tree.specs.KeyBound.{below_of, bytes_of}
 use Rattle.tree.proofs.Words.{Item, behind, behind_leaf, first_key, item_of, items_in}
 use Rattle.tree.specs.declared.entry.Entry.{Entry}
 use Rattle.tree.specs.Node.{entries_of}
@@ -19,12 +20,12 @@ lower_bound-count-requires g c =
     let read = entries_read c.args.nodes.now c.reach-reached.result.leaf header (entries_of header) h refl in
     let some = rw read at found.some in
     let positive : 0 < length (entries_of header) = omega (arith, some) in
-    let headed = headed_at (g.P.Bound.bytes c.args.bound.now) c.args.nodes.now _ header c.requires.can_reach.headed h in
+    let headed = headed_at (bytes_of c.args.bound.now) c.args.nodes.now _ header c.requires.can_reach.headed h in
     search (rules, headed, rw read at found.partitioned, positive, rw read at found.knows)
 
 pub returns : goal.returns
 returns g c =
-    let is_below = g.P.Bound.below c.args.bound.now in
+    let is_below = below_of c.args.bound.now in
     let nodes = c.args.nodes.now in
     let found = c.reach-reached.ensures.reached in
     let es = entries_at nodes c.reach-reached.result.leaf in

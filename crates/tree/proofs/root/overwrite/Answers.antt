@@ -4,6 +4,7 @@ use Rattle.tree.specs.Item.{item_of}
 use Rattle.tree.specs.Overwrite.{IsPartOfPartitioned}
 use Rattle.tree.specs.Subtree.{items_in}
 use Rattle.tree.specs.Walk.{CanChange, IsChanged, IsRaisedAt, IsRaisedIn}
+use Rattle.tree.specs.KeyBound.{below_of, bytes_of}
 use Rattle.tree.proofs.ChangedLeaf.{leaf_stored}
 use Rattle.tree.proofs.RaisedLeaves.{part_of_raised, raised_tree, root_can, within_raised, written}
 use Rattle.tree.proofs.WrittenLeaf.{part_partitioned, raised}
@@ -16,10 +17,10 @@ module _ (g : given.Over) (c : In-Some g) where
   open c use {args.{nodes.{now as nodes}, root.{now as root}, new.{now as new}}, requires.{can_change}, in-Some.{leaf}}
 
   abbrev p : ℕ → Bool
-  p = g.P.Bound.below new.from.now
+  p = below_of new.from
 
   abbrev q : ℕ → Bool
-  q = g.P.Bound.below new.to.now
+  q = below_of new.to
 
   there : IsRaisedIn nodes leaf root.height root.slot
   there = rw c.in-Some.is at c.requires.raised
@@ -54,7 +55,7 @@ write_in_leaf-requires g c =
     )
 
 -- the leaf once the run was written over
-changed : (g : given.Over) (c : In-Some-write_in_leaf g) → IsChanged (g.P.Bound.bytes c.args.new.now.to.now) c.args.nodes.now
+changed : (g : given.Over) (c : In-Some-write_in_leaf g) → IsChanged (bytes_of c.args.new.now.to) c.args.nodes.now
     c.write_in_leaf.new.nodes 0 c.in-Some.leaf.slot (Raised c.in-Some.leaf)
 changed g c =
     let h = (goal.at.In-Some-write_in_leaf g c).In-Some in

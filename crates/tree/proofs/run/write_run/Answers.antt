@@ -7,6 +7,7 @@ use Rattle.tree.specs.Heads.{KeyBytes, AreHeadsBeside, IsHeadBeside, IsKnown}
 use Rattle.tree.specs.Item.{item_of}
 use Rattle.tree.specs.Node.{key_heads_of, keys_of}
 use Rattle.tree.specs.Tree.{ended_by}
+use Rattle.tree.specs.KeyBound.{bytes_of, target_of}
 use Rattle.tree.proofs.ChangedLeaf.{put_stored}
 use Rattle.tree.proofs.Headed.{headed_at}
 use Rattle.tree.proofs.NearBounds.{both_put, both_zipped, key_beside}
@@ -21,7 +22,7 @@ module _ (g : given.Over) (c : Joined-is_some g) where
   open c use {args.{new.{now as new}, run}, requires.{can_write}, if-run.{entries.{now as put}}, item.{result as other}}
 
   abbrev bytes : KeyBytes
-  bytes = g.P.Bound.bytes new.to.now
+  bytes = bytes_of new.to
 
   put_is : put ≡ entries_put run.ended new.first other
   put_is = elim c.if-run.branch [
@@ -32,15 +33,15 @@ module _ (g : given.Over) (c : Joined-is_some g) where
   few_put : length put ≤ 2
   few_put = rw put_is (at_most_two run.ended new.first other)
 
-  second_is : bytes other.key ≡ Some (g.P.Bound.target new.to.now)
+  second_is : bytes other.key ≡ Some (target_of new.to)
   second_is = ap (λ x. bytes x.key) c.item.ensures.item ∙ new.second_is
 
   -- the keys of both new entries are known
   put_known : All (IsKnown bytes) (keys_of put)
   put_known =
       simp put_is (both_put (IsKnown bytes) run.ended new.first other
-      (record { text = g.P.Bound.target new.from.now; known = new.first_is; are_bytes = new.from_bytes })
-      (record { text = g.P.Bound.target new.to.now; known = second_is; are_bytes = new.to_bytes }))
+      (record { text = target_of new.from; known = new.first_is; are_bytes = new.from_bytes })
+      (record { text = target_of new.to; known = second_is; are_bytes = new.to_bytes }))
 
   -- The heads are those of the new keys, where both targets begin as all keys do.
   heads_beside : c.if-is_some.have_prefix ≡ true → AreHeadsBeside bytes (key_heads_of can_write.leaf) (keys_of put)
@@ -48,7 +49,7 @@ module _ (g : given.Over) (c : Joined-is_some g) where
   heads_beside have_prefix = elim c.if-is_some.branch [
     | then-is_some w ↦
         let keys = key_heads_of can_write.leaf in
-        let one = key_beside bytes (g.P.Bound.bytes new.from.now) keys _ run.begin_head new.bytes
+        let one = key_beside bytes (bytes_of new.from) keys _ run.begin_head new.bytes
         can_write.run_is.begin_head (cc) new.first.key new.first_is new.from_bytes in
         let two = key_beside bytes bytes keys _ run.end_head (λ key. refl) can_write.run_is.end_head
         (cc) other.key second_is new.to_bytes in

@@ -7,6 +7,7 @@ use Rattle.tree.specs.Subtree.{entries_at, items_in}
 use Rattle.tree.specs.Tree.{least_of}
 use Rattle.tree.specs.Children.{items_of}
 use Rattle.tree.specs.Walk.{CanChangeLeaf, IsChangedWithin, IsUnsettled}
+use Rattle.tree.specs.KeyBound.{below_of, bytes_of, target_of}
 use Rattle.tree.proofs.callers.Times.{once_if_distinct}
 use Rattle.tree.proofs.FirstKeys.{known_below}
 use Rattle.tree.proofs.Headed.{headed_at}
@@ -53,7 +54,7 @@ step-step-requires g t c =
 -- the node at the slot, and the child at which the walk goes on
 module _ (g : Over) (t : ℕ) (c : After-index-entries-step g t) where
   abbrev is_below : ℕ → Bool
-  is_below = g.C.LeafBound.Bound.below (g.C.LeafChange.bound_of c.args.change.now)
+  is_below = below_of (g.C.LeafChange.bound_of c.args.change.now)
 
   abbrev es : List Entry
   es = entries_at c.args.nodes.now c.args.slot
@@ -87,8 +88,8 @@ module _ (g : Over) (t : ℕ) (c : After-index-entries-step g t) where
       }
 
   -- The child can be changed.
-  can_change_child : CanChangeLeaf (g.C.LeafBound.Bound.bytes (g.C.LeafChange.bound_of c.args.change.now)) is_below
-      (g.C.LeafBound.Bound.target (g.C.LeafChange.bound_of c.args.change.now)) (g.C.LeafChange.wants c.args.change.now)
+  can_change_child : CanChangeLeaf (bytes_of (g.C.LeafChange.bound_of c.args.change.now)) is_below
+      (target_of (g.C.LeafChange.bound_of c.args.change.now)) (g.C.LeafChange.wants c.args.change.now)
       c.args.nodes.now h x c.step-step.result.common_prefix_len c.args.taken.now.items
   can_change_child =
       let at = at_child in
@@ -136,7 +137,7 @@ change_leaf-requires g t c κs low =
 -- The node is as its child became.
 unsettled : (g : Over) (t : ℕ) (c : After-change_leaf-outcome g t)
     → (let k = (goal.at.After-change_leaf-outcome g t c).After-index-entries-step in
-    IsUnsettled (g.C.LeafBound.Bound.bytes (g.C.LeafChange.bound_of c.args.change.now)) c.args.nodes.now
+    IsUnsettled (bytes_of (g.C.LeafChange.bound_of c.args.change.now)) c.args.nodes.now
     c.change_leaf-outcome.new.nodes c.args.height (h g t k) c.args.slot (i g t k) (x g t k) c.change_leaf-outcome.result)
 unsettled g t c =
     let at = at_child g t (goal.at.After-change_leaf-outcome g t c).After-index-entries-step in

@@ -5,12 +5,14 @@ use Rattle.std.proofs.lemmas.List.{length-take}
 use Rattle.arena.specs.Arena.{key_at}
 use Rattle.keys.specs.declared.range.Range.{Range}
 use Rattle.tree.specs.Item.{Item}
+use Rattle.tree.specs.declared.question.Question.{Question}
+use Rattle.tree.specs.KeyBound.{below_of}
 use Rattle.tree.specs.Path.{IsPartitioned, items_below}
 use Rattle.tree.specs.Tree.{CanSearchItems}
 use Rattle.stepmap.specs.Asking.{Exceeds}
 use Rattle.stepmap.specs.Boundary.{Boundary, AreBoundaries}
 use Rattle.stepmap.specs.Stored.{Stored, boundaries_of}
-use Rattle.stepmap.proofs.Asking.{BoundQuestion, Asks, Told, is_below, can_search_at, some_pass, told_above, query_gives, from_query}
+use Rattle.stepmap.proofs.Asking.{Asks, Told, can_search_at, some_pass, told_above, query_gives, from_query}
 use Rattle.stepmap.proofs.InTurn.{AllZip-second, AllZip-through}
 use Rattle.stepmap.proofs.boundaries.Boundaries.are_above.Goals as goal
 
@@ -21,8 +23,8 @@ exceeds_each-requires g c =
     let queries = g.L.QueryList.queries c.args.queries.now in
     let places = c.args.places.now in
     let questions = take (length places) c.put_questions.new.questions in
-    let asked = λ (place : ℕ) (q : BoundQuestion). IsSomeAnd (slice_get queries place) (λ a. Asks b.keys a q) in
-    let each : (Q : BoundQuestion → Type 0) → ((a : Range × ℤ) (q : BoundQuestion) → Asks b.keys a q → Q q) → All Q questions =
+    let asked = λ (place : ℕ) (q : Question). IsSomeAnd (slice_get queries place) (λ a. Asks b.keys a q) in
+    let each : (Q : Question → Type 0) → ((a : Range × ℤ) (q : Question) → Asks b.keys a q → Q q) → All Q questions =
     λ Q gives. AllZip-second asked Q
     (λ place q some. from_query (slice_get queries place) (λ a. Asks b.keys a q) (λ a asks. gives a q asks) some) places
     questions c.put_questions.ensures.asks in
@@ -32,12 +34,12 @@ exceeds_each-requires g c =
       (
         few,
         (
-          each (λ q. CanSearchItems (is_below q.from) (key_at q.from.keys.now) b.tree)
+          each (λ q. CanSearchItems (below_of q.from) (key_at q.from.keys.now) b.tree)
               (λ a q asks. can_search_at b.keys b.tree indexed true a.0.begin q.from asks.0.begin),
           (
-            each (λ q. IsPartitioned (λ (x : Item). is_below q.to x.key) b.tree.items)
+            each (λ q. IsPartitioned (λ (x : Item). below_of q.to x.key) b.tree.items)
                 (λ a q asks. (can_search_at b.keys b.tree indexed false a.0.end q.to asks.0.end).partitioned),
-            each (λ q. items_below (is_below q.from) b.tree.items ≢ [])
+            each (λ q. items_below (below_of q.from) b.tree.items ≢ [])
                 (λ a q asks. some_pass b.keys b.tree indexed a.0.begin q.from asks.0.begin),
           ),
         ),
@@ -57,7 +59,7 @@ returns g c =
     let told : AllZip (Told b.tree) questions c.exceeds_each.result.items =
     c.exceeds_each.ensures.told in
     let above : AllZip (Above bs) places c.exceeds_each.result.items =
-    AllZip-through (λ (place : ℕ) (q : BoundQuestion). IsSomeAnd (slice_get queries place) (λ a. Asks b.keys a q)) (Told b.tree)
+    AllZip-through (λ (place : ℕ) (q : Question). IsSomeAnd (slice_get queries place) (λ a. Asks b.keys a q)) (Told b.tree)
     (Above bs)
     (λ place q above some told. query_gives (slice_get queries place) (λ a. Asks b.keys a q)
     (λ a. IsTrue above ↔ Exceeds bs a) (λ a asks. told_above b.keys b.tree c.self.invariant are a q above asks told) some)

@@ -8,7 +8,7 @@ use Rattle.tree.specs.Item.{Item, item_of}
 use Rattle.tree.specs.Path.{items_below, behind}
 use Rattle.tree.specs.Tree.{IsLast}
 use Rattle.stepmap.specs.Boundary.{last_version}
-use Rattle.stepmap.specs.KeyBound.{slot_is_below}
+use Rattle.tree.specs.KeyBound.{slot_is_below}
 use Rattle.stepmap.specs.Stored.{bytes_at, boundaries_of, first_key}
 use Rattle.stepmap.specs.Sweeping.{left_from, passed_to}
 use Rattle.stepmap.proofs.Passed.{are_passed, is_some, first_bytes, first_has, keys_have, last_is}

@@ -6,7 +6,7 @@ use Rattle.keys.specs.Key.{IsKey}
 use Rattle.tree.specs.Item.{Item, item_of}
 use Rattle.tree.specs.Expire.{RemovesExpired}
 use Rattle.stepmap.specs.Boundary.{Boundary, last_version}
-use Rattle.stepmap.specs.KeyBound.{slot_is_below}
+use Rattle.tree.specs.KeyBound.{slot_is_below}
 use Rattle.stepmap.specs.Stored.{Stored, bytes_at, boundaries_of, first_key}
 use Rattle.stepmap.specs.Sweeping.{left_from, passed_to, unexpired}
 use Rattle.stepmap.proofs.LastFound.{some_is_below}

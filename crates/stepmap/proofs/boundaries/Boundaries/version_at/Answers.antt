@@ -7,7 +7,7 @@ use Rattle.tree.specs.Item.{item_of}
 use Rattle.tree.specs.Path.{items_below}
 use Rattle.tree.specs.Tree.{IsLast}
 use Rattle.stepmap.specs.Boundary.{value_at}
-use Rattle.stepmap.specs.KeyBound.{slot_is_below}
+use Rattle.tree.specs.KeyBound.{slot_is_below}
 use Rattle.stepmap.specs.Stored.{Stored, boundaries_of}
 use Rattle.stepmap.proofs.Asking.{can_search}
 use Rattle.stepmap.proofs.LastFound.{some_is_below, last_boundary, value_of_last}

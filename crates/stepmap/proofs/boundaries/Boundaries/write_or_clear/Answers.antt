@@ -14,7 +14,7 @@ use Rattle.arena.specs.Arena.{Arena, IsLive, record_at, key_at, spare_of, size_o
 use Rattle.arena.specs.declared.size.TheConstants.{MAX_LENGTH}
 use Rattle.keys.specs.Key.{IsBefore, IsBytes}
 use Rattle.stepmap.specs.Boundary.{AreBoundaries, value_at}
-use Rattle.stepmap.specs.KeyBound.{slot_is_below}
+use Rattle.tree.specs.KeyBound.{slot_is_below}
 use Rattle.stepmap.specs.Stored.{Stored, spare_in, boundary_of, boundaries_of, AreIndexed}
 use Rattle.stepmap.specs.Writing.{written_to}
 use Rattle.stepmap.proofs.Between.{nested, nested_around}

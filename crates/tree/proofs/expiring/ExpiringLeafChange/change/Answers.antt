@@ -1,5 +1,6 @@
 use Rattle.std.proofs.Common.{rules, Bool, false, IsTrue, ◌∷◌, ℕ, ◌≡◌, ◌≢◌, ◌≤◌, ◌<◌, ◌+◌, ◌-◌, ◌∙◌, ◌++◌, ap, sym, refl, List, [], length, filter, take, drop, map, arith, w64}
 use Rattle.std.proofs.lemmas.Int.{to_z-of_z}
+use Rattle.tree.specs.KeyBound.{below_of}
 use Rattle.tree.proofs.Words.{with_header, Entry, Item, item_of, entries_of, entries_at, GivesUnexpired, unexpired, expired}
 use Rattle.tree.proofs.ChangedLeaf.{leaf_can_step, leaf_changed, unchanged}
 use Rattle.tree.proofs.Headed.{headed_at}
@@ -21,7 +22,7 @@ lower_bound-below-requires g c = (
 pub returns-then-below-eq0-clause-items : goal.returns-then-below-eq0-clause-items
 returns-then-below-eq0-clause-items g c =
     let can = leaf_can_step c.requires.can_change c.header_ref-leaf.ensures.header in
-    let none = (items_parted (g.P.Bound.below c.args.self.now.bound.now) _ 0 can.can_find.partitioned
+    let none = (items_parted (below_of c.args.self.now.bound) _ 0 can.can_find.partitioned
     (omega (arith, c.lower_bound-below.ensures.count.count_is, c.if-below-eq0.true))).0 in (
       λ _. (refl, rw c.requires.can_change.none_taken refl),
       λ some. absurd (some (rw (entries_from_header c.args.nodes.now c.args.slot _ c.header_ref-leaf.ensures.header) none)),
@@ -63,10 +64,10 @@ module _ (g : given.Over) (c : After-has_expired g) where
   swept : (now out : List Item)
       → now ≡ map item_of (take begin es) ++ (unexpired edge before looked ++ map item_of (drop end es))
       → out ≡ expired edge before looked
-      → GivesUnexpired (g.P.Bound.below bound.now) count edge before c.look_at-self.result out
+      → GivesUnexpired (below_of bound.now) count edge before c.look_at-self.result out
       place.behind (map item_of (entries_at nodes slot)) now
   swept now out now_is out_is =
-      let p = g.P.Bound.below bound.now in
+      let p = below_of bound.now in
       let partitioned = (leaf_can_step c.requires.can_change header).can_find.partitioned in
       let told = c.look_at-self.ensures in
       let first_is : begin + 1 ≡ length (filter (λ (e : Entry). p e.key) es) = omega (arith, counts, c.if-below-eq0.false) in

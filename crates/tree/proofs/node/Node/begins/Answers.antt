@@ -1,5 +1,6 @@
 use Rattle.std.proofs.Common.{◌≡◌, ◌-◌, length, Some, slice_get, arith, leb-true}
 use Rattle.tree.specs.Node.{entries_of, key_heads_of}
+use Rattle.arena.specs.Arena.{key_at}
 use Rattle.tree.proofs.HeadChanges.{common_agrees, last_there}
 use Rattle.tree.proofs.node.Node.begins.Goals as goal
 
@@ -12,6 +13,6 @@ returns-in-Some g c =
     record {
       has_prefix = λ enough.
           let least = leb-true c.prefix_len.result c.common_prefix_len.result enough in
-          common_agrees (g.P.Bound.bytes c.args.bound.now) (key_heads_of c.args.self.now) c.requires.headed last.key c.args.key
+          common_agrees (key_at c.args.keys.now) (key_heads_of c.args.self.now) c.requires.headed last.key c.args.key
           c.common_prefix_len.result (last_there es last get) (omega (arith, least)) common.same common.within;
     }

@@ -1,5 +1,6 @@
 use Rattle.std.proofs.Common.{◌≢◌, ◌∙◌, sym, get_or, get_or-take, arith, length-take}
 use Rattle.tree.specs.Node.{entries_of, key_heads_of}
+use Rattle.tree.proofs.KeyBounds.{key_order}
 use Rattle.tree.proofs.HeadAt.{entry_at, entry_there, key_there, common_at, differs_too}
 use Rattle.tree.proofs.node.Node.common_prefix_len_in.Goals as goal
 
@@ -16,7 +17,7 @@ returns-else-self-eq0 g c = record {
       let filled : get_or (key_heads_of node).heads 0 0 ≢ 0 = λ zero. c.if-self-eq0.false (sym own ∙ zero) in
       let known = c.requires.known first.0 first.1 in (
         c.requires.is_below e there,
-        differs_too _ _ c.requires.headed _ _ (g.met.P.Bound.order c.args.bound.now) c.args.common_prefix_len first.0.key
+        differs_too _ _ c.requires.headed _ _ (key_order c.args.bound.now) c.args.common_prefix_len first.0.key
             (key_there es 0 first.0 first.1) filled (c.requires.head.none c.in_default.is filled) known.0 known.1 c.args.index
             e.key (key_there es c.args.index e there),
       );
@@ -35,7 +36,7 @@ returns g c = record {
   known = λ e there.
       let own = get_or-take node.len node.heads i 0 (omega (arith, c.requires.within, length-take node.len node.entries)) in
       let passed = c.requires.is_below e there in
-      let common = common_at _ _ c.requires.headed _ _ (g.met.P.Bound.order c.args.bound.now) i e.key c.in-Some.head
+      let common = common_at _ _ c.requires.headed _ _ (key_order c.args.bound.now) i e.key c.in-Some.head
       c.same_head_bytes.result (key_there (entries_of node) i e there) (rw c.in-Some.is at c.requires.head.head) passed
       (λ differ. c.if-self-index.false (sym own ∙ differ)) same.within (rw own same.same) (λ less e. same.differ less (cc)) in
       (passed, rw c.prefix_len.ensures.prefix_len common);

@@ -1,4 +1,5 @@
 use Rattle.std.proofs.Common.{◌<◌, ◌≤◌, ◌∙◌, length, refl, ap, sym, arith, length-set, take_all, ◌≡◌}
+use Rattle.arena.specs.Arena.{key_at}
 use Rattle.tree.proofs.Words.{head_at, entries_of, keys_of}
 use Rattle.tree.proofs.HeadChanges.{head_next, head_read, keys_count}
 use Rattle.tree.proofs.node.Node.compute_heads.Goals as goal
@@ -8,7 +9,7 @@ loop-index-init g c = record { len = refl; entries = refl; prefix_len = refl; ro
 
 pub loop-index-preserved : goal.loop-index-preserved
 loop-index-preserved g c =
-    let bytes = g.P.Bound.bytes c.args.bound.now in
+    let bytes = key_at c.args.keys.now in
     let inside : i < node.len = omega (arith, inv.len) in
     let most : node.len ≤ length node.entries = omega (arith, inv.len, ap length inv.entries) in
     let right = head_read node.entries node.len i e inside most is bytes node.prefix_len c.prefix_len.result c.head_of.result

@@ -1,4 +1,5 @@
 use Rattle.std.proofs.Common.{◌≡◌, length, take, map}
+use Rattle.arena.specs.Arena.{key_at}
 use Rattle.tree.proofs.Words.{head_at, entries_of, keys_of}
 use Rattle.tree.proofs.node.Node.compute_heads.Given as goal
 
@@ -9,5 +10,5 @@ invariant-loop-index g l =
       entries : l.self.entries ≡ l.fn.self.entries;
       prefix_len : l.self.prefix_len ≡ l.initial.self.prefix_len;
       room : length l.self.heads ≡ g.row.N;
-      heads : take l.index l.self.heads ≡ map (head_at (g.P.Bound.bytes l.bound) l.self.prefix_len) (take l.index (keys_of (entries_of l.self)));
+      heads : take l.index l.self.heads ≡ map (head_at (key_at l.keys) l.self.prefix_len) (take l.index (keys_of (entries_of l.self)));
     }

@@ -1,4 +1,6 @@
 use Rattle.std.proofs.Common.{◌≡◌, ◌<◌, ◌+◌, inl, get_or, get_or-take, refl, arith, length-take, lt-ltb}
+use Rattle.tree.specs.KeyBound.{target_of}
+use Rattle.tree.proofs.KeyBounds.{key_order}
 use Rattle.tree.proofs.Words.{IsTargetHead, entries_of, key_heads_of}
 use Rattle.tree.proofs.HeadAt.{agrees_at, key_there, common_at, less_passes}
 use Rattle.tree.proofs.node.Node.first_common_prefix_len.Goals as goal
@@ -6,10 +8,10 @@ use Rattle.tree.proofs.node.Node.first_common_prefix_len.Goals as goal
 pub returns-then-self-head : goal.returns-then-self-head
 returns-then-self-head g c = record {
   known = λ e there.
-      let order = g.met.P.Bound.order c.args.bound.now in
+      let order = key_order c.args.bound.now in
       let none : node.prefix_len ≡ 0 = c.if-self-eq0.true in
       let at = key_there (entries_of node) 0 e there in
-      let is : IsTargetHead _ (key_heads_of node) (g.P.Bound.target c.args.bound.now) head = record {
+      let is : IsTargetHead _ (key_heads_of node) (target_of c.args.bound.now) head = record {
         has_prefix = agrees_at _ _ h 0 e.key _ at (inl none) (λ text known long. rw none refl);
         head_is = rw none c.head-head.ensures.head;
         are_bytes = c.head-head.ensures.are_bytes;

@@ -2,6 +2,7 @@ use Rattle.std.proofs.Common.{◌≡◌, ◌≢◌, ◌⊎◌, ◌∙◌, inl, i
 use Rattle.std.proofs.lemmas.Bool.{leb-true}
 use Rattle.tree.specs.Heads.{HasPrefix}
 use Rattle.tree.specs.Node.{entries_of, key_heads_of}
+use Rattle.tree.specs.KeyBound.{bytes_of, target_of}
 use Rattle.tree.proofs.HeadAt.{entry_at, key_there, agrees_at}
 use Rattle.tree.proofs.node.Node.head_for.Goals.{then-self-eq0+then-self-gt0, else-self-eq0, else-self-eq0-via-then-self-eq0+else-self-gt0, else-self-eq0-via-else-self-eq0}
 use Rattle.tree.proofs.node.Node.head_for.Goals as goal
@@ -9,7 +10,7 @@ use Rattle.tree.proofs.node.Node.head_for.Goals as goal
 pub returns : goal.returns
 returns g c =
     let node = c.args.self.now in
-    let has_prefix : HasPrefix (g.P.Bound.bytes c.args.bound.now) (key_heads_of node) (g.P.Bound.target c.args.bound.now) =
+    let has_prefix : HasPrefix (bytes_of c.args.bound.now) (key_heads_of node) (target_of c.args.bound.now) =
     elim c.if-self-eq0.branch [
       | then-self-eq0+then-self-gt0 w ↦
           w.has_prefix_of-has_prefix.ensures.has_prefix (sym w.has_prefix-is ∙ c.if-not-has_prefix.false)

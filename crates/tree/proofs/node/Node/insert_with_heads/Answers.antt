@@ -1,5 +1,6 @@
 use Rattle.std.proofs.Common.{rules, ◌≡◌, ◌∙◌, ℕ, List, Some, slice_get, sym, eqb-true}
 use Rattle.std.proofs.lemmas.Option.{slice_get_within, get_or_from_slice_get}
+use Rattle.arena.specs.Arena.{key_at}
 use Rattle.tree.proofs.Words.{Entry, HasPrefix, entries_of, key_heads_of, keys_of}
 use Rattle.tree.proofs.HeadChanges.{headed_joined, keys_there, known_spliced, map_spliced}
 use Rattle.tree.proofs.Headed.{all_known}
@@ -18,7 +19,7 @@ compute_heads-requires g c =
 
 pub lengthen_prefix-requires : goal.lengthen_prefix-requires
 lengthen_prefix-requires g c =
-    let bytes = g.P.Bound.bytes c.args.bound.now in
+    let bytes = key_at c.args.keys.now in
     let get : slice_get es 0 ≡ Some first = sym {b = slice_get es 0} c.in-Some.ensures.value in
     let there = keys_there es 0 first (slice_get_within es 0 first get) (get_or_from_slice_get es 0 first first get) in
     let have_prefix : (one.prefix_len ≡ other.prefix_len)

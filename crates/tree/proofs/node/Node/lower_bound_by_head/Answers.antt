@@ -1,4 +1,5 @@
 use Rattle.std.proofs.Common.{rules, arith}
+use Rattle.tree.proofs.KeyBounds.{key_order}
 use Rattle.tree.proofs.HeadAt.{filled_within, few_below}
 use Rattle.tree.proofs.node.Node.lower_bound_by_head.Goals as goal
 
@@ -9,7 +10,7 @@ pub lower_bound_from-requires : goal.lower_bound_from-requires
 lower_bound_from-requires g c =
     let is = rw c.in-Some.is at c.requires.head in
     let within = filled_within _ node can.headed (omega arith) c.heads_below-below.result tells.within tells.filled in
-    let least = few_below _ node can.headed _ _ (g.met.P.Bound.order c.args.bound.now) c.in-Some.head is can.partitioned
+    let least = few_below _ node can.headed _ _ (key_order c.args.bound.now) c.in-Some.head is can.partitioned
     c.heads_below-below.result within tells.below in
     (search rules, (can, (is, least)))
   where

@@ -1,4 +1,6 @@
 use Rattle.std.proofs.Common.{◌≡◌, ◌≤◌, ℕ, Bool, ◌+◌, ◌-◌, List, ap, sym, subst, filter, length, take, drop, arith}
+use Rattle.tree.specs.KeyBound.{below_of}
+use Rattle.tree.proofs.KeyBounds.{key_order}
 use Rattle.tree.proofs.Words.{Entry, IsLowerBound, entries_of}
 use Rattle.tree.proofs.callers.Partitions.{IsPartitioned-range, length-items_below}
 use Rattle.tree.proofs.HeadAt.{few_pass, many_pass}
@@ -18,7 +20,7 @@ module _ (g : given.Over) (c : Joined-head g) where
   es = entries_of c.args.self.now
 
   abbrev passes : Entry → Bool
-  passes e = g.P.Bound.below c.args.bound.now e.key
+  passes e = below_of c.args.bound.now e.key
 
   -- A part lies within the entries. Those that pass are the first ones and those of this part.
   abbrev IsPart : ℕ × ℕ → Type 0
@@ -29,7 +31,7 @@ module _ (g : given.Over) (c : Joined-head g) where
   parts : IsPart c.match-head.from
   parts =
       let can = c.requires.can_find in
-      let order = g.met.P.Bound.order c.args.bound.now in
+      let order = key_order c.args.bound.now in
       elim c.match-head.branch [
         | in-Some w ↦
             let found = w.tied.ensures.tied in
@@ -49,7 +51,7 @@ module _ (g : given.Over) (c : Joined-head g) where
 
   -- what is counted lies within the entries
   counted : (n : ℕ) → n ≡ length (filter passes es)
-      → record { count : IsLowerBound (g.P.Bound.below c.args.bound.now) c.args.self.now n }
+      → record { count : IsLowerBound (below_of c.args.bound.now) c.args.self.now n }
   counted n is = record { count = record { within = omega (arith, length-items_below passes es); count_is = is } }
 
 pub returns-then-from-to : goal.returns-then-from-to

@@ -1,5 +1,6 @@
 use Rattle.std.proofs.Common.{rules, ◌≡◌, ◌<◌, ◌≤◌, ◌∙◌, inr, length, slice_index_or, slice_set, ap, sym, arith, eqb-true, length-set, length-take-le}
 use Rattle.std.proofs.Math.Seq.{take-set-lt, map-set}
+use Rattle.arena.specs.Arena.{key_at}
 use Rattle.tree.proofs.Words.{KeyHeads, entries_of, key_heads_of, keys_of}
 use Rattle.tree.proofs.HeadChanges.{head_known, headed_set, key_stays, known_set}
 use Rattle.tree.proofs.node.Node.set_with_head.Goals as goal
@@ -24,7 +25,7 @@ compute_heads-requires g c =
 
 pub returns-clause-headed : goal.returns-clause-headed
 returns-clause-headed g c =
-    let bytes = g.P.Bound.bytes c.args.bound.now in
+    let bytes = key_at c.args.keys.now in
     let count = ap length c.set-2.ensures.entries ∙ length-set (entries_of old) i c.args.entry in
     let inside : i < new.len = omega (arith, c.requires.within, length-take-le new.len new.entries (omega arith), count) in
     let prefix_len : new.prefix_len ≡ old.prefix_len = ap (λ (h : KeyHeads). h.prefix_len) kept in

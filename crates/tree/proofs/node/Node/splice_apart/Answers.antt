@@ -1,5 +1,6 @@
 use Rattle.std.proofs.Common.{rules, ◌≡◌, ◌≤◌, ◌++◌, ◌∙◌, true, length, take, drop, refl, sym, arith, All}
 use Rattle.std.proofs.lemmas.List.{length-map, map-append}
+use Rattle.arena.specs.Arena.{key_at}
 use Rattle.tree.proofs.Words.{Entry, AreHeads, IsKnown, KeyBytes, KeyHeads, entries_of, key_heads_of, keys_of}
 use Rattle.tree.proofs.HeadChanges.{headed_apart, headed_spliced, heads_count, known_spliced, map_spliced}
 use Rattle.tree.proofs.callers.Partitions.{All-front, All-back}
@@ -10,7 +11,7 @@ use Rattle.tree.proofs.node.Node.splice_apart.Goals.{After-redistribute, then-fr
 
 module _ (g : given.Over) (c : After-redistribute g) where
   abbrev bytes : KeyBytes
-  bytes = g.P.Bound.bytes c.args.bound.now
+  bytes = key_at c.args.keys.now
 
   abbrev node : KeyHeads
   node = key_heads_of c.args.self.now

@@ -1,5 +1,6 @@
 use Rattle.std.proofs.Common.{rules, ◌+◌, get_or, lt-ltb, refl, arith}
 use Rattle.tree.specs.Node.{entries_of, key_heads_of}
+use Rattle.tree.proofs.KeyBounds.{key_order}
 use Rattle.tree.proofs.HeadAt.{entry_at, few_pass, key_there, less_passes, stay}
 use Rattle.tree.proofs.HeadCounts.{passing_inside}
 use Rattle.tree.proofs.node.Node.step_by_guess.Goals as goal
@@ -25,7 +26,7 @@ pub common_prefix_len_in-known-requires : goal.common_prefix_len_in-known-requir
 common_prefix_len_in-known-requires g c =
     let known = (rw c.in-Some.is at c.requires.can_step).known in
     let head = c.in-Some-head.ensures.head in
-    let below = less_passes _ _ find.headed _ _ (g.met.P.Bound.order c.args.bound.now) c.args.guess in
+    let below = less_passes _ _ find.headed _ _ (key_order c.args.bound.now) c.args.guess in
     let less = lt-ltb (get_or (key_heads_of c.args.self.now).heads c.args.guess 0) c.in-Some-head.own (tells.behind refl) in
     let key = key_there (entries_of c.args.self.now) c.args.guess in
     (search rules, (find.headed, (tells.within refl, (known, ((λ e at. below e.key own (key e at) head.head less), head)))))
@@ -35,7 +36,7 @@ common_prefix_len_in-known-requires g c =
 pub returns : goal.returns
 returns g c =
     let es = entries_of node in
-    let order = g.met.P.Bound.order c.args.bound.now in
+    let order = key_order c.args.bound.now in
     let is = c.in-Some-head.ensures.head.head in
     let e = entry_at es guess (tells.within refl) in
     let less = lt-ltb (get_or (key_heads_of node).heads guess 0) own (tells.behind refl) in

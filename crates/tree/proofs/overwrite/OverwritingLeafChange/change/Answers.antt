@@ -15,6 +15,7 @@ use Rattle.tree.specs.Path.{items_below, behind, first_key}
 use Rattle.tree.specs.Subtree.{entries_at}
 use Rattle.tree.specs.Tree.{IsLast, ended_by}
 use Rattle.tree.specs.Walk.{IsRaisedAt}
+use Rattle.tree.specs.KeyBound.{below_of, bytes_of, target_of}
 use Rattle.tree.proofs.callers.Partitions.{not_both, not_true}
 use Rattle.tree.proofs.ChangedLeaf.{leaf_can_find, leaf_can_step, leaf_changed, leaf_stored}
 use Rattle.tree.proofs.Headed.{headed_at, key_heads_kept}
@@ -30,7 +31,7 @@ use Rattle.tree.proofs.overwrite.OverwritingLeafChange.change.Goals as goal
 
 -- what is known of the leaf before the change, for the first bound
 from_known : (g : given.Over) (c : After-header_ref-leaf g)
-    → CanFind (g.P.Bound.bytes c.args.self.now.new.now.from.now) (g.P.Bound.below c.args.self.now.new.now.from.now)
+    → CanFind (bytes_of c.args.self.now.new.now.from) (below_of c.args.self.now.new.now.from)
     c.header_ref-leaf.result.now
 from_known g c =
     let known = leaf_can_step c.requires.can_change c.header_ref-leaf.ensures.header in
@@ -52,8 +53,8 @@ lower_bound_with-end-requires g c =
 
 -- The target of the first bound begins as all keys do, where that is told.
 told_alike : (g : given.Over) (c : Joined-is_some g) → c.if-is_some.from_has_prefix ≡ true
-    → HasPrefix (g.P.Bound.bytes c.args.self.now.new.now.from.now) (key_heads_of c.header_ref-leaf.result.now)
-    (g.P.Bound.target c.args.self.now.new.now.from.now)
+    → HasPrefix (bytes_of c.args.self.now.new.now.from) (key_heads_of c.header_ref-leaf.result.now)
+    (target_of c.args.self.now.new.now.from)
 told_alike g c said =
     let new = c.args.self.now.new.now in
     elim c.if-is_some.branch [
@@ -88,7 +89,7 @@ is_below_at-ended-requires g c =
     let new = c.args.self.now.new.now in
     let past = key_heads_kept _ _ (λ key text is. new.past_bytes key ∙ is) _ headed in
     let own = IfSome_then c.head_for-to_head.result c.head_for-to_head.ensures.head.head
-    (same_head (g.P.Bound.bytes new.past.now) _ _ (g.P.Bound.target new.past.now) _ (λ key. sym (new.past_bytes key))
+    (same_head (bytes_of new.past) _ _ (target_of new.past) _ (λ key. sym (new.past_bytes key))
     (sym new.past_target)) in
     (search rules, (past, (search rules, own)))
 
@@ -102,10 +103,10 @@ slice_bounds-put_taken-start g c =
 
 -- The last entry before the second bound has this version.
 last_is : (g : given.Over) (c : After-map_or-last g) (x : Item)
-    → IsLast x (items_below (g.P.Bound.below c.args.self.now.new.now.to.now) (map item_of (entries_of c.header_ref-leaf.result.now)))
+    → IsLast x (items_below (below_of c.args.self.now.new.now.to) (map item_of (entries_of c.header_ref-leaf.result.now)))
     → to_z w64 (of_z w64 c.map_or-last.result) ≡ x.version
 last_is g c x ends =
-    let q = g.P.Bound.below c.args.self.now.new.now.to.now in
+    let q = below_of c.args.self.now.new.now.to in
     let es = entries_of c.header_ref-leaf.result.now in
     let second_bound = (leaf_can_step c.requires.can_change c.header_ref-leaf.ensures.header).can_find.partitioned in
     to_z-of_z w64 c.map_or-last.result (search rules)
@@ -122,10 +123,10 @@ module _ (g : given.Over) (c : Joined-end-len g) where
   open c use {header_ref-leaf.{result.{now as leaf}, ensures.{header}}}
 
   abbrev p : ℕ → Bool
-  p = g.P.Bound.below new.from.now
+  p = below_of new.from
 
   abbrev q : ℕ → Bool
-  q = g.P.Bound.below new.to.now
+  q = below_of new.to
 
   abbrev es : List Entry
   es = entries_of leaf
@@ -146,7 +147,7 @@ module _ (g : given.Over) (c : Joined-end-len g) where
   ]
 
   -- whether an item of the leaf, or behind it, has the second key
-  told : ended ≡ first_is_below (g.P.Bound.below new.past.now) (first_key place.behind (behind q (map item_of es)))
+  told : ended ≡ first_is_below (below_of new.past) (first_key place.behind (behind q (map item_of es)))
   told =
       let others = (parted q es end (leaf_can_step can_change header).can_find.partitioned ends).1 in
       elim c.if-end-len.branch [
@@ -162,7 +163,7 @@ module _ (g : given.Over) (c : Joined-end-len g) where
   whole : (last : ℤ) → ((x : Item) → IsLast x (items_below q (map item_of es)) → last ≡ x.version) → (now : List Item)
       → now ≡ map item_of (take begin (entries_at nodes slot)) ++ (item_of new.first
       ∷ ended_by ended (record { key = new.second; version = unwrap_or new.last last }) ++ map item_of (drop end (entries_at nodes slot)))
-      → GivesWhole p q (g.P.Bound.below new.past.now) (item_of new.first) new.second new.last ended
+      → GivesWhole p q (below_of new.past) (item_of new.first) new.second new.last ended
       (map item_of c.put_taken.new.taken.items) place.is_first place.behind (map item_of (entries_at nodes slot)) now
   whole last ends_so now = rw (entries_from_header nodes slot leaf header) (whole_run p q _ new.nested es begin end
       (leaf_can_find nodes slot (leaf_can_step can_change header).can_find _ p new.bytes header can_change.wanted).partitioned

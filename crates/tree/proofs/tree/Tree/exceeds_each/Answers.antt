@@ -3,6 +3,7 @@ use Rattle.tree.specs.declared.questions.Look.{Look}
 use Rattle.tree.specs.Question.{IsAsked}
 use Rattle.tree.specs.Tree.{least_of}
 use Rattle.std.proofs.lemmas.List.{map-id}
+use Rattle.tree.specs.KeyBound.{below_of, bytes_of}
 use Rattle.tree.proofs.Approaches.{leading_of}
 use Rattle.tree.proofs.InTurn.{AllZip-through}
 use Rattle.tree.proofs.LeafChange.{can_reach_root}
@@ -13,7 +14,7 @@ use Rattle.tree.proofs.tree.Tree.exceeds_each.Goals.{After-self}
 -- what is required, of the nodes
 asked : (g : Over) (c : After-self g)
     → All (λ q. IsAsked c.self.inside.nodes (least_of g.row.N) c.self.inside.root.height c.self.inside.root.slot
-    (g.P.Bound.bytes q.from) (g.P.Bound.below q.from) (g.P.Bound.below q.to)) c.args.questions.now
+    (bytes_of q.from) (below_of q.from) (below_of q.to)) c.args.questions.now
 asked g c i q within =
     let can_reach = can_reach_root c.self.invariant.0 ((rw (← c.self.view_is) at c.requires.from) i q within) in
     let to = (rw (← c.self.view_is) at c.requires.to) i q within in

@@ -4,6 +4,7 @@ use Rattle.std.proofs.lemmas.List.{append-nil, length-map}
 use Rattle.tree.specs.Item.{Item, item_of}
 use Rattle.tree.specs.Overwrite.{Overwrites, put_of}
 use Rattle.tree.specs.Subtree.{items_in}
+use Rattle.tree.specs.KeyBound.{below_of, bytes_of}
 use Rattle.tree.proofs.HeadList.{headed_from_list, headed_in_list}
 use Rattle.tree.proofs.Inserting.{can_change, tree_put}
 use Rattle.tree.proofs.KnownItems.{know_items}
@@ -16,7 +17,7 @@ use Rattle.tree.proofs.tree.Tree.overwrite.Goals.{After-len}
 pub overwrite-written-requires : goal.overwrite-written-requires
 overwrite-written-requires g c =
     let can = rw (← c.self.view_is) at c.requires.can_overwrite in
-    let headed = headed_from_list (g.P.Bound.bytes c.args.new.now.to.now) c.self.inside.nodes can.headed in
+    let headed = headed_from_list (bytes_of c.args.new.now.to) c.self.inside.nodes can.headed in
     let t = c.self.invariant in
     let known = can_change t.0 (omega arith) can.to headed ([], [], rw append-nil can.from) can.none_taken in
     (omega arith, (omega arith, (known, t.1)))
@@ -31,7 +32,7 @@ module _ (g : given.Over) (c : After-len g) where
   now = items_in nodes root.height root.slot
 
   -- what became of the items
-  done : Overwrites (g.P.Bound.below new.from.now) (g.P.Bound.below new.to.now) (g.P.Bound.below new.past.now)
+  done : Overwrites (below_of new.from) (below_of new.to) (below_of new.past)
       (item_of new.first) new.second new.last written (map item_of taken.items) was now
   done =
       let can = rw (← c.self.view_is) at c.requires.can_overwrite in

@@ -5,6 +5,7 @@ use Rattle.std.proofs.lemmas.List.{length-map}
 use Rattle.tree.specs.Item.{Item, item_of}
 use Rattle.tree.specs.Subtree.{items_in}
 use Rattle.tree.specs.Expire.{RemovesExpired}
+use Rattle.tree.specs.KeyBound.{below_of, bytes_of}
 use Rattle.tree.proofs.HeadList.{headed_from_list, headed_in_list}
 use Rattle.tree.proofs.Inserting.{can_change, tree_put}
 use Rattle.tree.proofs.KnownItems.{know_items}
@@ -16,7 +17,7 @@ use Rattle.tree.proofs.tree.Tree.remove_expired.Goals.{After-len}
 pub change-self-inside-requires : goal.change-self-inside-requires
 change-self-inside-requires g c =
     let can = rw (← c.self.view_is) at c.requires.can_remove in
-    let headed = headed_from_list (g.P.Bound.bytes c.args.bound.now) c.self.inside.nodes can.headed in
+    let headed = headed_from_list (bytes_of c.args.bound.now) c.self.inside.nodes can.headed in
     let t = c.self.invariant.0 in
     (omega arith, (omega arith, can_change t (omega arith) can.partitioned headed tt can.none_taken))
 
@@ -30,7 +31,7 @@ module _ (g : given.Over) (c : After-len g) where
   now = items_in nodes root.height root.slot
 
   -- what became of the items
-  done : RemovesExpired (g.P.Bound.below bound.now) count edge before change.removal (map item_of taken.items) None was now
+  done : RemovesExpired (below_of bound.now) count edge before change.removal (map item_of taken.items) None was now
   done =
       let can = rw (← c.self.view_is) at c.requires.can_remove in
       let edge_is = to_z-of_z w64 edge c.ranges.edge in

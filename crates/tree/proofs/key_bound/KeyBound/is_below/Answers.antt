@@ -1,6 +1,6 @@
 use Rattle.std.proofs.Common.{◌∙◌, sym}
-use Rattle.stepmap.proofs.Partitioning.{less_passes, equal_passes, greater_fails, slot_is_below_key}
-use Rattle.stepmap.proofs.key_bound.KeyBoundBound.is_below.Goals as goal
+use Rattle.tree.proofs.KeyBounds.{less_passes, equal_passes, greater_fails, slot_is_below_key}
+use Rattle.tree.proofs.key_bound.KeyBound.is_below.Goals as goal
 
 pub returns-in-Less : goal.returns-in-Less
 returns-in-Less c = record {
