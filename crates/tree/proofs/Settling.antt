@@ -76,9 +76,8 @@ module _ {N : ℕ} {bytes : KeyBytes} {old now : Arena (Node N)} {height below s
             ])
             (λ other e. elim told [
               | inl now_is ↦ absurd (changed_not_raised other (sym now_is ∙ e))
-              | inr now_is ↦
-                  let same = sym now_is.0 ∙ e in
-                  (is ∙ same, raised_below parent u.changed whole other now_is.1 (cc (same)) (is ∙ same))
+              | inr now_is ↦ (let same = sym now_is.0 ∙ e in
+                  (is ∙ same, raised_below parent u.changed whole other now_is.1 (cc (same)) (is ∙ same)))
             ]) rest;
         items = rw (alone, whole) (step_rebalanced parent u.changed whole made).items_are;
       }
