@@ -11,6 +11,8 @@ use Rattle.tree.specs.Finding.{CanFind, CanStep}
 use Rattle.tree.specs.Heads.{KeyBytes, AllAreHeads, AreHeads}
 use Rattle.tree.specs.Node.{key_heads_of, all_heads_of}
 use Rattle.tree.specs.Item.{Item}
+use Rattle.tree.specs.KeyBound.{below_of, bytes_of, target_of}
+use Rattle.tree.specs.declared.key_bound.KeyBound.{KeyBound}
 use Rattle.tree.specs.Overwrite.{IsPartOfPartitioned}
 use Rattle.tree.specs.Rebalancing.{IsStored}
 use Rattle.tree.specs.Children.{slot_taken, slots_with, Changes, IsKeyless}
@@ -75,26 +77,24 @@ leaf_stored {N} {bytes} {old} {new} {slot} outcome can stored same raised = reco
 }
 
 -- A leaf that is changed where it lies, where nothing is told of its first key.
-pub leaf_changed : {N : ℕ} {bytes : KeyBytes} {is_below : ℕ → Bool} {target : List ℕ} {Wants : List Item → Type 0}
-    {nodes : Arena (Node N)} {slot : ℕ} {common_prefix_len : Option ℕ} {taken : List Entry} (node : Node N)
-    → CanChangeLeaf bytes is_below target Wants nodes 0 slot common_prefix_len taken → AreHeads bytes (key_heads_of node)
-    → IsChanged bytes nodes (with_header nodes slot node) 0 slot Changed
+pub leaf_changed : {N : ℕ} {bound : KeyBound} {Wants : List Item → Type 0} {nodes : Arena (Node N)} {slot : ℕ} {common_prefix_len : Option ℕ} {taken : List Entry} (node : Node N)
+    → CanChangeLeaf bound Wants nodes 0 slot common_prefix_len taken → AreHeads (bytes_of bound) (key_heads_of node)
+    → IsChanged (bytes_of bound) nodes (with_header nodes slot node) 0 slot Changed
 leaf_changed node can headed =
     leaf_stored Changed can.changeable
     (put_stored _ _ node can.changeable.subtree can.changeable.keyless can.searched.headed headed) (λ e. absurd (cc))
     (λ leaf e. absurd (cc))
 
 -- In a leaf that may be changed, and that was read, the bound can be sought.
-pub leaf_can_step : {N : ℕ} {bytes : KeyBytes} {is_below : ℕ → Bool} {target : List ℕ} {Wants : List Item → Type 0}
-    {nodes : Arena (Node N)} {slot : ℕ} {common_prefix_len : Option ℕ} {taken : List Entry} {leaf : Node N}
-    → CanChangeLeaf bytes is_below target Wants nodes 0 slot common_prefix_len taken → header_at nodes slot ≡ Some leaf
-    → CanStep bytes is_below target leaf common_prefix_len
-leaf_can_step {N} {bytes} {is_below} {target} {Wants} {nodes} {slot} {common_prefix_len} {taken} {leaf} can header =
+pub leaf_can_step : {N : ℕ} {bound : KeyBound} {Wants : List Item → Type 0} {nodes : Arena (Node N)} {slot : ℕ} {common_prefix_len : Option ℕ} {taken : List Entry} {leaf : Node N}
+    → CanChangeLeaf bound Wants nodes 0 slot common_prefix_len taken → header_at nodes slot ≡ Some leaf
+    → CanStep (bytes_of bound) (below_of bound) (target_of bound) leaf common_prefix_len
+leaf_can_step {N} {bound} {Wants} {nodes} {slot} {common_prefix_len} {taken} {leaf} can header =
     let read = entries_from_header nodes slot leaf header in
     record {
       can_find = record {
-        headed = headed_at bytes nodes slot leaf can.searched.headed header;
-        partitioned = rw read at (entries_of_partitioned is_below (entries_at nodes slot) can.searched.partitioned);
+        headed = headed_at (bytes_of bound) nodes slot leaf can.searched.headed header;
+        partitioned = rw read at (entries_of_partitioned (below_of bound) (entries_at nodes slot) can.searched.partitioned);
         some = rw read at can.changeable.some;
       };
       known = rw read at can.searched.known;

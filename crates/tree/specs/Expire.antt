@@ -2,21 +2,22 @@
 use Rattle.std.specs.Prelude.{◌≡◌, ◌≢◌, ◌≤◌, ◌≤ℤ◌, ◌++◌, ◌∷◌, ℕ, ℤ, Bool, List, [], length, map, Option}
 use Rattle.tree.specs.declared.entry.Entry.{Entry}
 use Rattle.tree.specs.declared.expiring.Removal.{Removal}
-use Rattle.tree.specs.Heads.{AllAreHeads, KeyBytes}
+use Rattle.tree.specs.declared.key_bound.KeyBound.{KeyBound}
+use Rattle.tree.specs.Heads.{AllAreHeads}
 use Rattle.tree.specs.Item.{Item}
+use Rattle.tree.specs.KeyBound.{below_of, bytes_of}
 use Rattle.tree.specs.Path.{IsPartitioned, items_below, behind, first_key}
 use Rattle.tree.specs.Tree.{Items, IsLast, tree_heads, unexpired, expired}
 
 -- A tree of which a run of items may be looked at, at most `count` of them. The run begins with the last one below the bound, and
 -- `before` is the version of the item before it. None is taken out yet.
-pub record CanRemoveExpired (is_below : ℕ → Bool) (bytes : KeyBytes) (count : ℕ) (edge before : ℤ) (tree : Items)
-    (taken : List Entry) : Type 0 where
-  pub partitioned : IsPartitioned (λ x. is_below x.key) tree.items
-  pub some : items_below is_below tree.items ≢ []
+pub record CanRemoveExpired (bound : KeyBound) (count : ℕ) (edge before : ℤ) (tree : Items) (taken : List Entry) : Type 0 where
+  pub partitioned : IsPartitioned (λ x. below_of bound x.key) tree.items
+  pub some : items_below (below_of bound) tree.items ≢ []
   pub some_count : 1 ≤ count
-  pub headed : AllAreHeads bytes (tree_heads tree)
+  pub headed : AllAreHeads (bytes_of bound) (tree_heads tree)
   -- The first item of all stays.
-  pub first : length (items_below is_below tree.items) ≡ 1 → edge ≤ℤ before
+  pub first : length (items_below (below_of bound) tree.items) ≡ 1 → edge ≤ℤ before
   pub none_taken : taken ≡ []
 
 -- A run of items was looked at that begins with the last one below the bound. Those that say nothing at or above the edge are

@@ -1,20 +1,21 @@
 -- What a search in a node goes by, and what it finds. This project's own.
 use Rattle.std.specs.Prelude.{◌≡◌, ◌≢◌, ◌≤◌, ◌<◌, ℕ, Bool, List, filter, length, get_or, Option, None, Some, unwrap_or, IfSome}
+use Rattle.tree.specs.declared.key_bound.KeyBound.{KeyBound}
 use Rattle.tree.specs.declared.node.Node.{Node}
 use Rattle.tree.specs.declared.node.step.Step.{Step}
 use Rattle.tree.specs.Heads.{KeyHeads, KeyBytes, IsTargetHead, AreHeads, IsCommonPrefixAt}
+use Rattle.tree.specs.KeyBound.{below_of, bytes_of, target_of}
 use Rattle.tree.specs.Node.{entries_of, key_heads_of}
 use Rattle.tree.specs.Path.{IsPartitioned, index_in}
 
 -- the head of the target, if there is one: then that begins as all keys of the node do
-abbrev pub HasHead : KeyBytes → List ℕ → Option ℕ → KeyHeads → Type 0
-HasHead bytes target head key_heads = IfSome head (λ d. IsTargetHead bytes key_heads target d)
+abbrev pub HasHead : KeyBound → Option ℕ → KeyHeads → Type 0
+HasHead bound head key_heads = IfSome head (λ d. IsTargetHead (bytes_of bound) key_heads (target_of bound) d)
 
 -- The same, if the first key and the target are known to have that many bytes in common. It is missing only if the first key
 -- may be empty, or where they don't begin as all keys do.
-pub record IsHeadFor (bytes : KeyBytes) (target : List ℕ) (known : ℕ) (from_head : Option ℕ) (key_heads : KeyHeads)
-    : Type 0 where
-  pub head : HasHead bytes target from_head key_heads
+pub record IsHeadFor (bound : KeyBound) (known : ℕ) (from_head : Option ℕ) (key_heads : KeyHeads) : Type 0 where
+  pub head : HasHead bound from_head key_heads
   pub none : from_head ≡ None → get_or key_heads.heads 0 0 ≢ 0 → known < key_heads.prefix_len
 
 module _ {N : ℕ} where
@@ -31,17 +32,15 @@ module _ {N : ℕ} where
     pub known : IsCommonPrefixAt bytes is_below target common_prefix_len (entries_of node) 0
 
   -- the same with the head of the target that those bytes give
-  pub record CanStepBy (bytes : KeyBytes) (is_below : ℕ → Bool) (target : List ℕ) (node : Node N) (common_prefix_len : Option ℕ)
-      (from_head : Option ℕ) : Type 0 where
-    pub can_step : CanStep bytes is_below target node common_prefix_len
-    pub head : IsHeadFor bytes target (unwrap_or common_prefix_len 0) from_head (key_heads_of node)
+  pub record CanStepBy (bound : KeyBound) (node : Node N) (common_prefix_len : Option ℕ) (from_head : Option ℕ) : Type 0 where
+    pub can_step : CanStep (bytes_of bound) (below_of bound) (target_of bound) node common_prefix_len
+    pub head : IsHeadFor bound (unwrap_or common_prefix_len 0) from_head (key_heads_of node)
 
   -- A node that was searched so, where the first key is below the bound. There is a head of the target where that is known to
   -- begin as all keys do.
-  pub record IsSearched (bytes : KeyBytes) (is_below : ℕ → Bool) (target : List ℕ) (node : Node N) (common_prefix_len : ℕ)
-      (from_head : Option ℕ) : Type 0 where
-    pub can_step : CanStep bytes is_below target node (Some common_prefix_len)
-    pub head : HasHead bytes target from_head (key_heads_of node)
+  pub record IsSearched (bound : KeyBound) (node : Node N) (common_prefix_len : ℕ) (from_head : Option ℕ) : Type 0 where
+    pub can_step : CanStep (bytes_of bound) (below_of bound) (target_of bound) node (Some common_prefix_len)
+    pub head : HasHead bound from_head (key_heads_of node)
 
   -- how many of the entries are below the bound
   pub record IsLowerBound (is_below : ℕ → Bool) (node : Node N) (count : ℕ) : Type 0 where

@@ -2,10 +2,12 @@
 use Rattle.std.specs.Prelude.{◌≡◌, ◌≢◌, ◌⊎◌, ◌↔◌, ◌≤◌, ◌+◌, ℕ, ℤ, Bool, true, false, List, [], ◌∷◌, ◌++◌, length, Option, None, Some, unwrap_or, IsTrue}
 use Rattle.std.proofs.Common.{ap, sym, subst, ◌∙◌, append_assoc}
 use Rattle.tree.specs.declared.entry.Entry.{Entry}
+use Rattle.tree.specs.declared.key_bound.KeyBound.{KeyBound}
 use Rattle.tree.specs.declared.overwrite.Written.{Written}
 use Rattle.tree.specs.declared.overwrite.Written.TheVariants.{Partly, Whole}
-use Rattle.tree.specs.Heads.{AllAreHeads, KeyBytes}
+use Rattle.tree.specs.Heads.{AllAreHeads}
 use Rattle.tree.specs.Item.{Item}
+use Rattle.tree.specs.KeyBound.{below_of, bytes_of}
 use Rattle.tree.specs.Path.{IsPartitioned, items_below, behind, between, first_key}
 use Rattle.tree.specs.Tree.{Items, IsLast, ended_by, tree_heads}
 
@@ -70,13 +72,13 @@ GivesWritten from to past first second given (Partly last) run is_first next was
 
 -- A tree of which a run of items may be written over. Three bounds go through the items, of which one is below the second bound.
 -- There is room for two more, and none is taken out yet.
-pub record CanOverwrite (p q r : ℕ → Bool) (bytes : KeyBytes) (tree : Items) (taken : List Entry) : Type 0 where
-  pub from : IsPartitioned (λ x. p x.key) tree.items
-  pub to : IsPartitioned (λ x. q x.key) tree.items
-  pub past : IsPartitioned (λ x. r x.key) tree.items
-  pub some : items_below q tree.items ≢ []
+pub record CanOverwrite (p q r : KeyBound) (tree : Items) (taken : List Entry) : Type 0 where
+  pub from : IsPartitioned (λ x. below_of p x.key) tree.items
+  pub to : IsPartitioned (λ x. below_of q x.key) tree.items
+  pub past : IsPartitioned (λ x. below_of r x.key) tree.items
+  pub some : items_below (below_of q) tree.items ≢ []
   pub room : length tree.items + 2 ≤ tree.room
-  pub headed : AllAreHeads bytes (tree_heads tree)
+  pub headed : AllAreHeads (bytes_of q) (tree_heads tree)
   pub none_taken : taken ≡ []
 
 -- Items of which a run is written over. A second item was put in unless one had its key.

@@ -3,9 +3,11 @@ use Rattle.std.specs.Prelude.{◌≡◌, ◌≤◌, ◌++◌, true, false, ℕ, 
 use Rattle.std.specs.List.{All}
 use Rattle.arena.specs.Arena.{Arena, IsLive}
 use Rattle.tree.specs.declared.descent.Reached.{Reached}
+use Rattle.tree.specs.declared.key_bound.KeyBound.{KeyBound}
 use Rattle.tree.specs.declared.node.Node.{Node}
 use Rattle.tree.specs.Heads.{AllAreHeads, KeyBytes, IsCommonPrefixAt}
 use Rattle.tree.specs.Item.{item_of}
+use Rattle.tree.specs.KeyBound.{below_of, bytes_of, target_of}
 use Rattle.tree.specs.Node.{all_heads_of}
 use Rattle.tree.specs.Path.{IsPartitioned, before_leaf, behind_leaf, first_key}
 use Rattle.tree.specs.Subtree.{entries_at, items_in, IsSubtree}
@@ -19,16 +21,15 @@ module _ {N : ℕ} where
     pub headed : AllAreHeads bytes (all_heads_of nodes)
 
   -- the leaf that has the last item below the bound, or else the first leaf
-  pub record IsReached (bytes : KeyBytes) (is_below : ℕ → Bool) (target : List ℕ) (nodes : Arena (Node N)) (height slot : ℕ)
-      (reached : Reached) : Type 0 where
+  pub record IsReached (bound : KeyBound) (nodes : Arena (Node N)) (height slot : ℕ) (reached : Reached) : Type 0 where
     pub live : IsLive nodes reached.leaf
     pub items_are : items_in nodes height slot
-        ≡ before_leaf nodes height slot is_below
-        ++ (map item_of (entries_at nodes reached.leaf) ++ behind_leaf nodes height slot is_below)
-    pub before : All (λ x. is_below x.key ≡ true) (before_leaf nodes height slot is_below)
-    pub after : All (λ x. is_below x.key ≡ false) (behind_leaf nodes height slot is_below)
-    pub none : filter (λ e. is_below e.key) (entries_at nodes reached.leaf) ≡ [] → before_leaf nodes height slot is_below ≡ []
-    pub partitioned : IsPartitioned (λ e. is_below e.key) (entries_at nodes reached.leaf)
+        ≡ before_leaf nodes height slot (below_of bound)
+        ++ (map item_of (entries_at nodes reached.leaf) ++ behind_leaf nodes height slot (below_of bound))
+    pub before : All (λ x. below_of bound x.key ≡ true) (before_leaf nodes height slot (below_of bound))
+    pub after : All (λ x. below_of bound x.key ≡ false) (behind_leaf nodes height slot (below_of bound))
+    pub none : filter (λ e. below_of bound e.key) (entries_at nodes reached.leaf) ≡ [] → before_leaf nodes height slot (below_of bound) ≡ []
+    pub partitioned : IsPartitioned (λ e. below_of bound e.key) (entries_at nodes reached.leaf)
     pub some : 1 ≤ length (entries_at nodes reached.leaf)
-    pub knows : IsCommonPrefixAt bytes is_below target reached.common_prefix_len (entries_at nodes reached.leaf) 0
-    pub next : reached.behind ≡ first_key None (behind_leaf nodes height slot is_below)
+    pub knows : IsCommonPrefixAt (bytes_of bound) (below_of bound) (target_of bound) reached.common_prefix_len (entries_at nodes reached.leaf) 0
+    pub next : reached.behind ≡ first_key None (behind_leaf nodes height slot (below_of bound))

@@ -4,12 +4,14 @@ use Rattle.std.specs.List.{All, Any, IsDistinct}
 use Rattle.std.specs.FinMap as map
 use Rattle.arena.specs.Arena.{Arena, spare_of}
 use Rattle.tree.specs.declared.entry.Entry.{Entry}
+use Rattle.tree.specs.declared.key_bound.KeyBound.{KeyBound}
 use Rattle.tree.specs.declared.node.Node.{Node}
 use Rattle.tree.specs.declared.walk.Outcome.{Outcome}
 use Rattle.tree.specs.declared.walk.RaisedLeaf.{RaisedLeaf}
 use Rattle.tree.specs.declared.walk.Outcome.TheVariants.{Same, Raised, Changed, Split}
 use Rattle.tree.specs.Heads.{KeyBytes, AllAreHeads, IsCommonPrefixAt}
 use Rattle.tree.specs.Item.{Item}
+use Rattle.tree.specs.KeyBound.{below_of, bytes_of, target_of}
 use Rattle.tree.specs.Node.{all_heads_of}
 use Rattle.tree.specs.Path.{IsPartitioned, first_key}
 use Rattle.tree.specs.Children.{child_at, items_of, items_with, slots_with, Changes, IsKeyless}
@@ -65,17 +67,16 @@ module _ {N : ℕ} where
     pub room : height < spare_of nodes 0
 
   -- What is known of the way to a subtree, where a bound is sought.
-  pub record CanSearch (bytes : KeyBytes) (is_below : ℕ → Bool) (target : List ℕ) (nodes : Arena (Node N)) (height slot : ℕ)
-      (common_prefix_len : Option ℕ) : Type 0 where
-    pub partitioned : IsPartitioned (λ x. is_below x.key) (items_in nodes height slot)
-    pub headed : AllAreHeads bytes (all_heads_of nodes)
-    pub known : IsCommonPrefixAt bytes is_below target common_prefix_len (entries_at nodes slot) 0
+  pub record CanSearch (bound : KeyBound) (nodes : Arena (Node N)) (height slot : ℕ) (common_prefix_len : Option ℕ) : Type 0 where
+    pub partitioned : IsPartitioned (λ x. below_of bound x.key) (items_in nodes height slot)
+    pub headed : AllAreHeads (bytes_of bound) (all_heads_of nodes)
+    pub known : IsCommonPrefixAt (bytes_of bound) (below_of bound) (target_of bound) common_prefix_len (entries_at nodes slot) 0
 
   -- A subtree of which a leaf may be changed: the bound is sought there, the items are as is wanted, and none is taken out yet.
-  pub record CanChangeLeaf (bytes : KeyBytes) (is_below : ℕ → Bool) (target : List ℕ) (Wants : List Item → Type 0)
-      (nodes : Arena (Node N)) (height slot : ℕ) (common_prefix_len : Option ℕ) (taken : List Entry) : Type 0 where
+  pub record CanChangeLeaf (bound : KeyBound) (Wants : List Item → Type 0) (nodes : Arena (Node N)) (height slot : ℕ)
+      (common_prefix_len : Option ℕ) (taken : List Entry) : Type 0 where
     pub changeable : CanChange nodes height slot
-    pub searched : CanSearch bytes is_below target nodes height slot common_prefix_len
+    pub searched : CanSearch bound nodes height slot common_prefix_len
     pub wanted : Wants (items_in nodes height slot)
     pub none_taken : taken ≡ []
 

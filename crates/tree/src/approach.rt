@@ -54,15 +54,11 @@ fn descend<const N: usize>(
     common_prefix_len: usize,
     clear: bool,
 ) -> Approach
-    requires asked { IsAsked nodes.now (least_of N) height slot (bytes_of question.now.from)
-        (below_of question.now.from)
-        (below_of question.now.to) }
+    requires asked { IsAsked nodes.now (least_of N) height slot question.now.from question.now.to }
     requires known { IsCommonPrefixAt (bytes_of question.now.from) (below_of question.now.from)
         (target_of question.now.from) (Some common_prefix_len)
         (entries_at nodes.now slot) 0 }
-    ensures approach { IsApproach nodes.now height slot (bytes_of question.now.from)
-        (below_of question.now.from)
-        (below_of question.now.to) (target_of question.now.from) question.now.version clear result }
+    ensures approach { IsApproach nodes.now height slot question.now.from question.now.to question.now.version clear result }
 {
     if height == 0 {
         return Approach::Leaf(Near {
@@ -123,8 +119,7 @@ fn is_clear<const N: usize>(
     clear: bool,
     look: bool,
 ) -> bool
-    requires searched { IsSearched (bytes_of question.now.from) (below_of question.now.from)
-        (target_of question.now.from) node.now
+    requires searched { IsSearched question.now.from node.now
         common_prefix_len from_head }
     requires within { index < length (entries_of node.now) }
     requires last_below { index ≡ index_in (below_of question.now.from) (entries_of node.now) }
@@ -153,10 +148,9 @@ pub fn end_head<const N: usize>(
     common_prefix_len: usize,
     from_head: Option<u32>,
 ) -> Option<u32>
-    requires searched { IsSearched (bytes_of question.now.from) (below_of question.now.from)
-        (target_of question.now.from) node.now
+    requires searched { IsSearched question.now.from node.now
         common_prefix_len from_head }
-    ensures head { HasHead (bytes_of question.now.to) (target_of question.now.to) result
+    ensures head { HasHead question.now.to result
         (key_heads_of node.now) }
 {
     let targets_prefix_len = question.targets_prefix_len;
@@ -174,12 +168,8 @@ pub fn descend_from<const N: usize>(
     root: Root,
     question: &Question<'_>,
 ) -> Approach
-    requires asked { IsAsked nodes.now (least_of N) root.height root.slot
-        (bytes_of question.now.from)
-        (below_of question.now.from) (below_of question.now.to) }
-    ensures approach { IsApproach nodes.now root.height root.slot (bytes_of question.now.from)
-        (below_of question.now.from)
-        (below_of question.now.to) (target_of question.now.from) question.now.version true result }
+    requires asked { IsAsked nodes.now (least_of N) root.height root.slot question.now.from question.now.to }
+    ensures approach { IsApproach nodes.now root.height root.slot question.now.from question.now.to question.now.version true result }
 {
     let Root { slot, height } = root;
     let common_prefix_len = common_prefix_len_at(nodes, slot, &question.from).unwrap_or(0);

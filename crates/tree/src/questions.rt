@@ -7,7 +7,7 @@ ghost use Rattle.std.specs.Prelude.{IsTrue};
 ghost use Rattle.std.specs.List.{All, AllZip};
 ghost use Rattle.tree.specs.Finding.{IsLowerBound, IsHeadFor, IsSearched};
 ghost use Rattle.tree.specs.Heads.{AllAreHeads};
-ghost use Rattle.tree.specs.KeyBound.{below_of, bytes_of, target_of};
+ghost use Rattle.tree.specs.KeyBound.{below_of, bytes_of};
 ghost use Rattle.tree.specs.Node.{all_heads_of, entries_of};
 ghost use Rattle.tree.specs.Path.{IsPartitioned};
 ghost use Rattle.tree.specs.Question.{Exceeds, IsApproach, IsAsked, IsLeading, IsLooked, IsNear};
@@ -36,11 +36,11 @@ pub struct Look {
 
 // Looks at the leaf to which a question leads, for the first time.
 fn look_at<const N: usize>(nodes: &Arena<Node<N>>, approach: &Approach, from: &KeyBound<'_>) -> Look
-    requires leading { IsLeading nodes.now (bytes_of from.now) (below_of from.now) (target_of from.now)
+    requires leading { IsLeading nodes.now from.now
         approach.now }
     requires headed { AllAreHeads (bytes_of from.now) (all_heads_of nodes.now) }
     ensures approach { result.approach ≡ approach.now }
-    ensures looked { IsLooked nodes.now (bytes_of from.now) (target_of from.now) approach.now
+    ensures looked { IsLooked nodes.now from.now approach.now
         result.from_head }
 {
     let Approach::Leaf(near) = approach else {
@@ -64,13 +64,10 @@ fn leaf_told<const N: usize>(
     question: &Question<'_>,
     from_head: Option<u32>,
 ) -> Option<bool>
-    requires asked { IsAsked nodes.now (least_of N) 0 near.leaf (bytes_of question.now.from)
-        (below_of question.now.from)
-        (below_of question.now.to) }
-    requires near { IsNear nodes.now (bytes_of question.now.from) (below_of question.now.from)
-        (target_of question.now.from) near }
+    requires asked { IsAsked nodes.now (least_of N) 0 near.leaf question.now.from question.now.to }
+    requires near { IsNear nodes.now question.now.from near }
     requires from_head { IfSome (all_heads_of nodes.now near.leaf)
-        (IsHeadFor (bytes_of question.now.from) (target_of question.now.from)
+        (IsHeadFor question.now.from
         near.common_prefix_len from_head) }
     ensures told { IsTold (below_of question.now.from) (below_of question.now.to) question.now.version
         near.clear
@@ -95,8 +92,7 @@ fn end_in<const N: usize>(
     common_prefix_len: usize,
     from_head: Option<u32>,
 ) -> usize
-    requires searched { IsSearched (bytes_of question.now.from) (below_of question.now.from)
-        (target_of question.now.from) node.now
+    requires searched { IsSearched question.now.from node.now
         common_prefix_len from_head }
     requires to { IsPartitioned (λ e. below_of question.now.to e.key) (entries_of node.now) }
     requires begin { IsLowerBound (below_of question.now.from) node.now begin }
@@ -116,14 +112,10 @@ fn answer<const N: usize>(
     question: &Question<'_>,
     look: Look,
 ) -> bool
-    requires asked { IsAsked nodes.now (least_of N) root.height root.slot
-        (bytes_of question.now.from)
-        (below_of question.now.from) (below_of question.now.to) }
-    requires approach { IsApproach nodes.now root.height root.slot (bytes_of question.now.from)
-        (below_of question.now.from)
-        (below_of question.now.to) (target_of question.now.from) question.now.version true
+    requires asked { IsAsked nodes.now (least_of N) root.height root.slot question.now.from question.now.to }
+    requires approach { IsApproach nodes.now root.height root.slot question.now.from question.now.to question.now.version true
         look.approach }
-    requires looked { IsLooked nodes.now (bytes_of question.now.from) (target_of question.now.from)
+    requires looked { IsLooked nodes.now question.now.from
         look.approach look.from_head }
     ensures above { IsTrue result ↔ Exceeds (below_of question.now.from) (below_of question.now.to)
         question.now.version
@@ -149,9 +141,7 @@ fn exceeds<const N: usize>(
     root: Root,
     question: &Question<'_>,
 ) -> bool
-    requires asked { IsAsked nodes.now (least_of N) root.height root.slot
-        (bytes_of question.now.from)
-        (below_of question.now.from) (below_of question.now.to) }
+    requires asked { IsAsked nodes.now (least_of N) root.height root.slot question.now.from question.now.to }
     ensures above { IsTrue result ↔ Exceeds (below_of question.now.from) (below_of question.now.to)
         question.now.version
         (items_in nodes.now root.height root.slot) }
@@ -169,12 +159,8 @@ pub fn descend_each<const N: usize>(
     questions: &[Question<'_>],
 ) -> ArrayVec<Approach, SIDE>
     requires few { length questions.now ≤ SIDE }
-    requires asked { All (λ q. IsAsked nodes.now (least_of N) root.now.height root.now.slot
-        (bytes_of q.from) (below_of q.from)
-        (below_of q.to)) questions.now }
-    ensures approaches { AllZip (λ q approach. IsApproach nodes.now root.now.height root.now.slot
-        (bytes_of q.from)
-        (below_of q.from) (below_of q.to) (target_of q.from) q.version true approach) questions.now
+    requires asked { All (λ q. IsAsked nodes.now (least_of N) root.now.height root.now.slot q.from q.to) questions.now }
+    ensures approaches { AllZip (λ q approach. IsApproach nodes.now root.now.height root.now.slot q.from q.to q.version true approach) questions.now
         result.items }
 {
     let mut approaches = ArrayVec::new();
@@ -191,13 +177,12 @@ pub fn look_at_each<const N: usize>(
     approaches: &[Approach],
 ) -> ArrayVec<Look, SIDE>
     requires few { length questions.now ≤ SIDE }
-    requires leading { AllZip (λ q approach. IsLeading nodes.now (bytes_of q.from) (below_of q.from)
-        (target_of q.from) approach)
+    requires leading { AllZip (λ q approach. IsLeading nodes.now q.from approach)
         questions.now approaches.now }
     requires headed { All (λ q. AllAreHeads (bytes_of q.from) (all_heads_of nodes.now))
         questions.now }
     ensures approaches { map (λ l. l.approach) result.items ≡ approaches.now }
-    ensures looked { AllZip (λ q l. IsLooked nodes.now (bytes_of q.from) (target_of q.from) l.approach
+    ensures looked { AllZip (λ q l. IsLooked nodes.now q.from l.approach
         l.from_head)
         questions.now result.items }
 {
@@ -216,14 +201,10 @@ pub fn answer_each<const N: usize>(
     looks: &[Look],
 ) -> ArrayVec<bool, SIDE>
     requires few { length questions.now ≤ SIDE }
-    requires asked { All (λ q. IsAsked nodes.now (least_of N) root.now.height root.now.slot
-        (bytes_of q.from) (below_of q.from)
-        (below_of q.to)) questions.now }
-    requires approach { AllZip (λ q l. IsApproach nodes.now root.now.height root.now.slot
-        (bytes_of q.from)
-        (below_of q.from) (below_of q.to) (target_of q.from) q.version true l.approach) questions.now
+    requires asked { All (λ q. IsAsked nodes.now (least_of N) root.now.height root.now.slot q.from q.to) questions.now }
+    requires approach { AllZip (λ q l. IsApproach nodes.now root.now.height root.now.slot q.from q.to q.version true l.approach) questions.now
         looks.now }
-    requires looked { AllZip (λ q l. IsLooked nodes.now (bytes_of q.from) (target_of q.from)
+    requires looked { AllZip (λ q l. IsLooked nodes.now q.from
         l.approach l.from_head) questions.now looks.now }
     ensures told { AllZip (λ q above. IsTrue above
         ↔ Exceeds (below_of q.from) (below_of q.to) q.version

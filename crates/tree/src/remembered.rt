@@ -4,7 +4,6 @@
 
 ghost use Rattle.std.specs.Prelude.{◌≡◌, MatchOption, IfSome, map};
 ghost use Rattle.tree.specs.Item.{item_of};
-ghost use Rattle.tree.specs.KeyBound.{below_of, bytes_of, target_of};
 ghost use Rattle.tree.specs.Run.{CanFindRun, CanWriteInLeaf, IsFoundRun, IsWrittenInLeaf};
 
 use crate::key_bound::KeyBound;
@@ -27,14 +26,12 @@ pub fn write_in_leaf<const N: usize>(
     new: &Overwrite<'_>,
     taken: &mut ArrayVec<Entry, N>,
 ) -> Option<bool>
-    requires can_write { CanWriteInLeaf (below_of new.now.from) (below_of new.now.to)
-        (bytes_of new.now.to) nodes.old leaf.slot
+    requires can_write { CanWriteInLeaf new.now.from new.now.to nodes.old leaf.slot
         taken.old.items }
     ensures written { MatchOption result ((nodes.new ≡ nodes.old)
         × (taken.new.items ≡ taken.old.items))
         (λ ended. (new.now.first.version ≡ leaf.version)
-        × IsWrittenInLeaf (below_of new.now.from) (below_of new.now.to)
-        (below_of new.now.past) (item_of new.now.first) new.now.second new.now.last ended (bytes_of new.now.to)
+        × IsWrittenInLeaf new.now.from new.now.to new.now.past (item_of new.now.first) new.now.second new.now.last ended
         (map item_of taken.new.items) nodes.old nodes.new leaf.slot) }
 {
     if new.first.version != leaf.version {
@@ -57,11 +54,8 @@ fn find_run<const N: usize>(
     index: usize,
     new: &Overwrite<'_>,
 ) -> Option<Run>
-    requires can_find { CanFindRun (below_of new.now.from) (below_of new.now.to)
-        (bytes_of new.now.to) leaf.now }
-    ensures run { IfSome result (λ run. IsFoundRun (bytes_of new.now.from)
-        (bytes_of new.now.to) (below_of new.now.from)
-        (below_of new.now.to) (below_of new.now.past) (target_of new.now.from) (target_of new.now.to) new.now.last leaf.now
+    requires can_find { CanFindRun new.now.from new.now.to leaf.now }
+    ensures run { IfSome result (λ run. IsFoundRun new.now.from new.now.to new.now.past new.now.last leaf.now
         run) }
 {
     let prefix_len = leaf.prefix_len();

@@ -11,7 +11,7 @@ ghost use Rattle.tree.specs.Subtree.{items_in};
 ghost use Rattle.tree.specs.Path.{items_below, behind, first_key};
 ghost use Rattle.tree.specs.Reached.{CanReach, IsReached};
 ghost use Rattle.tree.specs.Children.{items_with};
-ghost use Rattle.tree.specs.KeyBound.{below_of, bytes_of, target_of};
+ghost use Rattle.tree.specs.KeyBound.{below_of, bytes_of};
 ghost use Rattle.tree.specs.Tree.{least_of, IsLast};
 ghost use Rattle.tree.specs.Walk.{CanChangeBy, IsChangedWithin, IsNewTree, IsRaisedInTree};
 
@@ -40,7 +40,7 @@ pub struct Root {
 fn reach<const N: usize>(nodes: &Arena<Node<N>>, root: Root, bound: &KeyBound<'_>) -> Reached
     requires can_reach { CanReach (bytes_of bound.now) (below_of bound.now) nodes.now (least_of N)
         root.height root.slot }
-    ensures reached { IsReached (bytes_of bound.now) (below_of bound.now) (target_of bound.now)
+    ensures reached { IsReached bound.now
         nodes.now root.height root.slot result }
 {
     let common_prefix_len = common_prefix_len_at(nodes, root.slot, bound);

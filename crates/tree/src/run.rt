@@ -5,7 +5,7 @@ ghost use Rattle.std.specs.Prelude.{unwrap_or};
 ghost use Rattle.tree.specs.Item.{item_of};
 ghost use Rattle.tree.specs.Rebalancing.{IsStored};
 ghost use Rattle.tree.specs.Children.{items_with};
-ghost use Rattle.tree.specs.KeyBound.{below_of, bytes_of, target_of};
+ghost use Rattle.tree.specs.KeyBound.{bytes_of};
 ghost use Rattle.tree.specs.Run.{CanWriteRun};
 ghost use Rattle.tree.specs.Subtree.{entries_at};
 ghost use Rattle.tree.specs.Tree.{ended_by};
@@ -55,9 +55,7 @@ pub fn write_run<const N: usize>(
     run: Run,
     last: i64,
 ) -> Option<Slot>
-    requires can_write { CanWriteRun (bytes_of new.now.from) (bytes_of new.now.to)
-        (below_of new.now.from)
-        (below_of new.now.to) (target_of new.now.from) (target_of new.now.to) nodes.old
+    requires can_write { CanWriteRun new.now.from new.now.to nodes.old
         slot run }
     ensures written { items_with nodes.new 0 slot result
         ≡ map item_of (take run.begin (entries_at nodes.old slot))

@@ -190,9 +190,7 @@ impl<const N: usize> Tree<N> {
         new: &Overwrite<'_>,
         taken: &mut ArrayVec<Entry, N>,
     ) -> Written
-        requires can_overwrite { CanOverwrite (below_of new.now.from) (below_of new.now.to)
-            (below_of new.now.past)
-            (bytes_of new.now.to) self.old taken.old.items }
+        requires can_overwrite { CanOverwrite new.now.from new.now.to new.now.past self.old taken.old.items }
         ensures items { Overwrites (below_of new.now.from) (below_of new.now.to)
             (below_of new.now.past)
             (item_of new.now.first) new.now.second new.now.last result (map item_of taken.new.items)
@@ -224,7 +222,7 @@ impl<const N: usize> Tree<N> {
         before: i64,
         taken: &mut ArrayVec<Entry, N>,
     ) -> Removal
-        requires can_remove { CanRemoveExpired (below_of bound.now) (bytes_of bound.now) count edge
+        requires can_remove { CanRemoveExpired bound.now count edge
             before self.old
             taken.old.items }
         ensures removal { RemovesExpired (below_of bound.now) count edge before result

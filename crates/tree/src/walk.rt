@@ -4,7 +4,7 @@
 ghost use Rattle.std.specs.Prelude.{◌≡◌, ◌++◌, ℕ, Bool, List, Option, map};
 ghost use Rattle.tree.specs.Item.{Item, item_of};
 ghost use Rattle.tree.specs.Children.{items_with};
-ghost use Rattle.tree.specs.KeyBound.{below_of, bytes_of, target_of};
+ghost use Rattle.tree.specs.KeyBound.{below_of, bytes_of};
 ghost use Rattle.tree.specs.Subtree.{items_in};
 ghost use Rattle.tree.specs.declared.key_bound.KeyBound.{KeyBound};
 ghost use Rattle.tree.specs.Walk.{added_by, CanChangeLeaf, IsChanged, IsChangedWithin};
@@ -94,9 +94,7 @@ pub trait LeafChange<const N: usize> {
         place: Place,
         taken: &mut ArrayVec<Entry, N>,
     ) -> Outcome
-        requires can_change { CanChangeLeaf (bytes_of (bound_of self.old))
-            (below_of (bound_of self.old))
-            (target_of (bound_of self.old)) (wants self.old) nodes.old 0 slot place.common_prefix_len
+        requires can_change { CanChangeLeaf (bound_of self.old) (wants self.old) nodes.old 0 slot place.common_prefix_len
             taken.old.items }
         ensures changed { IsChanged (bytes_of (bound_of self.old)) nodes.old nodes.new 0
             slot result }
@@ -123,9 +121,7 @@ pub fn change_leaf<C: LeafChange<N>, const N: usize>(
     taken: &mut ArrayVec<Entry, N>,
     way: &mut Way,
 ) -> Outcome
-    requires can_change { CanChangeLeaf (bytes_of (C.bound_of change.old))
-        (below_of (C.bound_of change.old))
-        (target_of (C.bound_of change.old)) (C.wants change.old) nodes.old height slot place.common_prefix_len
+    requires can_change { CanChangeLeaf (C.bound_of change.old) (C.wants change.old) nodes.old height slot place.common_prefix_len
         taken.old.items }
     ensures changed { IsChanged (bytes_of (C.bound_of change.old)) nodes.old nodes.new
         height slot result }

@@ -41,7 +41,7 @@ impl<const N: usize> Node<N> {
         common_prefix_len: Option<usize>,
         head: Option<u32>,
     ) -> usize
-        requires can_step { CanStepBy (bytes_of bound.now) (below_of bound.now) (target_of bound.now)
+        requires can_step { CanStepBy bound.now
             self.now
             common_prefix_len head }
         ensures count { IsLowerBound (below_of bound.now) self.now result }
@@ -57,7 +57,7 @@ impl<const N: usize> Node<N> {
     #[inline(always)]
     pub fn lower_bound_by_head(&self, bound: &KeyBound<'_>, head: Option<u32>) -> usize
         requires can_find { CanFind (bytes_of bound.now) (below_of bound.now) self.now }
-        requires head { HasHead (bytes_of bound.now) (target_of bound.now) head
+        requires head { HasHead bound.now head
             (key_heads_of self.now) }
         requires none { head ≡ None → get_or (key_heads_of self.now).heads 0 0 ≢ 0
             → length (filter (λ e. below_of bound.now e.key) (entries_of self.now))
@@ -97,7 +97,7 @@ impl<const N: usize> Node<N> {
             → slice_get (entries_of self.now) 0 ≡ Some e
             → bytes_of bound.now e.key ≡ Some text
             → HaveCommonPrefix common_prefix_len text (target_of bound.now) }
-        ensures head { IsHeadFor (bytes_of bound.now) (target_of bound.now) common_prefix_len result
+        ensures head { IsHeadFor bound.now common_prefix_len result
             (key_heads_of self.now) }
     {
         let has_prefix = if self.heads[0] == 0 && self.prefix_len > 0 {
@@ -128,7 +128,7 @@ impl<const N: usize> Node<N> {
             → slice_get (entries_of self.now) 0 ≡ Some e
             → bytes_of bound.now e.key ≡ Some text
             → HaveCommonPrefix common_prefix_len text (target_of bound.now) }
-        ensures head { HasHead (bytes_of bound.now) (target_of bound.now) result
+        ensures head { HasHead bound.now result
             (key_heads_of self.now) }
     {
         if has_prefix {
@@ -163,7 +163,7 @@ impl<const N: usize> Node<N> {
     pub fn is_below_at(&self, index: usize, bound: &KeyBound<'_>, head: Option<u32>) -> bool
         requires headed { AreHeads (bytes_of bound.now) (key_heads_of self.now) }
         requires within { index < length (entries_of self.now) }
-        requires head { HasHead (bytes_of bound.now) (target_of bound.now) head
+        requires head { HasHead bound.now head
             (key_heads_of self.now) }
         ensures is_below { (e : Entry) → slice_get (entries_of self.now) index ≡ Some e
             → result ≡ below_of bound.now e.key }
@@ -180,7 +180,7 @@ impl<const N: usize> Node<N> {
     #[inline(always)]
     pub fn lower_bound_from(&self, from: usize, bound: &KeyBound<'_>, head: Option<u32>) -> usize
         requires can_find { CanFind (bytes_of bound.now) (below_of bound.now) self.now }
-        requires head { HasHead (bytes_of bound.now) (target_of bound.now) head
+        requires head { HasHead bound.now head
             (key_heads_of self.now) }
         requires least { from ≤ length
             (filter (λ e. below_of bound.now e.key) (entries_of self.now)) }
@@ -220,7 +220,7 @@ impl<const N: usize> Node<N> {
     #[inline(always)]
     pub fn lower_bound_back(&self, to: usize, bound: &KeyBound<'_>, head: Option<u32>) -> usize
         requires can_find { CanFind (bytes_of bound.now) (below_of bound.now) self.now }
-        requires head { HasHead (bytes_of bound.now) (target_of bound.now) head
+        requires head { HasHead bound.now head
             (key_heads_of self.now) }
         requires within { to ≤ length (entries_of self.now) }
         requires most { length (filter (λ e. below_of bound.now e.key) (entries_of self.now)) ≤ to }

@@ -121,7 +121,7 @@ impl<const N: usize> Node<N> {
     /// returns for it.
     #[inline(always)]
     pub fn step_by(&self, bound: &KeyBound<'_>, common_prefix_len: usize, head: Option<u32>) -> Step
-        requires can_step { CanStepBy (bytes_of bound.now) (below_of bound.now) (target_of bound.now)
+        requires can_step { CanStepBy bound.now
             self.now
             (Some common_prefix_len) head }
         ensures step { IsStep (bytes_of bound.now) (below_of bound.now) (target_of bound.now) self.now
@@ -153,7 +153,7 @@ impl<const N: usize> Node<N> {
             (entries_of self.now) 0 }
         requires is_below { (e : Entry) → slice_get (entries_of self.now) index ≡ Some e
             → IsTrue (below_of bound.now e.key) }
-        requires head { IsHeadFor (bytes_of bound.now) (target_of bound.now) common_prefix_len head
+        requires head { IsHeadFor bound.now common_prefix_len head
             (key_heads_of self.now) }
         ensures known { IsCommonPrefixAt (bytes_of bound.now) (below_of bound.now)
             (target_of bound.now) (Some result)

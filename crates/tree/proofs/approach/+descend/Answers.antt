@@ -87,7 +87,7 @@ returns-then-height-eq0 g t c =
 pub returns : goal.returns
 returns g t c =
     let wider = told g t (goal.at.returns g t c).After-is_clear-clear in
-    record { approach = approach_wider _ _ _ _ _ _ _ _ _ _ _ _ c.descend.result wider c.descend.ensures.approach }
+    record { approach = approach_wider _ _ _ _ _ _ _ _ _ _ c.descend.result wider c.descend.ensures.approach }
 
 pub returns-then-clear : goal.returns-then-clear
 returns-then-clear g t c =

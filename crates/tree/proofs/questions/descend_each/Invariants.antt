@@ -6,6 +6,5 @@ use Rattle.tree.proofs.questions.descend_each.Given as goal
 
 abbrev pub invariant-loop-question : goal.invariant-loop-question
 invariant-loop-question g l =
-    AllZip (λ q approach. IsApproach l.nodes l.root.height l.root.slot (bytes_of q.from) (below_of q.from)
-    (below_of q.to) (target_of q.from) q.version true approach)
+    AllZip (λ q approach. IsApproach l.nodes l.root.height l.root.slot q.from q.to q.version true approach)
     (take l.question-index l.questions) l.approaches.items

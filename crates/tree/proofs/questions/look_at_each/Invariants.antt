@@ -7,5 +7,5 @@ use Rattle.tree.proofs.questions.look_at_each.Given as goal
 abbrev pub invariant-loop-question : goal.invariant-loop-question
 invariant-loop-question g l =
     (map (λ k. k.approach) l.looks.items ≡ take (length l.yielded) l.approaches)
-    × AllZip (λ q k. IsLooked l.nodes (bytes_of q.from) (target_of q.from) k.approach k.from_head)
+    × AllZip (λ q k. IsLooked l.nodes q.from k.approach k.from_head)
     (take (length l.yielded) l.questions) l.looks.items

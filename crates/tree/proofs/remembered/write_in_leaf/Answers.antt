@@ -22,8 +22,7 @@ module _ (g : given.Over) (c : After-header_ref-node g) where
   read : entries_at c.args.nodes.now c.args.leaf.slot ≡ entries_of c.header_ref-node.result.now
   read = entries_from_header c.args.nodes.now c.args.leaf.slot _ c.header_ref-node.ensures.header
 
-  can_find : CanFindRun (below_of c.args.new.now.from) (below_of c.args.new.now.to)
-      (bytes_of c.args.new.now.to) c.header_ref-node.result.now
+  can_find : CanFindRun c.args.new.now.from c.args.new.now.to c.header_ref-node.result.now
   can_find =
       let can = c.requires.can_write in
       record {

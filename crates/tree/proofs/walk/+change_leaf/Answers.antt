@@ -88,8 +88,7 @@ module _ (g : Over) (t : ℕ) (c : After-index-entries-step g t) where
       }
 
   -- The child can be changed.
-  can_change_child : CanChangeLeaf (bytes_of (g.C.LeafChange.bound_of c.args.change.now)) is_below
-      (target_of (g.C.LeafChange.bound_of c.args.change.now)) (g.C.LeafChange.wants c.args.change.now)
+  can_change_child : CanChangeLeaf (g.C.LeafChange.bound_of c.args.change.now) (g.C.LeafChange.wants c.args.change.now)
       c.args.nodes.now h x c.step-step.result.common_prefix_len c.args.taken.now.items
   can_change_child =
       let at = at_child in

@@ -14,7 +14,7 @@ use Rattle.tree.proofs.tree.Tree.exceeds_each.Goals.{After-self}
 -- what is required, of the nodes
 asked : (g : Over) (c : After-self g)
     → All (λ q. IsAsked c.self.inside.nodes (least_of g.row.N) c.self.inside.root.height c.self.inside.root.slot
-    (bytes_of q.from) (below_of q.from) (below_of q.to)) c.args.questions.now
+    q.from q.to) c.args.questions.now
 asked g c i q within =
     let can_reach = can_reach_root c.self.invariant.0 ((rw (← c.self.view_is) at c.requires.from) i q within) in
     let to = (rw (← c.self.view_is) at c.requires.to) i q within in
@@ -29,7 +29,7 @@ pub look_at_each-looks-requires : goal.look_at_each-looks-requires
 look_at_each-looks-requires g c =
     let a = asked g (goal.at.look_at_each-looks-requires g c).After-self in
     let approaches = rw (← map-id c.descend_each-approaches.result.items) at c.descend_each-approaches.ensures.approaches in
-    let leading = AllZip-through _ _ (λ approach. approach) (λ q approach. leading_of _ _ _ _ _ _ _ _ _ approach) _ _ approaches in
+    let leading = AllZip-through _ _ (λ approach. approach) (λ q approach. leading_of _ _ _ _ _ _ _ approach) _ _ approaches in
     (search rules, (c.requires.few, (rw c.as_slice.ensures.value leading, (λ i q within. (a i q within).can_reach.headed))))
 
 pub answer_each-requires : goal.answer_each-requires
