@@ -1,8 +1,6 @@
 -- Where a question leads.
 use Rattle.std.proofs.Common.{rules, ℕ, Bool, false, List, Option, Some, ℤ}
-use Rattle.tree.specs.KeyBound.{below_of}
-use Rattle.tree.specs.declared.key_bound.KeyBound.{KeyBound}
-use Rattle.tree.proofs.Words.{Arena, Node, Approach, Leaf, Clear, Open, IsApproach, IsLeading, IsTold, items_in}
+use Rattle.tree.proofs.Words.{Arena, Node, Approach, Leaf, Clear, Open, IsApproach, IsLeading, IsTold, items_in, below_of, KeyBound}
 
 module _ {N : ℕ} (nodes : Arena (Node N)) (p q : KeyBound) (v : ℤ) where
   -- What answers for a part answers for the whole, where what is told of the part is told of the whole.

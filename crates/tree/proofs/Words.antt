@@ -4,6 +4,7 @@ pub use Rattle.tree.specs.declared.approach.Approach.{Approach}
 pub use Rattle.tree.specs.declared.approach.Approach.TheVariants.{Leaf, Clear, Open}
 pub use Rattle.tree.specs.declared.entry.Entry.{Entry}
 pub use Rattle.tree.specs.declared.expiring.Removal.{Removal}
+pub use Rattle.tree.specs.declared.key_bound.KeyBound.{KeyBound}
 pub use Rattle.tree.specs.declared.node.Node.{Node}
 pub use Rattle.tree.specs.declared.node.TheConstants.{PADDING}
 pub use Rattle.tree.specs.declared.overwrite.Written.{Written}
@@ -12,6 +13,7 @@ pub use Rattle.tree.specs.Expire.{RemovesExpired, GivesUnexpired}
 pub use Rattle.tree.specs.Finding.{CanFind, CanStep, IsStep, IsLowerBound}
 pub use Rattle.tree.specs.Heads.{KeyBytes, IsCommonPrefix, IsCommonPrefixAt, Begins, head_behind, head_at, KeyHeads, AreHeads, IsBelowInOrder, IsCommonPrefixLen, HasPrefix, IsTargetHead, IsKnown, IsHeadBeside, AllAreHeads}
 pub use Rattle.tree.specs.Item.{Item, item_of, IsMost, Tells, IsGreatest, version_of, IsGreatestWith, greater_of}
+pub use Rattle.tree.specs.KeyBound.{below_of, bytes_of, target_of}
 pub use Rattle.tree.specs.Node.{entries_of, key_heads_of, keys_of, all_heads_of, heads_list}
 pub use Rattle.tree.specs.Overwrite.{Overwrites, first_is_below, put_of}
 pub use Rattle.tree.specs.Path.{IsPartitioned, between, from_last, items_below, index_in, leaf_in, behind, behind_leaf, first_key, child_in, before_leaf, below_from, below_to}

@@ -1,7 +1,6 @@
 use Rattle.std.proofs.Common.{rules, ◌≡◌, ◌≤◌, ℕ, ◌+◌, ◌-◌, Bool, false, List, length, filter, get_or, Option, Some, refl, arith}
 use Rattle.std.proofs.lemmas.Option.{slice_get_read}
-use Rattle.tree.specs.KeyBound.{below_of, bytes_of, target_of}
-use Rattle.tree.proofs.Words.{Entry, CanStep, IsTold, entries_of, items_in, least_of}
+use Rattle.tree.proofs.Words.{Entry, CanStep, IsTold, entries_of, items_in, least_of, below_of, bytes_of, target_of}
 use Rattle.tree.proofs.Approaches.{approach_wider}
 use Rattle.tree.proofs.Above.{at_most_tested}
 use Rattle.tree.proofs.FirstKeys.{knows_child}

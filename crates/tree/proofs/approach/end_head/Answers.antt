@@ -1,6 +1,5 @@
 use Rattle.std.proofs.Common.{rules, Some, IsTrue, sym, ◌∙◌, arith, leb-true}
-use Rattle.tree.specs.KeyBound.{below_of, bytes_of, target_of}
-use Rattle.tree.proofs.Words.{HasPrefix, key_heads_of}
+use Rattle.tree.proofs.Words.{HasPrefix, key_heads_of, below_of, bytes_of, target_of}
 use Rattle.tree.proofs.Headed.{key_heads_kept}
 use Rattle.tree.proofs.NearBounds.{has_prefix_too, common_prefix_near, fewer_alike}
 use Rattle.tree.proofs.callers.Partitions.{not_both}

@@ -1,6 +1,5 @@
 use Rattle.std.proofs.Common.{rules, ℕ, get_or, ◌≤◌, ◌∙◌, ap, sym, arith}
-use Rattle.tree.specs.KeyBound.{below_of, bytes_of, target_of}
-use Rattle.tree.proofs.Words.{index_in, least_of}
+use Rattle.tree.proofs.Words.{index_in, least_of, below_of, bytes_of, target_of}
 use Rattle.tree.proofs.Found.{IsFound, found, found_subtree, found_partitioned, found_leaf}
 use Rattle.tree.proofs.FirstKeys.{known_below, some_below}
 use Rattle.tree.proofs.Looks.{can_step_at}

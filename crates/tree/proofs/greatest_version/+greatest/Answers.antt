@@ -1,7 +1,6 @@
 use Rattle.std.proofs.Common.{ℕ, ◌-◌, ◌≤◌, true, false, option_map, arith, rules}
 use Rattle.std.proofs.lemmas.Option.{IfSome_then}
-use Rattle.tree.specs.KeyBound.{below_of, bytes_of}
-use Rattle.tree.proofs.Words.{Item, Tells, IsGreatestWith, below_from, below_to, items_in, least_of}
+use Rattle.tree.proofs.Words.{Item, Tells, IsGreatestWith, below_from, below_to, items_in, least_of, below_of, bytes_of}
 use Rattle.tree.proofs.FromLast.{from_last_of}
 use Rattle.tree.proofs.Looks.{IsLook, can_find_at, look_of, ask_any, look_ordered, leaf_from_last}
 use Rattle.tree.proofs.Halves.{AreHalves, left_items, right_items, middle_items, left_from_last, right_before, left_is, right_is, middle_tells, left_reached, right_reached, apart, in_one, in_two}

@@ -1,7 +1,6 @@
 use Rattle.std.proofs.Common.{Some, IsTrue, length, take, ◌↔◌, ◌<ℤ◌}
 use Rattle.std.specs.List.{AllZip, Any}
-use Rattle.tree.specs.KeyBound.{below_of}
-use Rattle.tree.proofs.Words.{from_last, items_in}
+use Rattle.tree.proofs.Words.{from_last, items_in, below_of}
 use Rattle.tree.proofs.questions.answer_each.Given as goal
 
 abbrev pub invariant-loop-question : goal.invariant-loop-question

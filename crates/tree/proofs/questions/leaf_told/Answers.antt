@@ -1,9 +1,8 @@
 use Rattle.std.proofs.Common.{rules, Some, refl, w64, arith}
 use Rattle.std.proofs.lemmas.Bool.{not-false}
 use Rattle.std.proofs.lemmas.Int.{to_z-of_z}
-use Rattle.tree.specs.KeyBound.{below_of, bytes_of, target_of}
 use Rattle.tree.proofs.KeyBounds.{key_order}
-use Rattle.tree.proofs.Words.{CanStep, entries_of, least_of}
+use Rattle.tree.proofs.Words.{CanStep, entries_of, least_of, below_of, bytes_of, target_of}
 use Rattle.tree.proofs.HeadAt.{all_known}
 use Rattle.tree.proofs.Looks.{IsLook, can_step_at, look_bound, look_ordered}
 use Rattle.tree.proofs.Placing.{entries_from_header}

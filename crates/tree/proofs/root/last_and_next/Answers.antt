@@ -1,8 +1,7 @@
 use Rattle.std.proofs.Common.{◌<◌, rules, ◌≡◌, ◌∙◌, length, filter, take, drop, map, ◌++◌, None, sym, ap, refl, arith}
 use Rattle.std.specs.Prelude.{not}
 use Rattle.std.proofs.Math.Seq.{drop-append_seam, take-append_seam}
-use Rattle.tree.specs.KeyBound.{below_of, bytes_of}
-use Rattle.tree.proofs.Words.{Item, behind, behind_leaf, first_key, item_of, items_in}
+use Rattle.tree.proofs.Words.{Item, behind, behind_leaf, first_key, item_of, items_in, below_of, bytes_of}
 use Rattle.tree.specs.declared.entry.Entry.{Entry}
 use Rattle.tree.specs.Node.{entries_of}
 use Rattle.tree.specs.Subtree.{entries_at}

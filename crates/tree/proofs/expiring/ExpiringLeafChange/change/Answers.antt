@@ -1,7 +1,6 @@
 use Rattle.std.proofs.Common.{rules, Bool, false, IsTrue, ◌∷◌, ℕ, ◌≡◌, ◌≢◌, ◌≤◌, ◌<◌, ◌+◌, ◌-◌, ◌∙◌, ◌++◌, ap, sym, refl, List, [], length, filter, take, drop, map, arith, w64}
 use Rattle.std.proofs.lemmas.Int.{to_z-of_z}
-use Rattle.tree.specs.KeyBound.{below_of}
-use Rattle.tree.proofs.Words.{with_header, Entry, Item, item_of, entries_of, entries_at, GivesUnexpired, unexpired, expired}
+use Rattle.tree.proofs.Words.{with_header, Entry, Item, item_of, entries_of, entries_at, GivesUnexpired, unexpired, expired, below_of}
 use Rattle.tree.proofs.ChangedLeaf.{leaf_can_step, leaf_changed, unchanged}
 use Rattle.tree.proofs.Headed.{headed_at}
 use Rattle.tree.proofs.LastRun.{leaf_unexpired, untouched}

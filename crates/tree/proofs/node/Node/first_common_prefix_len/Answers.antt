@@ -1,7 +1,6 @@
 use Rattle.std.proofs.Common.{◌≡◌, ◌<◌, ◌+◌, inl, get_or, get_or-take, refl, arith, length-take, lt-ltb}
-use Rattle.tree.specs.KeyBound.{target_of}
 use Rattle.tree.proofs.KeyBounds.{key_order}
-use Rattle.tree.proofs.Words.{IsTargetHead, entries_of, key_heads_of}
+use Rattle.tree.proofs.Words.{IsTargetHead, entries_of, key_heads_of, target_of}
 use Rattle.tree.proofs.HeadAt.{agrees_at, key_there, common_at, less_passes}
 use Rattle.tree.proofs.node.Node.first_common_prefix_len.Goals as goal
 

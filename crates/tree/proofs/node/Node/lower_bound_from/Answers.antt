@@ -1,7 +1,6 @@
 use Rattle.std.proofs.Common.{◌≡◌, ◌≤◌, ℕ, Bool, ◌+◌, ◌-◌, List, ap, sym, subst, filter, length, take, drop, arith}
-use Rattle.tree.specs.KeyBound.{below_of}
 use Rattle.tree.proofs.KeyBounds.{key_order}
-use Rattle.tree.proofs.Words.{Entry, IsLowerBound, entries_of}
+use Rattle.tree.proofs.Words.{Entry, IsLowerBound, entries_of, below_of}
 use Rattle.tree.proofs.callers.Partitions.{IsPartitioned-range, length-items_below}
 use Rattle.tree.proofs.HeadAt.{few_pass, many_pass}
 use Rattle.tree.proofs.HeadCounts.{count_range}

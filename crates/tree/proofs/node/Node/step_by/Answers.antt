@@ -1,7 +1,6 @@
 use Rattle.std.proofs.Common.{rules, ◌<◌, filter, length, arith}
-use Rattle.tree.specs.KeyBound.{below_of}
 use Rattle.tree.proofs.KeyBounds.{key_order}
-use Rattle.tree.proofs.Words.{Entry, entries_of}
+use Rattle.tree.proofs.Words.{Entry, entries_of, below_of}
 use Rattle.tree.proofs.HeadAt.{entry_at, all_known}
 use Rattle.tree.proofs.HeadCounts.{passing_at, passing_inside}
 use Rattle.tree.proofs.node.Node.step_by.Goals as goal
