@@ -15,10 +15,9 @@ splice_apart-right-requires g c =
         record {
           ordered = can.ordered;
           within = omega (arith, can.within, len);
-          same_len = can.same_len;
           headed = headed_at _ c.args.nodes.now c.args.slot node can.headed header;
           known = can.known;
-          beside = λ have_prefix. (rw header at (can.beside have_prefix));
+          beside = rw header at can.beside;
         },
         (can.few_new, omega (arith, can.many, len)),
       ),

@@ -1,4 +1,5 @@
 use Rattle.std.proofs.Common.{rules, ◌≡◌, ◌≤◌, ◌∙◌, ap, refl, true, List, [], ◌∷◌, ◌++◌, Some, length, take, drop, map, unwrap_or, w64, arith}
+use Rattle.std.specs.Prelude.{IfSome, option_map}
 use Rattle.std.specs.List.{All}
 use Rattle.std.proofs.lemmas.Int.{to_z-of_z}
 use Rattle.std.proofs.lemmas.List.{length-take-le, map-append}
@@ -10,15 +11,15 @@ use Rattle.tree.specs.Tree.{ended_by}
 use Rattle.tree.specs.KeyBound.{bytes_of, target_of}
 use Rattle.tree.proofs.ChangedLeaf.{put_stored}
 use Rattle.tree.proofs.Headed.{headed_at}
-use Rattle.tree.proofs.NearBounds.{both_put, both_zipped, key_beside}
+use Rattle.tree.proofs.NearBounds.{both_beside, both_put, key_beside}
 use Rattle.tree.proofs.Overwriting.{entries_put, at_most_two, items_put}
 use Rattle.tree.proofs.Placing.{entries_from_header, put_entries}
-use Rattle.tree.proofs.run.write_run.Goals.{Joined-is_some, then-run, else-run, then-is_some, else-is_some}
+use Rattle.tree.proofs.run.write_run.Goals.{After-heads_for-heads, then-run, else-run}
 use Rattle.tree.proofs.run.write_run.Given as given
 use Rattle.tree.proofs.run.write_run.Goals as goal
 
 -- what comes in place of the run
-module _ (g : given.Over) (c : Joined-is_some g) where
+module _ (g : given.Over) (c : After-heads_for-heads g) where
   open c use {args.{new.{now as new}, run}, requires.{can_write}, if-run.{entries.{now as put}}, item.{result as other}}
 
   abbrev bytes : KeyBytes
@@ -44,19 +45,15 @@ module _ (g : given.Over) (c : Joined-is_some g) where
       (record { text = target_of new.to; known = second_is; are_bytes = new.to_bytes }))
 
   -- The heads are those of the new keys, where both targets begin as all keys do.
-  heads_beside : c.if-is_some.have_prefix ≡ true → AreHeadsBeside bytes (key_heads_of can_write.leaf) (keys_of put)
-      (take (length put) (c.unwrap_or-2.result ∷ c.unwrap_or-3.result ∷ []))
-  heads_beside have_prefix = elim c.if-is_some.branch [
-    | then-is_some w ↦
-        let keys = key_heads_of can_write.leaf in
-        let one = key_beside bytes (bytes_of new.from) keys _ run.begin_head new.bytes
-        can_write.run_is.begin_head (cc) new.first.key new.first_is new.from_bytes in
-        let two = key_beside bytes bytes keys _ run.end_head (λ key. refl) can_write.run_is.end_head
-        (cc) other.key second_is new.to_bytes in
-        simp (put_is, c.unwrap_or-2.ensures, c.unwrap_or-3.ensures)
-        (both_zipped (IsHeadBeside bytes keys) run.ended new.first other _ _ one two)
-    | else-is_some w ↦ absurd (cc)
-  ]
+  heads_beside : IfSome (option_map (λ h. h.now) c.heads_for-heads.result)
+      (λ h. AreHeadsBeside bytes (key_heads_of can_write.leaf) (keys_of put) h)
+  heads_beside =
+      let keys = key_heads_of can_write.leaf in
+      let one = key_beside bytes (bytes_of new.from) keys _ run.begin_head new.bytes can_write.run_is.begin_head new.first.key
+      new.first_is new.from_bytes in
+      let two = key_beside bytes bytes keys _ run.end_head (λ key. refl) can_write.run_is.end_head other.key second_is new.to_bytes in
+      rw (c.heads_for-heads.ensures.heads, c.both-heads.ensures.both, put_is)
+      (both_beside (IsHeadBeside bytes keys) run.ended new.first other run.begin_head run.end_head one two)
 
   -- what the items are then
   written : (es now : List Entry) → now ≡ take run.begin es ++ (put ++ drop run.end es)
@@ -72,7 +69,7 @@ module _ (g : given.Over) (c : Joined-is_some g) where
 
 pub split-requires : goal.split-requires
 split-requires g c =
-    let j = (goal.at.split-requires g c).Joined-is_some in
+    let j = (goal.at.split-requires g c).After-heads_for-heads in
     let can = c.requires.can_write in
     let there = ap length (entries_from_header c.args.nodes.now c.args.slot _ can.there) in
     let read = ap length (entries_from_header c.args.nodes.now c.args.slot _ c.header_ref.ensures.header) in (
@@ -88,19 +85,18 @@ split-requires g c =
         many = omega (arith, read, c.len.ensures.len, c.if-begin-entries.true);
         headed = can.headed;
         known = put_known g j;
-        same_len = length-take-le _ _ (few_put g j);
-        beside = λ have_prefix. rw can.there (heads_beside g j have_prefix);
+        beside = rw can.there (heads_beside g j);
       },
     )
 
 pub returns-then-begin-entries-clause-written : goal.returns-then-begin-entries-clause-written
 returns-then-begin-entries-clause-written g c =
-    let j = (goal.at.returns-then-begin-entries-clause-written g c).Joined-is_some in
+    let j = (goal.at.returns-then-begin-entries-clause-written g c).After-heads_for-heads in
     rw (← map-append item_of) (written g j _ _ c.split.ensures.entries)
 
 pub splice_with_heads-requires : goal.splice_with_heads-requires
 splice_with_heads-requires g c =
-    let j = (goal.at.splice_with_heads-requires g c).Joined-is_some in
+    let j = (goal.at.splice_with_heads-requires g c).After-heads_for-heads in
     let can = c.requires.can_write in
     let same : c.header_mut.result.now ≡ can.leaf = cc (can.there) in
     let read : c.header_ref.result.now ≡ c.header_mut.result.now = cc in
@@ -110,10 +106,9 @@ splice_with_heads-requires g c =
         record {
           ordered = can.run_is.ordered;
           within = rw same can.run_is.end.within;
-          same_len = length-take-le _ _ (few_put g j);
           headed = headed_at _ c.args.nodes.now c.args.slot _ can.headed c.header_mut.ensures.header;
           known = put_known g j;
-          beside = λ have_prefix. rw same (heads_beside g j have_prefix);
+          beside = rw same (heads_beside g j);
         },
         omega (arith, len, c.if-begin-entries.false),
       ),
@@ -121,7 +116,7 @@ splice_with_heads-requires g c =
 
 pub returns-clause-written : goal.returns-clause-written
 returns-clause-written g c =
-    let j = (goal.at.returns-clause-written g c).Joined-is_some in
+    let j = (goal.at.returns-clause-written g c).After-heads_for-heads in
     let put = put_entries c.args.nodes.now _ c.args.slot c.splice_with_heads.new.self refl in
     let read = entries_from_header c.args.nodes.now c.args.slot _ c.header_mut.ensures.header in
     written g j _ _ (put ∙ (rw (← read) at c.splice_with_heads.ensures.entries))

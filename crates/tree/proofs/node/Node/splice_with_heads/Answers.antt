@@ -1,7 +1,16 @@
-use Rattle.std.proofs.Common.{rules}
-use Rattle.tree.proofs.Words.{Entry, entries_of, key_heads_of, keys_of}
+use Rattle.std.proofs.Common.{rules, length}
+use Rattle.std.proofs.lemmas.List.{length-map}
+use Rattle.arena.specs.Arena.{key_at}
+use Rattle.tree.specs.Node.{HasHeads}
+use Rattle.tree.proofs.Words.{Entry, IsHeadBeside, entries_of, key_heads_of, keys_of}
+use Rattle.tree.proofs.GivenHeads.{given_count, where_given}
 use Rattle.tree.proofs.HeadChanges.{headed_spliced, known_spliced, map_spliced}
 use Rattle.tree.proofs.node.Node.splice_with_heads.Goals as goal
+
+pub splice-requires-clause-same_len : goal.splice-requires-clause-same_len
+splice-requires-clause-same_len g c =
+    given_count c.args.heads (λ h. h.now) (IsHeadBeside (key_at c.args.keys.now) (key_heads_of c.args.self.now)) (keys_of c.args.new.now)
+    (length c.args.new.now) (length-map c.args.new.now (λ (e : Entry). e.key)) c.requires.can_splice.beside
 
 pub compute_heads-requires : goal.compute_heads-requires
 compute_heads-requires g c =
@@ -10,10 +19,11 @@ compute_heads-requires g c =
     let keys = map_spliced (λ (e : Entry). e.key) (entries_of old) _ _ c.args.from c.args.to c.splice.ensures.entries in
     (search rules, known_spliced _ (key_heads_of old) can.headed (keys_of c.args.new.now) _ c.args.from c.args.to can.known keys)
 
-pub returns-else-not-have_prefix-clause-headed : goal.returns-else-not-have_prefix-clause-headed
-returns-else-not-have_prefix-clause-headed g c =
+pub returns-else-is_none-clause-headed : goal.returns-else-is_none-clause-headed
+returns-else-is_none-clause-headed g c =
     let can = c.requires.can_splice in
     let old = c.args.self.now in
     let keys = map_spliced (λ (e : Entry). e.key) (entries_of old) _ _ c.args.from c.args.to c.splice.ensures.entries in
-    headed_spliced _ (key_heads_of old) can.headed _ _ c.args.heads.now c.args.from c.args.to can.known
-    (can.beside c.if-not-have_prefix.false) keys c.splice.ensures.heads.prefix_len c.splice.ensures.heads.heads_are
+    where_given c.args.heads (λ h. h.now) _ _ (search rules) can.beside c.splice.ensures.heads
+    (λ h beside put. headed_spliced _ (key_heads_of old) can.headed _ _ h.now c.args.from c.args.to can.known beside keys
+    put.prefix_len put.heads_are)
