@@ -5,7 +5,7 @@ use Rattle.tree.specs.Heads.{HasPrefix, IsTargetHead}
 use Rattle.tree.specs.Node.{entries_of, key_heads_of}
 use Rattle.tree.specs.KeyBound.{below_of, bytes_of, target_of}
 use Rattle.tree.proofs.Headed.{key_heads_kept}
-use Rattle.tree.proofs.NearBounds.{has_prefix_too, no_more}
+use Rattle.tree.proofs.NearBounds.{has_prefix_too, no_more, same_head}
 use Rattle.tree.proofs.WrittenLeaf.{none_if}
 use Rattle.tree.proofs.remembered.find_run.Goals.{then-ends_above, else-ends_above, After-head}
 use Rattle.tree.proofs.remembered.find_run.Given as given
@@ -50,6 +50,17 @@ lower_bound_back-begin-requires g c =
     let h = (goal.at.lower_bound_back-begin-requires g c).After-head in
     let more = no_more _ _ c.args.new.now.nested (entries_of c.args.leaf.now) in
     (omega (arith, c.requires.can_find.few), (from_known g h, (begin_head g h, (c.lower_bound_by_head-end.ensures.count.within, omega arith))))
+
+pub is_below_at-ended-requires : goal.is_below_at-ended-requires
+is_below_at-ended-requires g c =
+    let h = (goal.at.is_below_at-ended-requires g c).After-head in
+    let new = c.args.new.now in
+    let past = key_heads_kept _ _ (λ key text is. new.past_bytes key ∙ is) _ c.requires.can_find.second_bound.headed in
+    let own = same_head (bytes_of new.past) _ _ (target_of new.past) _ (λ key. sym (new.past_bytes key)) (sym new.past_target) _
+    (end_head g h) in (
+      omega (arith, c.requires.can_find.few),
+      (past, (omega (arith, c.if-end-len.false, c.len-len.ensures.len, c.lower_bound_by_head-end.ensures.count.within), own)),
+    )
 
 pub overflow_sub-end : goal.overflow_sub-end
 overflow_sub-end g c = omega (arith, no_more _ _ c.args.new.now.nested (entries_of c.args.leaf.now))
