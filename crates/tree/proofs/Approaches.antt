@@ -1,5 +1,5 @@
 -- Where a question leads.
-use Rattle.std.proofs.Common.{rules, ℕ, Bool, false, List, Option, Some, ℤ}
+use Rattle.std.proofs.Common.{rules, ℕ, Bool, false, Option, Some, ℤ}
 use Rattle.tree.proofs.Words.{Arena, Node, Approach, Leaf, Clear, Open, IsApproach, IsLeading, IsTold, items_in, below_of, KeyBound}
 
 module _ {N : ℕ} (nodes : Arena (Node N)) (p q : KeyBound) (v : ℤ) where

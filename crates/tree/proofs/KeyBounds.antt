@@ -1,5 +1,5 @@
 -- Keys below a bound.
-use Rattle.std.proofs.Common.{◌≡◌, ℕ, Bool, true, false, not, List, Some, sym, ap, subst, ◌∙◌, unwrap_or, option_map, refl, Less, Equal, Greater}
+use Rattle.std.proofs.Common.{◌≡◌, ℕ, Bool, true, false, not, List, Some, sym, ap, ◌∙◌, unwrap_or, option_map, refl, Less, Equal, Greater}
 use Rattle.std.specs.Cmp.Lexicographic.{slice_cmp}
 use Rattle.std.specs.Ordering.{nat_cmp, is_le, is_lt}
 use Rattle.arena.specs.Arena.{Arena, key_at}

@@ -1,5 +1,5 @@
 -- The search for the leaf of a tree where a bound goes through its items. This project's own.
-use Rattle.std.specs.Prelude.{◌≡◌, ◌≤◌, ◌++◌, true, false, ℕ, Bool, List, [], filter, length, map, None}
+use Rattle.std.specs.Prelude.{◌≡◌, ◌≤◌, ◌++◌, true, false, ℕ, Bool, [], filter, length, map, None}
 use Rattle.std.specs.List.{All}
 use Rattle.arena.specs.Arena.{Arena, IsLive}
 use Rattle.tree.specs.declared.descent.Reached.{Reached}

@@ -1,7 +1,6 @@
 use Rattle.std.proofs.Common.{true, take}
 use Rattle.std.specs.List.{AllZip}
 use Rattle.tree.specs.Question.{IsApproach}
-use Rattle.tree.specs.KeyBound.{below_of, bytes_of, target_of}
 use Rattle.tree.proofs.questions.descend_each.Given as goal
 
 abbrev pub invariant-loop-question : goal.invariant-loop-question

@@ -1,7 +1,6 @@
 use Rattle.std.proofs.Common.{◌≡◌, length, map, take}
 use Rattle.std.specs.List.{AllZip}
 use Rattle.tree.specs.Question.{IsLooked}
-use Rattle.tree.specs.KeyBound.{bytes_of, target_of}
 use Rattle.tree.proofs.questions.look_at_each.Given as goal
 
 abbrev pub invariant-loop-question : goal.invariant-loop-question

@@ -6,7 +6,7 @@ use Rattle.tree.specs.Node.{entries_of}
 use Rattle.tree.specs.Run.{CanFindRun}
 use Rattle.tree.specs.Subtree.{entries_at}
 use Rattle.tree.specs.Tree.{ended_by}
-use Rattle.tree.specs.KeyBound.{below_of, bytes_of}
+use Rattle.tree.specs.KeyBound.{below_of}
 use Rattle.tree.proofs.Headed.{headed_at}
 use Rattle.tree.proofs.Leaves.{entries_of_partitioned}
 use Rattle.tree.proofs.Placing.{entries_from_header}

@@ -1,7 +1,6 @@
 use Rattle.std.proofs.Common.{rules, length}
 use Rattle.std.proofs.lemmas.List.{length-map}
 use Rattle.arena.specs.Arena.{key_at}
-use Rattle.tree.specs.Node.{HasHeads}
 use Rattle.tree.proofs.Words.{Entry, IsHeadBeside, entries_of, key_heads_of, keys_of}
 use Rattle.tree.proofs.GivenHeads.{given_count, where_given}
 use Rattle.tree.proofs.HeadChanges.{headed_spliced, known_spliced, map_spliced}

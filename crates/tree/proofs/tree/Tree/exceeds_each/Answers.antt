@@ -3,7 +3,6 @@ use Rattle.tree.specs.declared.questions.Look.{Look}
 use Rattle.tree.specs.Question.{IsAsked}
 use Rattle.tree.specs.Tree.{least_of}
 use Rattle.std.proofs.lemmas.List.{map-id}
-use Rattle.tree.specs.KeyBound.{below_of, bytes_of}
 use Rattle.tree.proofs.Approaches.{leading_of}
 use Rattle.tree.proofs.InTurn.{AllZip-through}
 use Rattle.tree.proofs.LeafChange.{can_reach_root}
