@@ -13,8 +13,8 @@ ghost use Rattle.tree.specs.Subtree.{entries_at};
 ghost use Rattle.tree.specs.Tree.{least_of};
 ghost use Rattle.tree.specs.declared.entry.Entry.{Entry};
 
-use crate::key_bound::KeyBound;
 use crate::descent::common_prefix_len_at;
+use crate::key_bound::KeyBound;
 use crate::node::Node;
 use crate::question::Question;
 use crate::root::Root;
@@ -56,9 +56,9 @@ fn descend<const N: usize>(
 ) -> Approach
     requires asked { IsAsked nodes.now (least_of N) height slot question.now.from question.now.to }
     requires known { IsCommonPrefixAt (bytes_of question.now.from) (below_of question.now.from)
-        (target_of question.now.from) (Some common_prefix_len)
-        (entries_at nodes.now slot) 0 }
-    ensures approach { IsApproach nodes.now height slot question.now.from question.now.to question.now.version clear result }
+        (target_of question.now.from) (Some common_prefix_len) (entries_at nodes.now slot) 0 }
+    ensures approach { IsApproach nodes.now height slot question.now.from question.now.to
+        question.now.version clear result }
 {
     if height == 0 {
         return Approach::Leaf(Near {
@@ -119,13 +119,11 @@ fn is_clear<const N: usize>(
     clear: bool,
     look: bool,
 ) -> bool
-    requires searched { IsSearched question.now.from node.now
-        common_prefix_len from_head }
+    requires searched { IsSearched question.now.from node.now common_prefix_len from_head }
     requires within { index < length (entries_of node.now) }
     requires last_below { index ≡ index_in (below_of question.now.from) (entries_of node.now) }
-    ensures next { IsTrue result → (e : Entry)
-        → slice_get (entries_of node.now) (index + 1) ≡ Some e
-        → below_of question.now.to e.key ≡ false }
+    ensures next { IsTrue result → (e : Entry) → slice_get (entries_of node.now) (index + 1) ≡ Some
+        e → below_of question.now.to e.key ≡ false }
     ensures last { IsTrue result → length (entries_of node.now) ≤ index + 1 → IsTrue clear }
 {
     let next = index + 1;
@@ -148,10 +146,8 @@ pub fn end_head<const N: usize>(
     common_prefix_len: usize,
     from_head: Option<u32>,
 ) -> Option<u32>
-    requires searched { IsSearched question.now.from node.now
-        common_prefix_len from_head }
-    ensures head { HasHead question.now.to result
-        (key_heads_of node.now) }
+    requires searched { IsSearched question.now.from node.now common_prefix_len from_head }
+    ensures head { HasHead question.now.to result (key_heads_of node.now) }
 {
     let targets_prefix_len = question.targets_prefix_len;
     let has_prefix = from_head.is_some() && node.prefix_len() <= targets_prefix_len;
@@ -168,8 +164,10 @@ pub fn descend_from<const N: usize>(
     root: Root,
     question: &Question<'_>,
 ) -> Approach
-    requires asked { IsAsked nodes.now (least_of N) root.height root.slot question.now.from question.now.to }
-    ensures approach { IsApproach nodes.now root.height root.slot question.now.from question.now.to question.now.version true result }
+    requires asked { IsAsked nodes.now (least_of N) root.height root.slot question.now.from
+        question.now.to }
+    ensures approach { IsApproach nodes.now root.height root.slot question.now.from question.now.to
+        question.now.version true result }
 {
     let Root { slot, height } = root;
     let common_prefix_len = common_prefix_len_at(nodes, slot, &question.from).unwrap_or(0);

@@ -114,8 +114,8 @@ fn rebalance_child<const N: usize>(
     ensures rebalanced { (height : ℕ)
         → IsFamilyAt nodes.old (least_of N) height slot index (index + 1)
         → IsRebalancedAt nodes.old nodes.new (least_of N) height slot }
-    ensures rest { LosesOneAtMost (key_at keys.now) nodes.old nodes.new
-        (entries_at nodes.old slot) (entries_at nodes.new slot) }
+    ensures rest { LosesOneAtMost (key_at keys.now) nodes.old nodes.new (entries_at nodes.old slot)
+        (entries_at nodes.new slot) }
 {
     let child = nodes.header_ref(slot).entries()[index].child;
     if nodes.header_ref(child).len() >= least(N) {
@@ -141,8 +141,8 @@ fn raise_entry<const N: usize>(
         → IsFamilyAt nodes.old (least_of N) height slot index (index + 1)
         → TellsWritten nodes.old height slot index leaf.version
         → IsRebalancedAt nodes.old nodes.new (least_of N) height slot }
-    ensures rest { LosesOneAtMost (key_at keys.now) nodes.old nodes.new
-        (entries_at nodes.old slot) (entries_at nodes.new slot) }
+    ensures rest { LosesOneAtMost (key_at keys.now) nodes.old nodes.new (entries_at nodes.old slot)
+        (entries_at nodes.new slot) }
     ensures outcome { (result ≡ Outcome.Changed)
         ⊎ ((result ≡ Outcome.Raised leaf)
         × HasRaisedEntry nodes.old nodes.new slot index leaf.version) }

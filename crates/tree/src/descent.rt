@@ -10,8 +10,8 @@ ghost use Rattle.tree.specs.Subtree.{entries_at};
 ghost use Rattle.tree.specs.Tree.{least_of};
 ghost use Rattle.tree.specs.Path.{leaf_in, behind_leaf, first_key};
 
-use crate::key_bound::KeyBound;
 use crate::entry::key_at;
+use crate::key_bound::KeyBound;
 use crate::node::Node;
 use arena::{Arena, Slot};
 
@@ -57,15 +57,14 @@ pub fn find<const N: usize>(
 ) -> Reached
     requires can_reach { CanReach (bytes_of bound.now) (below_of bound.now) nodes.now (least_of N)
         height slot }
-    requires known { IsCommonPrefixAt (bytes_of bound.now) (below_of bound.now) (target_of bound.now)
-        common_prefix_len (entries_at nodes.now slot) 0 }
+    requires known { IsCommonPrefixAt (bytes_of bound.now) (below_of bound.now)
+        (target_of bound.now) common_prefix_len (entries_at nodes.now slot) 0 }
     ensures leaf { result.leaf ≡ leaf_in nodes.now height slot (below_of bound.now) }
     ensures known { IsCommonPrefixAt (bytes_of bound.now) (below_of bound.now) (target_of bound.now)
-        result.common_prefix_len
-        (entries_at nodes.now result.leaf) 0 }
+        result.common_prefix_len (entries_at nodes.now result.leaf) 0 }
     ensures some { 1 ≤ length (entries_at nodes.now result.leaf) }
-    ensures behind { result.behind
-        ≡ first_key behind (behind_leaf nodes.now height slot (below_of bound.now)) }
+    ensures behind { result.behind ≡ first_key behind
+        (behind_leaf nodes.now height slot (below_of bound.now)) }
 {
     if height == 0 {
         return Reached {

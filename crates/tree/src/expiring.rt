@@ -10,8 +10,8 @@ ghost use Rattle.tree.specs.Expire.{GivesUnexpired};
 ghost use Rattle.tree.specs.KeyBound.{below_of};
 ghost use Rattle.tree.specs.Tree.{IsLast, unexpired, expired};
 
-use crate::key_bound::KeyBound;
 use crate::entry::{Entry, key_at};
+use crate::key_bound::KeyBound;
 use crate::node::Node;
 use crate::walk::{LeafChange, Outcome, Place};
 use arena::{Arena, Slot};
@@ -48,8 +48,8 @@ impl<'a, const N: usize> LeafChange<N> for Expiring<'a> {
 
     ghost wants = { λ t items. Unit {0} };
 
-    ghost gives = { λ t done run is_first next was now.
-        GivesUnexpired (below_of t.bound) t.count t.edge t.before done.removal run next was now };
+    ghost gives = { λ t done run is_first next was now. GivesUnexpired (below_of t.bound) t.count
+        t.edge t.before done.removal run next was now };
 
     fn leaf_bound(&self) -> &KeyBound<'_> {
         &self.bound

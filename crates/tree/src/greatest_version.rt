@@ -11,8 +11,8 @@ ghost use Rattle.tree.specs.Reached.{CanReach};
 ghost use Rattle.tree.specs.Subtree.{items_in, IsSubtree};
 ghost use Rattle.tree.specs.Tree.{least_of};
 
-use crate::key_bound::KeyBound;
 use crate::entry::Entry;
+use crate::key_bound::KeyBound;
 use crate::node::Node;
 use arena::{Arena, Slot};
 
@@ -33,10 +33,10 @@ pub fn greatest<const N: usize>(
         (least_of N) height slot) }
     requires to { IfSome to (λ q. CanReach (bytes_of q.now) (below_of q.now) nodes.now (least_of N)
         height slot) }
-    requires nested { IfSome from (λ p. IfSome to (λ q. (key : ℕ) → below_of p.now key ≡ true
-        → below_of q.now key ≡ true)) }
-    ensures greatest { IsGreatestWith least
-        (from_last (below_from (option_map (λ p. below_of p.now) from.entry))
+    requires nested { IfSome from (λ p. IfSome to (λ q. (key : ℕ) → below_of p.now key ≡ true →
+        below_of q.now key ≡ true)) }
+    ensures greatest { IsGreatestWith least (from_last
+        (below_from (option_map (λ p. below_of p.now) from.entry))
         (option_map (λ q. below_of q.now) to.entry) (items_in nodes.now height slot)) result }
 {
     let node = nodes.header_ref(slot);

@@ -6,8 +6,8 @@ ghost use Rattle.tree.specs.Item.{item_of};
 ghost use Rattle.tree.specs.KeyBound.{below_of, bytes_of, target_of};
 ghost use Rattle.tree.specs.Overwrite.{GivesWritten, IsPartOfPartitioned, part_of_part, put_of};
 
-use crate::key_bound::KeyBound;
 use crate::entry::Entry;
+use crate::key_bound::KeyBound;
 use crate::node::Node;
 use crate::rebalance::least;
 use crate::run::{Run, put_taken, write_run};
@@ -59,8 +59,8 @@ pub struct Overwrite<'a> {
     ghost outer: { (key : ℕ) → below_of to key ≡ true → below_of past key ≡ true },
     ghost bytes: { (key : ℕ) → bytes_of from key ≡ bytes_of to key },
     ghost past_bytes: { (key : ℕ) → bytes_of past key ≡ bytes_of to key },
-    ghost common_prefix: { take targets_prefix_len (target_of from)
-        ≡ take targets_prefix_len (target_of to) },
+    ghost common_prefix: { take targets_prefix_len (target_of from) ≡ take targets_prefix_len
+        (target_of to) },
     ghost past_target: { target_of past ≡ target_of to },
     ghost first_is: { bytes_of to first.key ≡ Some (target_of from) },
     ghost second_is: { bytes_of to second ≡ Some (target_of to) },
@@ -76,14 +76,14 @@ pub struct Overwriting<'a, 'b> {
     pub written: Written,
 }
 
-impl<'a, 'b, const N: usize> LeafChange<N>
-    for Overwriting<'a, 'b> {
+impl<'a, 'b, const N: usize> LeafChange<N> for Overwriting<'a, 'b> {
     ghost bound_of = { λ o. o.new.now.to };
 
     ghost wants = { λ o items. IsPartOfPartitioned (below_of o.new.now.from) items };
 
     ghost gives = { λ o done. GivesWritten (below_of o.new.now.from) (below_of o.new.now.to)
-        (below_of o.new.now.past) (item_of o.new.now.first) o.new.now.second o.new.now.last done.written };
+        (below_of o.new.now.past) (item_of o.new.now.first) o.new.now.second o.new.now.last
+        done.written };
 
     fn leaf_bound(&self) -> &KeyBound<'_> {
         &self.new.to

@@ -24,9 +24,9 @@ pub struct Question<'a> {
     pub is_single: bool,
     pub version: i64,
     ghost nested: { (key : ℕ) → below_of from key ≡ true → below_of to key ≡ true },
-    ghost single: { is_single ≡ true → (key : ℕ) → below_of to key ≡ true
-        → below_of from key ≡ true },
+    ghost single: { is_single ≡ true → (key : ℕ) → below_of to key ≡ true → below_of from key ≡
+        true },
     ghost bytes: { (key : ℕ) → bytes_of from key ≡ bytes_of to key },
-    ghost common_prefix: { take targets_prefix_len (target_of from)
-        ≡ take targets_prefix_len (target_of to) },
+    ghost common_prefix: { take targets_prefix_len (target_of from) ≡ take targets_prefix_len
+        (target_of to) },
 }

@@ -17,8 +17,8 @@ ghost use Rattle.tree.specs.Tree.{least_of};
 ghost use Rattle.tree.specs.declared.question.TheConstants.{SIDE};
 
 use crate::approach::{Approach, Near, descend_from, end_head};
-use crate::key_bound::KeyBound;
 use crate::greatest_version::{any_above, greatest};
+use crate::key_bound::KeyBound;
 use crate::node::Node;
 use crate::question::{Question, SIDE};
 use crate::root::Root;
@@ -36,12 +36,10 @@ pub struct Look {
 
 // Looks at the leaf to which a question leads, for the first time.
 fn look_at<const N: usize>(nodes: &Arena<Node<N>>, approach: &Approach, from: &KeyBound<'_>) -> Look
-    requires leading { IsLeading nodes.now from.now
-        approach.now }
+    requires leading { IsLeading nodes.now from.now approach.now }
     requires headed { AllAreHeads (bytes_of from.now) (all_heads_of nodes.now) }
     ensures approach { result.approach ≡ approach.now }
-    ensures looked { IsLooked nodes.now from.now approach.now
-        result.from_head }
+    ensures looked { IsLooked nodes.now from.now approach.now result.from_head }
 {
     let Approach::Leaf(near) = approach else {
         return Look {
@@ -67,11 +65,9 @@ fn leaf_told<const N: usize>(
     requires asked { IsAsked nodes.now (least_of N) 0 near.leaf question.now.from question.now.to }
     requires near { IsNear nodes.now question.now.from near }
     requires from_head { IfSome (all_heads_of nodes.now near.leaf)
-        (IsHeadFor question.now.from
-        near.common_prefix_len from_head) }
-    ensures told { IsTold (below_of question.now.from) (below_of question.now.to) question.now.version
-        near.clear
-        (items_in nodes.now 0 near.leaf) result }
+        (IsHeadFor question.now.from near.common_prefix_len from_head) }
+    ensures told { IsTold (below_of question.now.from) (below_of question.now.to)
+        question.now.version near.clear (items_in nodes.now 0 near.leaf) result }
 {
     let node = nodes.header_ref(near.leaf);
     let entries = node.entries();
@@ -92,8 +88,7 @@ fn end_in<const N: usize>(
     common_prefix_len: usize,
     from_head: Option<u32>,
 ) -> usize
-    requires searched { IsSearched question.now.from node.now
-        common_prefix_len from_head }
+    requires searched { IsSearched question.now.from node.now common_prefix_len from_head }
     requires to { IsPartitioned (λ e. below_of question.now.to e.key) (entries_of node.now) }
     requires begin { IsLowerBound (below_of question.now.from) node.now begin }
     ensures count { IsLowerBound (below_of question.now.to) node.now result }
@@ -112,14 +107,13 @@ fn answer<const N: usize>(
     question: &Question<'_>,
     look: Look,
 ) -> bool
-    requires asked { IsAsked nodes.now (least_of N) root.height root.slot question.now.from question.now.to }
-    requires approach { IsApproach nodes.now root.height root.slot question.now.from question.now.to question.now.version true
-        look.approach }
-    requires looked { IsLooked nodes.now question.now.from
-        look.approach look.from_head }
+    requires asked { IsAsked nodes.now (least_of N) root.height root.slot question.now.from
+        question.now.to }
+    requires approach { IsApproach nodes.now root.height root.slot question.now.from question.now.to
+        question.now.version true look.approach }
+    requires looked { IsLooked nodes.now question.now.from look.approach look.from_head }
     ensures above { IsTrue result ↔ Exceeds (below_of question.now.from) (below_of question.now.to)
-        question.now.version
-        (items_in nodes.now root.height root.slot) }
+        question.now.version (items_in nodes.now root.height root.slot) }
 {
     let Look {
         approach,
@@ -136,15 +130,11 @@ fn answer<const N: usize>(
 }
 
 // Answers a question by one walk down the tree, by both of its bounds.
-fn exceeds<const N: usize>(
-    nodes: &Arena<Node<N>>,
-    root: Root,
-    question: &Question<'_>,
-) -> bool
-    requires asked { IsAsked nodes.now (least_of N) root.height root.slot question.now.from question.now.to }
+fn exceeds<const N: usize>(nodes: &Arena<Node<N>>, root: Root, question: &Question<'_>) -> bool
+    requires asked { IsAsked nodes.now (least_of N) root.height root.slot question.now.from
+        question.now.to }
     ensures above { IsTrue result ↔ Exceeds (below_of question.now.from) (below_of question.now.to)
-        question.now.version
-        (items_in nodes.now root.height root.slot) }
+        question.now.version (items_in nodes.now root.height root.slot) }
 {
     let Root { slot, height } = root;
     let version = question.version;
@@ -159,9 +149,10 @@ pub fn descend_each<const N: usize>(
     questions: &[Question<'_>],
 ) -> ArrayVec<Approach, SIDE>
     requires few { length questions.now ≤ SIDE }
-    requires asked { All (λ q. IsAsked nodes.now (least_of N) root.now.height root.now.slot q.from q.to) questions.now }
-    ensures approaches { AllZip (λ q approach. IsApproach nodes.now root.now.height root.now.slot q.from q.to q.version true approach) questions.now
-        result.items }
+    requires asked { All (λ q. IsAsked nodes.now (least_of N) root.now.height root.now.slot q.from
+        q.to) questions.now }
+    ensures approaches { AllZip (λ q approach. IsApproach nodes.now root.now.height root.now.slot
+        q.from q.to q.version true approach) questions.now result.items }
 {
     let mut approaches = ArrayVec::new();
     for question in questions {
@@ -177,14 +168,13 @@ pub fn look_at_each<const N: usize>(
     approaches: &[Approach],
 ) -> ArrayVec<Look, SIDE>
     requires few { length questions.now ≤ SIDE }
-    requires leading { AllZip (λ q approach. IsLeading nodes.now q.from approach)
-        questions.now approaches.now }
+    requires leading { AllZip (λ q approach. IsLeading nodes.now q.from approach) questions.now
+        approaches.now }
     requires headed { All (λ q. AllAreHeads (bytes_of q.from) (all_heads_of nodes.now))
         questions.now }
     ensures approaches { map (λ l. l.approach) result.items ≡ approaches.now }
-    ensures looked { AllZip (λ q l. IsLooked nodes.now q.from l.approach
-        l.from_head)
-        questions.now result.items }
+    ensures looked { AllZip (λ q l. IsLooked nodes.now q.from l.approach l.from_head) questions.now
+        result.items }
 {
     let mut looks = ArrayVec::new();
     for (question, approach) in questions.iter().zip(approaches) {
@@ -201,14 +191,14 @@ pub fn answer_each<const N: usize>(
     looks: &[Look],
 ) -> ArrayVec<bool, SIDE>
     requires few { length questions.now ≤ SIDE }
-    requires asked { All (λ q. IsAsked nodes.now (least_of N) root.now.height root.now.slot q.from q.to) questions.now }
-    requires approach { AllZip (λ q l. IsApproach nodes.now root.now.height root.now.slot q.from q.to q.version true l.approach) questions.now
+    requires asked { All (λ q. IsAsked nodes.now (least_of N) root.now.height root.now.slot q.from
+        q.to) questions.now }
+    requires approach { AllZip (λ q l. IsApproach nodes.now root.now.height root.now.slot q.from
+        q.to q.version true l.approach) questions.now looks.now }
+    requires looked { AllZip (λ q l. IsLooked nodes.now q.from l.approach l.from_head) questions.now
         looks.now }
-    requires looked { AllZip (λ q l. IsLooked nodes.now q.from
-        l.approach l.from_head) questions.now looks.now }
-    ensures told { AllZip (λ q above. IsTrue above
-        ↔ Exceeds (below_of q.from) (below_of q.to) q.version
-        (items_in nodes.now root.now.height root.now.slot)) questions.now result.items }
+    ensures told { AllZip (λ q above. IsTrue above ↔ Exceeds (below_of q.from) (below_of q.to)
+        q.version (items_in nodes.now root.now.height root.now.slot)) questions.now result.items }
 {
     let mut answers = ArrayVec::new();
     for (question, look) in questions.iter().zip(looks) {

@@ -53,8 +53,8 @@ pub fn merge_or_redistribute<const N: usize>(
     ensures rebalanced { (height : ℕ)
         → IsFamilyAt nodes.old (least_of N) height slot index (index + 2)
         → IsRebalancedAt nodes.old nodes.new (least_of N) height slot }
-    ensures rest { LosesOneAtMost (key_at keys.now) nodes.old nodes.new
-        (entries_at nodes.old slot) (entries_at nodes.new slot) }
+    ensures rest { LosesOneAtMost (key_at keys.now) nodes.old nodes.new (entries_at nodes.old slot)
+        (entries_at nodes.new slot) }
 {
     let entries = nodes.header_ref(slot).entries();
     let first = entries[index].child;

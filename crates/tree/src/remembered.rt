@@ -6,8 +6,8 @@ ghost use Rattle.std.specs.Prelude.{◌≡◌, MatchOption, IfSome, map};
 ghost use Rattle.tree.specs.Item.{item_of};
 ghost use Rattle.tree.specs.Run.{CanFindRun, CanWriteInLeaf, IsFoundRun, IsWrittenInLeaf};
 
-use crate::key_bound::KeyBound;
 use crate::entry::Entry;
+use crate::key_bound::KeyBound;
 use crate::node::Node;
 use crate::overwrite::Overwrite;
 use crate::rebalance::least;
@@ -28,11 +28,10 @@ pub fn write_in_leaf<const N: usize>(
 ) -> Option<bool>
     requires can_write { CanWriteInLeaf new.now.from new.now.to nodes.old leaf.slot
         taken.old.items }
-    ensures written { MatchOption result ((nodes.new ≡ nodes.old)
-        × (taken.new.items ≡ taken.old.items))
-        (λ ended. (new.now.first.version ≡ leaf.version)
-        × IsWrittenInLeaf new.now.from new.now.to new.now.past (item_of new.now.first) new.now.second new.now.last ended
-        (map item_of taken.new.items) nodes.old nodes.new leaf.slot) }
+    ensures written { MatchOption result ((nodes.new ≡ nodes.old) ×
+        (taken.new.items ≡ taken.old.items)) (λ ended. (new.now.first.version ≡ leaf.version) ×
+        IsWrittenInLeaf new.now.from new.now.to new.now.past (item_of new.now.first) new.now.second
+        new.now.last ended (map item_of taken.new.items) nodes.old nodes.new leaf.slot) }
 {
     if new.first.version != leaf.version {
         return None;
@@ -49,14 +48,10 @@ pub fn write_in_leaf<const N: usize>(
 // Finds the run among the entries of a leaf, if it is sure to stand between two of them, and the
 // leaf keeps enough entries and has room for two more. The key of the entry at `index`, which may
 // be any, tells whether the targets begin as all keys do.
-fn find_run<const N: usize>(
-    leaf: &Node<N>,
-    index: usize,
-    new: &Overwrite<'_>,
-) -> Option<Run>
+fn find_run<const N: usize>(leaf: &Node<N>, index: usize, new: &Overwrite<'_>) -> Option<Run>
     requires can_find { CanFindRun new.now.from new.now.to leaf.now }
-    ensures run { IfSome result (λ run. IsFoundRun new.now.from new.now.to new.now.past new.now.last leaf.now
-        run) }
+    ensures run { IfSome result (λ run. IsFoundRun new.now.from new.now.to new.now.past new.now.last
+        leaf.now run) }
 {
     let prefix_len = leaf.prefix_len();
     let end_head = new.to.head(prefix_len);

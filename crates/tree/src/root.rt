@@ -15,10 +15,10 @@ ghost use Rattle.tree.specs.KeyBound.{below_of, bytes_of};
 ghost use Rattle.tree.specs.Tree.{least_of, IsLast};
 ghost use Rattle.tree.specs.Walk.{CanChangeBy, IsChangedWithin, IsNewTree, IsRaisedInTree};
 
-use crate::key_bound::KeyBound;
 use crate::children::place;
 use crate::descent::{Reached, common_prefix_len_at, find};
 use crate::entry::{Entry, key_at};
+use crate::key_bound::KeyBound;
 use crate::node::Node;
 use crate::overwrite::{Overwrite, Overwriting, Written};
 use crate::rebalance::entry_for;
@@ -40,8 +40,7 @@ pub struct Root {
 fn reach<const N: usize>(nodes: &Arena<Node<N>>, root: Root, bound: &KeyBound<'_>) -> Reached
     requires can_reach { CanReach (bytes_of bound.now) (below_of bound.now) nodes.now (least_of N)
         root.height root.slot }
-    ensures reached { IsReached bound.now
-        nodes.now root.height root.slot result }
+    ensures reached { IsReached bound.now nodes.now root.height root.slot result }
 {
     let common_prefix_len = common_prefix_len_at(nodes, root.slot, bound);
     find(
@@ -62,12 +61,12 @@ pub fn last_and_next<const N: usize>(
 ) -> (Option<Entry>, Option<Slot>)
     requires can_reach { CanReach (bytes_of bound.now) (below_of bound.now) nodes.now (least_of N)
         root.height root.slot }
-    ensures last { MatchOption result.0
-        (items_below (below_of bound.now) (items_in nodes.now root.height root.slot) ≡ [])
+    ensures last { MatchOption result.0 (items_below (below_of bound.now)
+        (items_in nodes.now root.height root.slot) ≡ [])
         (λ e. IsLast (item_of e) (items_below (below_of bound.now)
         (items_in nodes.now root.height root.slot))) }
-    ensures next { result.1 ≡ first_key None
-        (behind (below_of bound.now) (items_in nodes.now root.height root.slot)) }
+    ensures next { result.1 ≡ first_key None (behind (below_of bound.now)
+        (items_in nodes.now root.height root.slot)) }
 {
     let reached = reach(nodes, root, bound);
     let leaf = nodes.header_ref(reached.leaf);
@@ -90,15 +89,14 @@ pub fn change<C: LeafChange<N>, const N: usize>(
     way: &mut Way,
 ) -> Option<RaisedLeaf>
     requires can_change { CanChangeBy (bytes_of (C.bound_of change.old))
-        (below_of (C.bound_of change.old))
-        (C.wants change.old) nodes.old root.old.slot root.old.height taken.old.items }
+        (below_of (C.bound_of change.old)) (C.wants change.old) nodes.old root.old.slot
+        root.old.height taken.old.items }
     ensures items { IsChangedWithin (below_of (C.bound_of change.old))
-        (C.gives change.old change.new (map item_of taken.new.items))
-        true None
+        (C.gives change.old change.new (map item_of taken.new.items)) true None
         (items_in nodes.old root.old.height root.old.slot)
         (items_in nodes.new root.new.height root.new.slot) }
-    ensures tree { IsNewTree (bytes_of (C.bound_of change.old)) nodes.old nodes.new
-        root.new.slot root.new.height result }
+    ensures tree { IsNewTree (bytes_of (C.bound_of change.old)) nodes.old nodes.new root.new.slot
+        root.new.height result }
 {
     let place = Place {
         common_prefix_len: common_prefix_len_at(nodes, root.slot, change.leaf_bound()),
@@ -130,16 +128,16 @@ pub fn overwrite<const N: usize>(
     way: &mut Way,
 ) -> Written
     requires can_change { CanChangeBy (bytes_of new.now.to) (below_of new.now.to)
-        (IsPartOfPartitioned (below_of new.now.from))
-        nodes.old root.old.slot root.old.height taken.old.items }
+        (IsPartOfPartitioned (below_of new.now.from)) nodes.old root.old.slot root.old.height
+        taken.old.items }
     requires raised { IsRaisedInTree nodes.old root.old.slot root.old.height raised.old }
     ensures items { IsChangedWithin (below_of new.now.to)
-        (GivesWritten (below_of new.now.from) (below_of new.now.to)
-        (below_of new.now.past) (item_of new.now.first) new.now.second new.now.last result (map item_of taken.new.items)) true None
-        (items_in nodes.old root.old.height root.old.slot)
+        (GivesWritten (below_of new.now.from) (below_of new.now.to) (below_of new.now.past)
+        (item_of new.now.first) new.now.second new.now.last result (map item_of taken.new.items))
+        true None (items_in nodes.old root.old.height root.old.slot)
         (items_in nodes.new root.new.height root.new.slot) }
-    ensures tree { IsNewTree (bytes_of new.now.to) nodes.old nodes.new root.new.slot
-        root.new.height raised.new }
+    ensures tree { IsNewTree (bytes_of new.now.to) nodes.old nodes.new root.new.slot root.new.height
+        raised.new }
 {
     if let Some(leaf) = *raised {
         if let Some(ended) = write_in_leaf(nodes, leaf, new, taken) {
@@ -164,8 +162,7 @@ fn grow<const N: usize>(
     requires can_grow { CanGrow (key_at keys.now) nodes.old root.height root.slot added }
     ensures items { items_in nodes.new result.height result.slot
         ≡ items_with nodes.old root.height root.slot (Some added) }
-    ensures tree { IsNewTree (key_at keys.now) nodes.old nodes.new result.slot result.height
-        None }
+    ensures tree { IsNewTree (key_at keys.now) nodes.old nodes.new result.slot result.height None }
 {
     let mut node = Node::of(entry_for(nodes, root.slot));
     node.splice(1, 1, &[entry_for(nodes, added)], None);

@@ -10,9 +10,9 @@ ghost use Rattle.tree.specs.Run.{CanWriteRun};
 ghost use Rattle.tree.specs.Subtree.{entries_at};
 ghost use Rattle.tree.specs.Tree.{ended_by};
 
-use crate::key_bound::KeyBound;
 use crate::children::split;
 use crate::entry::Entry;
+use crate::key_bound::KeyBound;
 use crate::node::{Node, both, heads_for};
 use crate::overwrite::Overwrite;
 use crate::tree::item;
@@ -55,8 +55,7 @@ pub fn write_run<const N: usize>(
     run: Run,
     last: i64,
 ) -> Option<Slot>
-    requires can_write { CanWriteRun new.now.from new.now.to nodes.old
-        slot run }
+    requires can_write { CanWriteRun new.now.from new.now.to nodes.old slot run }
     ensures written { items_with nodes.new 0 slot result
         ≡ map item_of (take run.begin (entries_at nodes.old slot))
         ++ (item_of new.now.first ∷ ended_by run.ended

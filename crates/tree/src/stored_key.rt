@@ -20,26 +20,25 @@ pub fn key_bytes(keys: &Arena<()>, slot: Slot) -> &[u8]
 
 /// Returns the head of a key: the four bytes after the first `prefix_len`, as a number.
 pub fn head_of(keys: &Arena<()>, slot: Slot, prefix_len: usize) -> u32
-    ensures head { (text : List ℕ) → key_at keys.now slot ≡ Some text
-        → result ≡ head_behind prefix_len text }
+    ensures head { (text : List ℕ) → key_at keys.now slot ≡ Some text → result ≡ head_behind
+        prefix_len text }
 {
     first_four(eight_behind(key_bytes(keys, slot), prefix_len))
 }
 
 /// Returns whether a key is empty.
 pub fn is_empty(keys: &Arena<()>, slot: Slot) -> bool
-    ensures empty { (text : List ℕ) → key_at keys.now slot ≡ Some text → IsTrue result
-        ↔ (text ≡ []) }
+    ensures empty { (text : List ℕ) → key_at keys.now slot ≡ Some text → IsTrue result ↔ (text ≡
+        []) }
 {
     key_bytes(keys, slot).is_empty()
 }
 
 /// Returns how many bytes two keys begin with in common.
 pub fn common_prefix_len(keys: &Arena<()>, one: Slot, other: Slot) -> usize
-    ensures same { (a b : List ℕ) → key_at keys.now one ≡ Some a → key_at keys.now other ≡ Some b
-        → take result a ≡ take result b }
-    ensures within { (a b : List ℕ) → key_at keys.now one ≡ Some a
-        → key_at keys.now other ≡ Some b
+    ensures same { (a b : List ℕ) → key_at keys.now one ≡ Some a → key_at keys.now other ≡ Some b →
+        take result a ≡ take result b }
+    ensures within { (a b : List ℕ) → key_at keys.now one ≡ Some a → key_at keys.now other ≡ Some b
         → (result ≤ length a) × (result ≤ length b) }
 {
     same_bytes_of(key_bytes(keys, one), key_bytes(keys, other))

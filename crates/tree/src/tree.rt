@@ -13,10 +13,10 @@ ghost use Rattle.tree.specs.Question.{Exceeds};
 ghost use Rattle.tree.specs.declared.question.TheConstants.{SIDE};
 ghost use Rattle.tree.specs.Tree.{CanSearchItems, IsLast, tree_heads, KnowItems};
 
-use crate::key_bound::KeyBound;
 use crate::entry::Entry;
 use crate::expiring::{Expiring, Removal};
 use crate::greatest_version::greatest;
+use crate::key_bound::KeyBound;
 use crate::node::Node;
 use crate::overwrite::{Overwrite, Written};
 use crate::question::{Question, SIDE};
@@ -147,19 +147,15 @@ impl<const N: usize> Tree<N> {
     /// Returns for each question, in their order, whether a version of the items before its second
     /// bound, of those before its first one the last alone, is above its own. There are at most
     /// [`SIDE`], and they are answered side by side. It takes no memory.
-    pub fn exceeds_each(
-        &self,
-        questions: &[Question<'_>],
-    ) -> ArrayVec<bool, SIDE>
+    pub fn exceeds_each(&self, questions: &[Question<'_>]) -> ArrayVec<bool, SIDE>
         requires few { length questions.now ≤ SIDE }
         requires from { All (λ q. CanSearchItems (below_of q.from) (bytes_of q.from) self.now)
             questions.now }
         requires to { All (λ q. IsPartitioned (λ x. below_of q.to x.key) self.now.items)
             questions.now }
         requires some { All (λ q. items_below (below_of q.from) self.now.items ≢ []) questions.now }
-        ensures told { AllZip (λ q above. IsTrue above
-            ↔ Exceeds (below_of q.from) (below_of q.to) q.version self.now.items)
-            questions.now result.items }
+        ensures told { AllZip (λ q above. IsTrue above ↔ Exceeds (below_of q.from) (below_of q.to)
+            q.version self.now.items) questions.now result.items }
     {
         let approaches = descend_each(&self.nodes, &self.root, questions);
         let looks = look_at_each(&self.nodes, questions, approaches.as_slice());
@@ -185,16 +181,12 @@ impl<const N: usize> Tree<N> {
     /// between that bound and a third one. If more than one leaf has those items and the one before
     /// them, it only takes out those that the last of these leaves has. Puts the entries that are
     /// taken out into `taken`.
-    pub fn overwrite(
-        &mut self,
-        new: &Overwrite<'_>,
-        taken: &mut ArrayVec<Entry, N>,
-    ) -> Written
-        requires can_overwrite { CanOverwrite new.now.from new.now.to new.now.past self.old taken.old.items }
+    pub fn overwrite(&mut self, new: &Overwrite<'_>, taken: &mut ArrayVec<Entry, N>) -> Written
+        requires can_overwrite { CanOverwrite new.now.from new.now.to new.now.past self.old
+            taken.old.items }
         ensures items { Overwrites (below_of new.now.from) (below_of new.now.to)
-            (below_of new.now.past)
-            (item_of new.now.first) new.now.second new.now.last result (map item_of taken.new.items)
-            self.old.items self.new.items }
+            (below_of new.now.past) (item_of new.now.first) new.now.second new.now.last result
+            (map item_of taken.new.items) self.old.items self.new.items }
         ensures room { self.new.room ≡ self.old.room }
         ensures headed { AllAreHeads (bytes_of new.now.to) (tree_heads self.new) }
         ensures known { KnowItems self.new }
@@ -222,12 +214,10 @@ impl<const N: usize> Tree<N> {
         before: i64,
         taken: &mut ArrayVec<Entry, N>,
     ) -> Removal
-        requires can_remove { CanRemoveExpired bound.now count edge
-            before self.old
+        requires can_remove { CanRemoveExpired bound.now count edge before self.old
             taken.old.items }
         ensures removal { RemovesExpired (below_of bound.now) count edge before result
-            (map item_of taken.new.items) None
-            self.old.items self.new.items }
+            (map item_of taken.new.items) None self.old.items self.new.items }
         ensures room { self.new.room ≡ self.old.room }
         ensures headed { AllAreHeads (bytes_of bound.now) (tree_heads self.new) }
         ensures known { KnowItems self.new }

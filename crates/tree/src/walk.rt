@@ -9,9 +9,9 @@ ghost use Rattle.tree.specs.Subtree.{items_in};
 ghost use Rattle.tree.specs.declared.key_bound.KeyBound.{KeyBound};
 ghost use Rattle.tree.specs.Walk.{added_by, CanChangeLeaf, IsChanged, IsChangedWithin};
 
-use crate::key_bound::KeyBound;
 use crate::children::settle;
 use crate::entry::{Entry, key_at};
+use crate::key_bound::KeyBound;
 use crate::node::Node;
 use crate::way::Way;
 use arena::{Arena, Slot};
@@ -94,10 +94,10 @@ pub trait LeafChange<const N: usize> {
         place: Place,
         taken: &mut ArrayVec<Entry, N>,
     ) -> Outcome
-        requires can_change { CanChangeLeaf (bound_of self.old) (wants self.old) nodes.old 0 slot place.common_prefix_len
-            taken.old.items }
-        ensures changed { IsChanged (bytes_of (bound_of self.old)) nodes.old nodes.new 0
-            slot result }
+        requires can_change { CanChangeLeaf (bound_of self.old) (wants self.old) nodes.old 0 slot
+            place.common_prefix_len taken.old.items }
+        ensures changed { IsChanged (bytes_of (bound_of self.old)) nodes.old nodes.new 0 slot
+            result }
         ensures items { gives self.old self.new (map item_of taken.new.items) place.is_first
             place.behind (items_in nodes.old 0 slot)
             (items_with nodes.new 0 slot (added_by result)) }
@@ -121,13 +121,13 @@ pub fn change_leaf<C: LeafChange<N>, const N: usize>(
     taken: &mut ArrayVec<Entry, N>,
     way: &mut Way,
 ) -> Outcome
-    requires can_change { CanChangeLeaf (C.bound_of change.old) (C.wants change.old) nodes.old height slot place.common_prefix_len
-        taken.old.items }
-    ensures changed { IsChanged (bytes_of (C.bound_of change.old)) nodes.old nodes.new
-        height slot result }
+    requires can_change { CanChangeLeaf (C.bound_of change.old) (C.wants change.old) nodes.old
+        height slot place.common_prefix_len taken.old.items }
+    ensures changed { IsChanged (bytes_of (C.bound_of change.old)) nodes.old nodes.new height slot
+        result }
     ensures items { IsChangedWithin (below_of (C.bound_of change.old))
-        (C.gives change.old change.new (map item_of taken.new.items))
-        place.is_first place.behind (items_in nodes.old height slot) (items_with nodes.new height slot (added_by result)) }
+        (C.gives change.old change.new (map item_of taken.new.items)) place.is_first place.behind
+        (items_in nodes.old height slot) (items_with nodes.new height slot (added_by result)) }
     ensures leaf_bound { C.bound_of change.new ≡ C.bound_of change.old }
 {
     if height == 0 {

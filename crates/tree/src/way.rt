@@ -3,8 +3,8 @@
 ghost use Rattle.tree.specs.Finding.{CanStep, IsStep};
 ghost use Rattle.tree.specs.KeyBound.{below_of, bytes_of, target_of};
 
-use crate::key_bound::KeyBound;
 use crate::entry::Entry;
+use crate::key_bound::KeyBound;
 use crate::node::{Node, Step};
 use arena::Arena;
 
@@ -45,8 +45,8 @@ impl Way {
     ) -> Step
         requires can_step { CanStep (bytes_of bound.now) (below_of bound.now) (target_of bound.now)
             node.now common_prefix_len }
-        ensures step { IsStep (bytes_of bound.now) (below_of bound.now) (target_of bound.now) node.now
-            result }
+        ensures step { IsStep (bytes_of bound.now) (below_of bound.now) (target_of bound.now)
+            node.now result }
     {
         if height < 2 || height >= HEIGHTS {
             return node.step(bound, common_prefix_len);

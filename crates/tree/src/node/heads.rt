@@ -52,8 +52,8 @@ impl<const N: usize> Node<N> {
     // fits. If the first key is empty it is one byte less, or 0.
     fn beginning(&self, keys: &Arena<()>) -> u16
         requires known { All (IsKnown (key_at keys.now)) (keys_of (entries_of self.now)) }
-        ensures begin { (beginning : List ℕ) × (length beginning ≡ result)
-            × All (Begins (key_at keys.now) beginning) (keys_of (entries_of self.now)) }
+        ensures begin { (beginning : List ℕ) × (length beginning ≡ result) × All
+            (Begins (key_at keys.now) beginning) (keys_of (entries_of self.now)) }
     {
         let entries = self.entries();
         let (Some(first), Some(last)) = (entries.first(), entries.last()) else {
@@ -204,8 +204,7 @@ impl<const N: usize> Node<N> {
         requires headed { AreHeads (key_at keys.now) (key_heads_of self.now) }
         requires within { index < length (entries_of self.now) }
         requires known { IsKnown (key_at keys.now) key }
-        ensures head { IfSome result (IsHeadBeside (key_at keys.now) (key_heads_of self.now)
-            key) }
+        ensures head { IfSome result (IsHeadBeside (key_at keys.now) (key_heads_of self.now) key) }
     {
         if self.entries[index].key == key {
             return Some(self.heads[index]);
@@ -219,8 +218,8 @@ impl<const N: usize> Node<N> {
     // Returns whether a key begins as all keys do; false if there is no key.
     fn begins(&self, key: Slot, keys: &Arena<()>) -> bool
         requires headed { AreHeads (key_at keys.now) (key_heads_of self.now) }
-        ensures has_prefix { IsTrue result → (text : List ℕ) → key_at keys.now key ≡ Some text
-            → HasPrefix (key_at keys.now) (key_heads_of self.now) text }
+        ensures has_prefix { IsTrue result → (text : List ℕ) → key_at keys.now key ≡ Some text →
+            HasPrefix (key_at keys.now) (key_heads_of self.now) text }
     {
         match self.entries().last() {
             Some(last) => common_prefix_len(keys, last.key, key) >= self.prefix_len(),
@@ -285,8 +284,8 @@ fn keys_prefix_len(entries: &[Entry], key: Slot, keys: &Arena<()>) -> u16
     requires known { All (IsKnown (key_at keys.now)) (keys_of entries.now) }
     requires there { Contains (keys_of entries.now) key }
     requires filled { (text : List ℕ) → key_at keys.now key ≡ Some text → text ≢ [] }
-    ensures begin { (text : List ℕ) → key_at keys.now key ≡ Some text → (result ≤ length text)
-        × All (Begins (key_at keys.now) (take result text)) (keys_of entries.now) }
+    ensures begin { (text : List ℕ) → key_at keys.now key ≡ Some text → (result ≤ length text) × All
+        (Begins (key_at keys.now) (take result text)) (keys_of entries.now) }
 {
     let mut count = usize::from(u16::MAX);
     for entry in entries {

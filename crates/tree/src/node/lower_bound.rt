@@ -11,8 +11,8 @@ ghost use Rattle.tree.specs.Path.{IsPartitioned};
 ghost use Rattle.tree.specs.declared.node.TheConstants.{PADDING};
 
 use super::Node;
-use crate::key_bound::KeyBound;
 use crate::entry::Entry;
+use crate::key_bound::KeyBound;
 
 // How many heads a search looks at side by side.
 const BLOCK: usize = 8;
@@ -41,9 +41,7 @@ impl<const N: usize> Node<N> {
         common_prefix_len: Option<usize>,
         head: Option<u32>,
     ) -> usize
-        requires can_step { CanStepBy bound.now
-            self.now
-            common_prefix_len head }
+        requires can_step { CanStepBy bound.now self.now common_prefix_len head }
         ensures count { IsLowerBound (below_of bound.now) self.now result }
     {
         match common_prefix_len {
@@ -57,11 +55,10 @@ impl<const N: usize> Node<N> {
     #[inline(always)]
     pub fn lower_bound_by_head(&self, bound: &KeyBound<'_>, head: Option<u32>) -> usize
         requires can_find { CanFind (bytes_of bound.now) (below_of bound.now) self.now }
-        requires head { HasHead bound.now head
-            (key_heads_of self.now) }
-        requires none { head ≡ None → get_or (key_heads_of self.now).heads 0 0 ≢ 0
-            → length (filter (λ e. below_of bound.now e.key) (entries_of self.now))
-            ≡ length (entries_of self.now) }
+        requires head { HasHead bound.now head (key_heads_of self.now) }
+        requires none { head ≡ None → get_or (key_heads_of self.now).heads 0 0 ≢ 0 → length
+            (filter (λ e. below_of bound.now e.key) (entries_of self.now)) ≡ length
+            (entries_of self.now) }
         ensures count { IsLowerBound (below_of bound.now) self.now result }
     {
         let Some(head) = head else {
@@ -75,9 +72,9 @@ impl<const N: usize> Node<N> {
     // doesn't begin as all keys do.
     fn lower_bound_by_keys(&self, bound: &KeyBound<'_>) -> usize
         requires can_find { CanFind (bytes_of bound.now) (below_of bound.now) self.now }
-        requires all { get_or (key_heads_of self.now).heads 0 0 ≢ 0
-            → length (filter (λ e. below_of bound.now e.key) (entries_of self.now))
-            ≡ length (entries_of self.now) }
+        requires all { get_or (key_heads_of self.now).heads 0 0 ≢ 0 → length
+            (filter (λ e. below_of bound.now e.key) (entries_of self.now)) ≡ length
+            (entries_of self.now) }
         ensures count { IsLowerBound (below_of bound.now) self.now result }
     {
         if self.heads[0] == 0 {
@@ -93,12 +90,10 @@ impl<const N: usize> Node<N> {
     pub fn head_for(&self, bound: &KeyBound<'_>, common_prefix_len: usize) -> Option<u32>
         requires headed { AreHeads (bytes_of bound.now) (key_heads_of self.now) }
         requires some { 0 < length (entries_of self.now) }
-        requires common_prefix_len { (e : Entry) (text : List ℕ)
-            → slice_get (entries_of self.now) 0 ≡ Some e
-            → bytes_of bound.now e.key ≡ Some text
-            → HaveCommonPrefix common_prefix_len text (target_of bound.now) }
-        ensures head { IsHeadFor bound.now common_prefix_len result
-            (key_heads_of self.now) }
+        requires common_prefix_len { (e : Entry) (text : List ℕ) → slice_get (entries_of self.now) 0
+            ≡ Some e → bytes_of bound.now e.key ≡ Some text → HaveCommonPrefix common_prefix_len
+            text (target_of bound.now) }
+        ensures head { IsHeadFor bound.now common_prefix_len result (key_heads_of self.now) }
     {
         let has_prefix = if self.heads[0] == 0 && self.prefix_len > 0 {
             self.has_prefix_of(self.len() - 1, bound)
@@ -122,14 +117,12 @@ impl<const N: usize> Node<N> {
     ) -> Option<u32>
         requires headed { AreHeads (bytes_of bound.now) (key_heads_of self.now) }
         requires some { 0 < length (entries_of self.now) }
-        requires has_prefix { IsTrue has_prefix
-            → HasPrefix (bytes_of bound.now) (key_heads_of self.now) (target_of bound.now) }
-        requires common_prefix_len { (e : Entry) (text : List ℕ)
-            → slice_get (entries_of self.now) 0 ≡ Some e
-            → bytes_of bound.now e.key ≡ Some text
-            → HaveCommonPrefix common_prefix_len text (target_of bound.now) }
-        ensures head { HasHead bound.now result
-            (key_heads_of self.now) }
+        requires has_prefix { IsTrue has_prefix → HasPrefix (bytes_of bound.now)
+            (key_heads_of self.now) (target_of bound.now) }
+        requires common_prefix_len { (e : Entry) (text : List ℕ) → slice_get (entries_of self.now) 0
+            ≡ Some e → bytes_of bound.now e.key ≡ Some text → HaveCommonPrefix common_prefix_len
+            text (target_of bound.now) }
+        ensures head { HasHead bound.now result (key_heads_of self.now) }
     {
         if has_prefix {
             return Some(bound.head(self.prefix_len()));
@@ -141,8 +134,8 @@ impl<const N: usize> Node<N> {
     /// false where that key may be empty, and is where there is none.
     pub fn has_prefix_of(&self, index: usize, bound: &KeyBound<'_>) -> bool
         requires headed { AreHeads (bytes_of bound.now) (key_heads_of self.now) }
-        ensures has_prefix { IsTrue result
-            → HasPrefix (bytes_of bound.now) (key_heads_of self.now) (target_of bound.now) }
+        ensures has_prefix { IsTrue result → HasPrefix (bytes_of bound.now) (key_heads_of self.now)
+            (target_of bound.now) }
     {
         if index >= self.len() || self.heads[index] == 0 {
             return false;
@@ -163,10 +156,9 @@ impl<const N: usize> Node<N> {
     pub fn is_below_at(&self, index: usize, bound: &KeyBound<'_>, head: Option<u32>) -> bool
         requires headed { AreHeads (bytes_of bound.now) (key_heads_of self.now) }
         requires within { index < length (entries_of self.now) }
-        requires head { HasHead bound.now head
-            (key_heads_of self.now) }
-        ensures is_below { (e : Entry) → slice_get (entries_of self.now) index ≡ Some e
-            → result ≡ below_of bound.now e.key }
+        requires head { HasHead bound.now head (key_heads_of self.now) }
+        ensures is_below { (e : Entry) → slice_get (entries_of self.now) index ≡ Some e → result ≡
+            below_of bound.now e.key }
     {
         let own = self.heads[index];
         match head {
@@ -180,10 +172,9 @@ impl<const N: usize> Node<N> {
     #[inline(always)]
     pub fn lower_bound_from(&self, from: usize, bound: &KeyBound<'_>, head: Option<u32>) -> usize
         requires can_find { CanFind (bytes_of bound.now) (below_of bound.now) self.now }
-        requires head { HasHead bound.now head
-            (key_heads_of self.now) }
-        requires least { from ≤ length
-            (filter (λ e. below_of bound.now e.key) (entries_of self.now)) }
+        requires head { HasHead bound.now head (key_heads_of self.now) }
+        requires least { from ≤ length (filter (λ e. below_of bound.now e.key)
+            (entries_of self.now)) }
         ensures count { IsLowerBound (below_of bound.now) self.now result }
     {
         let (from, to) = match head {
@@ -220,8 +211,7 @@ impl<const N: usize> Node<N> {
     #[inline(always)]
     pub fn lower_bound_back(&self, to: usize, bound: &KeyBound<'_>, head: Option<u32>) -> usize
         requires can_find { CanFind (bytes_of bound.now) (below_of bound.now) self.now }
-        requires head { HasHead bound.now head
-            (key_heads_of self.now) }
+        requires head { HasHead bound.now head (key_heads_of self.now) }
         requires within { to ≤ length (entries_of self.now) }
         requires most { length (filter (λ e. below_of bound.now e.key) (entries_of self.now)) ≤ to }
         ensures count { IsLowerBound (below_of bound.now) self.now result }

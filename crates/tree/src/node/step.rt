@@ -10,8 +10,8 @@ ghost use Rattle.tree.specs.Node.{entries_of, key_heads_of};
 
 use super::Node;
 use super::heads::same_head_bytes;
-use crate::key_bound::KeyBound;
 use crate::entry::Entry;
+use crate::key_bound::KeyBound;
 
 /// The step of a search down from a node.
 #[derive(Clone, Copy, Debug)]
@@ -51,8 +51,8 @@ impl<const N: usize> Node<N> {
     pub fn step(&self, bound: &KeyBound<'_>, common_prefix_len: Option<usize>) -> Step
         requires can_step { CanStep (bytes_of bound.now) (below_of bound.now) (target_of bound.now)
             self.now common_prefix_len }
-        ensures step { IsStep (bytes_of bound.now) (below_of bound.now) (target_of bound.now) self.now
-            result }
+        ensures step { IsStep (bytes_of bound.now) (below_of bound.now) (target_of bound.now)
+            self.now result }
     {
         let Some(common_prefix_len) = common_prefix_len else {
             return Step {
@@ -78,8 +78,8 @@ impl<const N: usize> Node<N> {
     ) -> Step
         requires can_step { CanStep (bytes_of bound.now) (below_of bound.now) (target_of bound.now)
             self.now common_prefix_len }
-        ensures step { IsStep (bytes_of bound.now) (below_of bound.now) (target_of bound.now) self.now
-            result }
+        ensures step { IsStep (bytes_of bound.now) (below_of bound.now) (target_of bound.now)
+            self.now result }
     {
         let Some(common_prefix_len) = common_prefix_len else {
             return Step {
@@ -121,11 +121,9 @@ impl<const N: usize> Node<N> {
     /// returns for it.
     #[inline(always)]
     pub fn step_by(&self, bound: &KeyBound<'_>, common_prefix_len: usize, head: Option<u32>) -> Step
-        requires can_step { CanStepBy bound.now
-            self.now
-            (Some common_prefix_len) head }
-        ensures step { IsStep (bytes_of bound.now) (below_of bound.now) (target_of bound.now) self.now
-            result }
+        requires can_step { CanStepBy bound.now self.now (Some common_prefix_len) head }
+        ensures step { IsStep (bytes_of bound.now) (below_of bound.now) (target_of bound.now)
+            self.now result }
     {
         let index = self.lower_bound_by_head(bound, head).saturating_sub(1);
         let common_prefix_len = self.common_prefix_len_in(index, bound, common_prefix_len, head);
@@ -149,15 +147,12 @@ impl<const N: usize> Node<N> {
         requires headed { AreHeads (bytes_of bound.now) (key_heads_of self.now) }
         requires within { index < length (entries_of self.now) }
         requires known { IsCommonPrefixAt (bytes_of bound.now) (below_of bound.now)
-            (target_of bound.now) (Some common_prefix_len)
-            (entries_of self.now) 0 }
-        requires is_below { (e : Entry) → slice_get (entries_of self.now) index ≡ Some e
-            → IsTrue (below_of bound.now e.key) }
-        requires head { IsHeadFor bound.now common_prefix_len head
-            (key_heads_of self.now) }
+            (target_of bound.now) (Some common_prefix_len) (entries_of self.now) 0 }
+        requires is_below { (e : Entry) → slice_get (entries_of self.now) index ≡ Some e → IsTrue
+            (below_of bound.now e.key) }
+        requires head { IsHeadFor bound.now common_prefix_len head (key_heads_of self.now) }
         ensures known { IsCommonPrefixAt (bytes_of bound.now) (below_of bound.now)
-            (target_of bound.now) (Some result)
-            (entries_of self.now) index }
+            (target_of bound.now) (Some result) (entries_of self.now) index }
     {
         if index == 0 {
             return common_prefix_len;

@@ -76,9 +76,9 @@ module _ (g : given.Over) (c : After-redistribute g) where
       let size = length-map (entries_of c.redistribute.new.self) (λ (e : Entry). e.key) in
       let count = c.redistribute.ensures.heads.count ∙ sym size in
       where_given c.args.heads (λ h. h.now) _ _ some can.beside both.given (λ h beside put.
-          let headed = headed_spliced bytes node can.headed all (keys_of c.args.new.now) h.now c.args.from c.args.to
-          can.known beside keys refl put.heads_are in
-          headed_apart bytes all left right headed refl refl count put.prefix_len put.right_prefix_len)
+      let headed = headed_spliced bytes node can.headed all (keys_of c.args.new.now) h.now c.args.from c.args.to
+      can.known beside keys refl put.heads_are in
+      headed_apart bytes all left right headed refl refl count put.prefix_len put.right_prefix_len)
 
   -- all keys are known
   known : All (IsKnown bytes) left.keys × All (IsKnown bytes) right.keys
