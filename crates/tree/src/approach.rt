@@ -122,8 +122,8 @@ fn is_clear<const N: usize>(
     requires searched { IsSearched question.now.from node.now common_prefix_len from_head }
     requires within { index < length (entries_of node.now) }
     requires last_below { index ≡ index_in (below_of question.now.from) (entries_of node.now) }
-    ensures next { IsTrue result → (e : Entry) → slice_get (entries_of node.now) (index + 1) ≡ Some
-        e → below_of question.now.to e.key ≡ false }
+    ensures next { IsTrue result → (e : Entry) → slice_get (entries_of node.now) (index + 1)
+        ≡ Some e → below_of question.now.to e.key ≡ false }
     ensures last { IsTrue result → length (entries_of node.now) ≤ index + 1 → IsTrue clear }
 {
     let next = index + 1;

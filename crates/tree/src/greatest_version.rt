@@ -33,8 +33,8 @@ pub fn greatest<const N: usize>(
         (least_of N) height slot) }
     requires to { IfSome to (λ q. CanReach (bytes_of q.now) (below_of q.now) nodes.now (least_of N)
         height slot) }
-    requires nested { IfSome from (λ p. IfSome to (λ q. (key : ℕ) → below_of p.now key ≡ true →
-        below_of q.now key ≡ true)) }
+    requires nested { IfSome from (λ p. IfSome to (λ q. (key : ℕ) → below_of p.now key ≡ true
+        → below_of q.now key ≡ true)) }
     ensures greatest { IsGreatestWith least (from_last
         (below_from (option_map (λ p. below_of p.now) from.entry))
         (option_map (λ q. below_of q.now) to.entry) (items_in nodes.now height slot)) result }

@@ -56,8 +56,8 @@ impl<'a> KeyBound<'a> {
     /// Returns whether the target and a key agree on the first `count` bytes.
     #[inline(always)]
     pub fn begins_as(&self, slot: Slot, count: usize) -> bool
-        ensures same { (text : List ℕ) → bytes_of self.now slot ≡ Some text → IsTrue result ↔
-            (take count text ≡ take count (target_of self.now)) }
+        ensures same { (text : List ℕ) → bytes_of self.now slot ≡ Some text → IsTrue result
+            ↔ (take count text ≡ take count (target_of self.now)) }
     {
         first(key_bytes(self.keys, slot), count) == first(self.key, count)
     }

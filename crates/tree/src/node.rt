@@ -149,8 +149,8 @@ impl<const N: usize> Node<N> {
         ensures entries { entries_of self.new
             ≡ take from (entries_of self.old) ++ (new.now ++ drop to (entries_of self.old)) }
         ensures heads { IfSome heads.entry (λ h. HasHeads self.old self.new
-            (take from (key_heads_of self.old).heads ++
-            (h.now ++ drop to (key_heads_of self.old).heads))) }
+            (take from (key_heads_of self.old).heads
+            ++ (h.now ++ drop to (key_heads_of self.old).heads))) }
     {
         let end = from + new.len();
         self.move_tail(to, end);

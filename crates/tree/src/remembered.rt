@@ -28,10 +28,11 @@ pub fn write_in_leaf<const N: usize>(
 ) -> Option<bool>
     requires can_write { CanWriteInLeaf new.now.from new.now.to nodes.old leaf.slot
         taken.old.items }
-    ensures written { MatchOption result ((nodes.new ≡ nodes.old) ×
-        (taken.new.items ≡ taken.old.items)) (λ ended. (new.now.first.version ≡ leaf.version) ×
-        IsWrittenInLeaf new.now.from new.now.to new.now.past (item_of new.now.first) new.now.second
-        new.now.last ended (map item_of taken.new.items) nodes.old nodes.new leaf.slot) }
+    ensures written { MatchOption result ((nodes.new ≡ nodes.old)
+        × (taken.new.items ≡ taken.old.items)) (λ ended. (new.now.first.version ≡ leaf.version)
+        × IsWrittenInLeaf new.now.from new.now.to new.now.past (item_of new.now.first)
+        new.now.second new.now.last ended (map item_of taken.new.items) nodes.old nodes.new
+        leaf.slot) }
 {
     if new.first.version != leaf.version {
         return None;

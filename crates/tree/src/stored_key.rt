@@ -36,8 +36,8 @@ pub fn is_empty(keys: &Arena<()>, slot: Slot) -> bool
 
 /// Returns how many bytes two keys begin with in common.
 pub fn common_prefix_len(keys: &Arena<()>, one: Slot, other: Slot) -> usize
-    ensures same { (a b : List ℕ) → key_at keys.now one ≡ Some a → key_at keys.now other ≡ Some b →
-        take result a ≡ take result b }
+    ensures same { (a b : List ℕ) → key_at keys.now one ≡ Some a → key_at keys.now other ≡ Some b
+        → take result a ≡ take result b }
     ensures within { (a b : List ℕ) → key_at keys.now one ≡ Some a → key_at keys.now other ≡ Some b
         → (result ≤ length a) × (result ≤ length b) }
 {

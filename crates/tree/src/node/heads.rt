@@ -218,8 +218,8 @@ impl<const N: usize> Node<N> {
     // Returns whether a key begins as all keys do; false if there is no key.
     fn begins(&self, key: Slot, keys: &Arena<()>) -> bool
         requires headed { AreHeads (key_at keys.now) (key_heads_of self.now) }
-        ensures has_prefix { IsTrue result → (text : List ℕ) → key_at keys.now key ≡ Some text →
-            HasPrefix (key_at keys.now) (key_heads_of self.now) text }
+        ensures has_prefix { IsTrue result → (text : List ℕ) → key_at keys.now key ≡ Some text
+            → HasPrefix (key_at keys.now) (key_heads_of self.now) text }
     {
         match self.entries().last() {
             Some(last) => common_prefix_len(keys, last.key, key) >= self.prefix_len(),

@@ -157,8 +157,8 @@ impl<const N: usize> Node<N> {
         requires headed { AreHeads (bytes_of bound.now) (key_heads_of self.now) }
         requires within { index < length (entries_of self.now) }
         requires head { HasHead bound.now head (key_heads_of self.now) }
-        ensures is_below { (e : Entry) → slice_get (entries_of self.now) index ≡ Some e → result ≡
-            below_of bound.now e.key }
+        ensures is_below { (e : Entry) → slice_get (entries_of self.now) index ≡ Some e → result
+            ≡ below_of bound.now e.key }
     {
         let own = self.heads[index];
         match head {
