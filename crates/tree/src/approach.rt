@@ -14,7 +14,7 @@ ghost use Rattle.tree.specs.Tree.{least_of};
 ghost use Rattle.tree.specs.declared.entry.Entry.{Entry};
 
 use crate::descent::common_prefix_len_at;
-use crate::key_bound::KeyBound;
+use crate::lent::LendsQuestion;
 use crate::node::Node;
 use crate::question::Question;
 use crate::root::Root;
@@ -43,22 +43,24 @@ pub enum Approach {
     Open,
 }
 
-// Goes down a subtree to the leaf that answers a question. `common_prefix_len` is how many bytes
+// Goes down a subtree to the leaf that answers the question that is lent. `common_prefix_len` is how many bytes
 // the first key of the subtree and the target of the first bound begin with in common. `clear` says
 // that the items after the subtree don't come before the second bound.
-fn descend<const N: usize>(
+fn descend<Q: LendsQuestion, const N: usize>(
     nodes: &Arena<Node<N>>,
     slot: Slot,
     height: usize,
-    question: &Question<'_>,
+    lender: &Q,
     common_prefix_len: usize,
     clear: bool,
 ) -> Approach
-    requires asked { IsAsked nodes.now (least_of N) height slot question.now.from question.now.to }
-    requires known { IsCommonPrefixAt (bytes_of question.now.from) (below_of question.now.from)
-        (target_of question.now.from) (Some common_prefix_len) (entries_at nodes.now slot) 0 }
-    ensures approach { IsApproach nodes.now height slot question.now.from question.now.to
-        question.now.version clear result }
+    requires asked { IsAsked nodes.now (least_of N) height slot (Q.question_of lender.now).from
+        (Q.question_of lender.now).to }
+    requires known { IsCommonPrefixAt (bytes_of (Q.question_of lender.now).from)
+        (below_of (Q.question_of lender.now).from) (target_of (Q.question_of lender.now).from)
+        (Some common_prefix_len) (entries_at nodes.now slot) 0 }
+    ensures approach { IsApproach nodes.now height slot (Q.question_of lender.now).from
+        (Q.question_of lender.now).to (Q.question_of lender.now).version clear result }
 {
     if height == 0 {
         return Approach::Leaf(Near {
@@ -67,6 +69,7 @@ fn descend<const N: usize>(
             clear,
         });
     }
+    let question = lender.question();
     let node = nodes.header_ref(slot);
     let entries = node.entries();
     let from_head = node.head_for(&question.from, common_prefix_len);
@@ -98,7 +101,7 @@ fn descend<const N: usize>(
         nodes,
         entry.child,
         height - 1,
-        question,
+        lender,
         common_prefix_len,
         clear,
     )

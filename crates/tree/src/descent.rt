@@ -12,6 +12,7 @@ ghost use Rattle.tree.specs.Path.{leaf_in, behind_leaf, first_key};
 
 use crate::entry::key_at;
 use crate::key_bound::KeyBound;
+use crate::lent::LendsBound;
 use crate::node::Node;
 use arena::{Arena, Slot};
 
@@ -43,28 +44,30 @@ pub fn common_prefix_len_at<const N: usize>(
     nodes.header_ref(slot).first_common_prefix_len(bound)
 }
 
-/// Finds the leaf that has the last item below the bound, or else the first leaf.
+/// Finds the leaf that has the last item below the bound that is lent, or else the first leaf.
 /// `common_prefix_len` is how many bytes the first key of the subtree and the target begin with in
 /// common, or none if that key isn't below the bound. `behind` is the key of the first item after
 /// the subtree.
-pub fn find<const N: usize>(
+pub fn find<B: LendsBound, const N: usize>(
     nodes: &Arena<Node<N>>,
     slot: Slot,
     height: usize,
-    bound: &KeyBound<'_>,
+    lender: &B,
     common_prefix_len: Option<usize>,
     behind: Option<Slot>,
 ) -> Reached
-    requires can_reach { CanReach (bytes_of bound.now) (below_of bound.now) nodes.now (least_of N)
-        height slot }
-    requires known { IsCommonPrefixAt (bytes_of bound.now) (below_of bound.now)
-        (target_of bound.now) common_prefix_len (entries_at nodes.now slot) 0 }
-    ensures leaf { result.leaf ≡ leaf_in nodes.now height slot (below_of bound.now) }
-    ensures known { IsCommonPrefixAt (bytes_of bound.now) (below_of bound.now) (target_of bound.now)
+    requires can_reach { CanReach (bytes_of (B.bound_of lender.now))
+        (below_of (B.bound_of lender.now)) nodes.now (least_of N) height slot }
+    requires known { IsCommonPrefixAt (bytes_of (B.bound_of lender.now))
+        (below_of (B.bound_of lender.now)) (target_of (B.bound_of lender.now)) common_prefix_len
+        (entries_at nodes.now slot) 0 }
+    ensures leaf { result.leaf ≡ leaf_in nodes.now height slot (below_of (B.bound_of lender.now)) }
+    ensures known { IsCommonPrefixAt (bytes_of (B.bound_of lender.now))
+        (below_of (B.bound_of lender.now)) (target_of (B.bound_of lender.now))
         result.common_prefix_len (entries_at nodes.now result.leaf) 0 }
     ensures some { 1 ≤ length (entries_at nodes.now result.leaf) }
     ensures behind { result.behind ≡ first_key behind
-        (behind_leaf nodes.now height slot (below_of bound.now)) }
+        (behind_leaf nodes.now height slot (below_of (B.bound_of lender.now))) }
 {
     if height == 0 {
         return Reached {
@@ -75,14 +78,14 @@ pub fn find<const N: usize>(
     }
     let node = nodes.header_ref(slot);
     let entries = node.entries();
-    let step = node.step(bound, common_prefix_len);
+    let step = node.step(lender.bound(), common_prefix_len);
     let next = key_at(entries, step.index + 1, behind);
     let child = entries[step.index].child;
     find(
         nodes,
         child,
         height - 1,
-        bound,
+        lender,
         step.common_prefix_len,
         next,
     )

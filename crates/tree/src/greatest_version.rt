@@ -13,6 +13,7 @@ ghost use Rattle.tree.specs.Tree.{least_of};
 
 use crate::entry::Entry;
 use crate::key_bound::KeyBound;
+use crate::lent::LendsBound;
 use crate::node::Node;
 use arena::{Arena, Slot};
 
@@ -20,24 +21,25 @@ use arena::{Arena, Slot};
 /// second bound, of those before the first one the last alone. If the first bound is missing, no
 /// item is before it; if the second one is, all are. Subtrees that have none above it are passed
 /// over.
-pub fn greatest<const N: usize>(
+pub fn greatest<B: LendsBound, const N: usize>(
     nodes: &Arena<Node<N>>,
     slot: Slot,
     height: usize,
-    from: Option<&KeyBound<'_>>,
-    to: Option<&KeyBound<'_>>,
+    from: Option<&B>,
+    to: Option<&B>,
     least: Option<i64>,
 ) -> Option<i64>
     requires subtree { IsSubtree nodes.now (least_of N) height slot }
-    requires from { IfSome from (λ p. CanReach (bytes_of p.now) (below_of p.now) nodes.now
-        (least_of N) height slot) }
-    requires to { IfSome to (λ q. CanReach (bytes_of q.now) (below_of q.now) nodes.now (least_of N)
-        height slot) }
-    requires nested { IfSome from (λ p. IfSome to (λ q. (key : ℕ) → below_of p.now key ≡ true
-        → below_of q.now key ≡ true)) }
+    requires from { IfSome from (λ p. CanReach (bytes_of (B.bound_of p.now))
+        (below_of (B.bound_of p.now)) nodes.now (least_of N) height slot) }
+    requires to { IfSome to (λ q. CanReach (bytes_of (B.bound_of q.now))
+        (below_of (B.bound_of q.now)) nodes.now (least_of N) height slot) }
+    requires nested { IfSome from (λ p. IfSome to (λ q. (key : ℕ) → below_of (B.bound_of p.now) key
+        ≡ true → below_of (B.bound_of q.now) key ≡ true)) }
     ensures greatest { IsGreatestWith least (from_last
-        (below_from (option_map (λ p. below_of p.now) from.entry))
-        (option_map (λ q. below_of q.now) to.entry) (items_in nodes.now height slot)) result }
+        (below_from (option_map (λ p. below_of (B.bound_of p.now)) from.entry))
+        (option_map (λ q. below_of (B.bound_of q.now)) to.entry) (items_in nodes.now height slot))
+        result }
 {
     let node = nodes.header_ref(slot);
     let begin = begin_of(node, from);
@@ -73,27 +75,37 @@ pub fn any_above(entries: &[Entry], version: i64) -> bool
 }
 
 // Returns how many of the entries of a node stand before the first bound: none where it is missing.
-fn begin_of<const N: usize>(node: &Node<N>, from: Option<&KeyBound<'_>>) -> usize
-    requires can_find { IfSome from (λ p. CanFind (bytes_of p.now) (below_of p.now) node.now) }
-    ensures count { IsLowerBound (below_from (option_map (λ p. below_of p.now) from.entry)) node.now
-        result }
+fn begin_of<B: LendsBound, const N: usize>(node: &Node<N>, from: Option<&B>) -> usize
+    requires can_find { IfSome from (λ p. CanFind (bytes_of (B.bound_of p.now))
+        (below_of (B.bound_of p.now)) node.now) }
+    ensures count { IsLowerBound (below_from (option_map (λ p. below_of (B.bound_of p.now))
+        from.entry)) node.now result }
 {
     match from {
-        Some(bound) => node.lower_bound(bound, node.first_common_prefix_len(bound)),
+        Some(lender) => count_below(node, lender.bound()),
         None => 0,
     }
 }
 
 // Returns how many of the entries of a node stand before the second bound: all where it is missing.
-fn end_of<const N: usize>(node: &Node<N>, to: Option<&KeyBound<'_>>) -> usize
-    requires can_find { IfSome to (λ q. CanFind (bytes_of q.now) (below_of q.now) node.now) }
-    ensures count { IsLowerBound (below_to (option_map (λ q. below_of q.now) to.entry)) node.now
-        result }
+fn end_of<B: LendsBound, const N: usize>(node: &Node<N>, to: Option<&B>) -> usize
+    requires can_find { IfSome to (λ q. CanFind (bytes_of (B.bound_of q.now))
+        (below_of (B.bound_of q.now)) node.now) }
+    ensures count { IsLowerBound (below_to (option_map (λ q. below_of (B.bound_of q.now)) to.entry))
+        node.now result }
 {
     match to {
-        Some(bound) => node.lower_bound(bound, node.first_common_prefix_len(bound)),
+        Some(lender) => count_below(node, lender.bound()),
         None => node.len(),
     }
+}
+
+// Returns how many of the entries of a node are below the bound.
+fn count_below<const N: usize>(node: &Node<N>, bound: &KeyBound<'_>) -> usize
+    requires can_find { CanFind (bytes_of bound.now) (below_of bound.now) node.now }
+    ensures count { IsLowerBound (below_of bound.now) node.now result }
+{
+    node.lower_bound(bound, node.first_common_prefix_len(bound))
 }
 
 // Returns the greatest version of the entries, or none if there is no entry.

@@ -13,6 +13,7 @@ mod entry;
 mod expiring;
 mod greatest_version;
 mod key_bound;
+mod lent;
 mod node;
 mod overwrite;
 mod question;

@@ -15,26 +15,29 @@ use Rattle.tree.proofs.approach.+descend.Goals.{After-entries-entries, After-is_
 
 -- what is asked of the search in a node
 asked : (g : Over) (t : ℕ) (c : After-entries-entries g t)
-    → CanStep (bytes_of c.args.question.now.from) (below_of c.args.question.now.from)
-    (target_of c.args.question.now.from) c.header_ref-node.result.now (Some c.args.common_prefix_len)
+    → CanStep (bytes_of (g.Q.LendsQuestion.question_of c.args.lender.now).from) (below_of (g.Q.LendsQuestion.question_of c.args.lender.now).from)
+    (target_of (g.Q.LendsQuestion.question_of c.args.lender.now).from) c.header_ref-node.result.now (Some c.args.common_prefix_len)
 asked g t c = can_step_at c.requires.asked.can_reach c.header_ref-node.ensures.header c.requires.known
 
 pub head_for-from_head-requires : goal.head_for-from_head-requires
-head_for-from_head-requires g t c = search (rules, asked g t (goal.at.head_for-from_head-requires g t c).After-entries-entries)
+head_for-from_head-requires g t c =
+    rw c.question-question.ensures.question (search (rules, asked g t (goal.at.head_for-from_head-requires g t c).After-entries-entries))
 
 pub step_by-step-requires : goal.step_by-step-requires
-step_by-step-requires g t c = search (rules, asked g t (goal.at.step_by-step-requires g t c).After-entries-entries)
+step_by-step-requires g t c =
+    rw c.question-question.ensures.question (search (rules, asked g t (goal.at.step_by-step-requires g t c).After-entries-entries))
 
 pub is_clear-clear-requires : goal.is_clear-clear-requires
-is_clear-clear-requires g t c = search (rules, asked g t (goal.at.is_clear-clear-requires g t c).After-entries-entries)
+is_clear-clear-requires g t c =
+    rw c.question-question.ensures.question (search (rules, asked g t (goal.at.is_clear-clear-requires g t c).After-entries-entries))
 
 -- the child of the entry at which the search goes on
 module _ (g : Over) (t : ℕ) (c : After-is_clear-clear g t) where
   abbrev p : ℕ → Bool
-  p = below_of c.args.question.now.from
+  p = below_of (g.Q.LendsQuestion.question_of c.args.lender.now).from
 
   abbrev q : ℕ → Bool
-  q = below_of c.args.question.now.to
+  q = below_of (g.Q.LendsQuestion.question_of c.args.lender.now).to
 
   abbrev es : List Entry
   es = entries_of c.header_ref-node.result.now
@@ -52,28 +55,28 @@ module _ (g : Over) (t : ℕ) (c : After-is_clear-clear g t) where
 
   -- What is told of its items is told of those of the node.
   told : (result : Option Bool)
-      → IsTold p q c.args.question.now.version c.is_clear-clear.result
+      → IsTold p q (g.Q.LendsQuestion.question_of c.args.lender.now).version c.is_clear-clear.result
       (items_in c.args.nodes.now (c.args.height - 1) c.index-entries-step.result.child) result
-      → IsTold p q c.args.question.now.version c.args.clear (items_in c.args.nodes.now c.args.height c.args.slot) result
+      → IsTold p q (g.Q.LendsQuestion.question_of c.args.lender.now).version c.args.clear (items_in c.args.nodes.now c.args.height c.args.slot) result
   told result =
       told_by_child _ _ _ _ _ _ _ _ _ look _ c.args.clear c.if-height-eq0.false _ _ c.step_by-step.ensures.step.within is _ result
       (clears_behind q _ es (c.step_by-step.result.index + 1) c.args.clear c.is_clear-clear.result
-      (look_tell _ _ _ _ _ _ _ _ _ look c.if-height-eq0.false) c.is_clear-clear.ensures.next c.is_clear-clear.ensures.last)
+      (look_tell _ _ _ _ _ _ _ _ _ look c.if-height-eq0.false) (rw c.question-question.ensures.question at c.is_clear-clear.ensures.next) c.is_clear-clear.ensures.last)
 
 pub descend-requires : goal.descend-requires
 descend-requires g t c κs within_lives =
     let at = (goal.at.descend-requires g t c).After-is_clear-clear in
     let k = look g t at in
     let node = child g t at in
-    let step = c.step_by-step.ensures.step in
+    let step = rw c.question-question.ensures.question at c.step_by-step.ensures.step in
     let least_some : 1 ≤ least_of g.row.N = omega arith in
     let can_reach = child_reached _ _ _ _ _ _ _ _ _ k c.if-height-eq0.false _ _ step.within (is g t at) c.requires.asked.can_reach
     least_some in
     let to = child_partitioned _ _ _ _ _ _ _ _ _ k c.if-height-eq0.false _ _ step.within (is g t at) _ c.requires.asked.to in
     let there = slice_get_read (es g t at) _ _ c.index-entries-step.result refl step.within (is g t at) in
-    let bytes = bytes_of c.args.question.now.from in
-    let below = below_of c.args.question.now.from in
-    let target = target_of c.args.question.now.from in
+    let bytes = bytes_of (g.Q.LendsQuestion.question_of c.args.lender.now).from in
+    let below = below_of (g.Q.LendsQuestion.question_of c.args.lender.now).from in
+    let target = target_of (g.Q.LendsQuestion.question_of c.args.lender.now).from in
     let some_below = known_some_below bytes below target _ _ node.tells c.in-Some.is (step.knows _ there) in
     let knows = knows_child _ _ _ _ _ bytes below target c.step_by-step.result.common_prefix_len node refl (step.knows _ there) in
     (search rules, (search rules, (search rules, (search rules, (search rules, (search rules, rw c.in-Some.is at knows))))))
@@ -92,9 +95,11 @@ pub returns-then-clear : goal.returns-then-clear
 returns-then-clear g t c =
     let at = (goal.at.returns-then-clear g t c).After-is_clear-clear in
     let a = asked g t (goal.at.returns-then-clear g t c).After-entries-entries in
-    let v = c.args.question.now.version in
-    let le = at_most_tested c.index-entries-step.result.version v (search rules) (search rules) c.if-entry-question.true in
+    let v = (g.Q.LendsQuestion.question_of c.args.lender.now).version in
+    let le = rw c.question-question.ensures.question at (at_most_tested c.index-entries-step.result.version c.question-question.result.now.version (search rules)
+    (search rules) c.if-entry-question.true) in
     let some = some_pass (p g t at) (es g t at) a.can_find.some (λ e there. (a.known e there).0) in
-    let passed = last_passes (p g t at) _ _ _ a.can_find.partitioned some c.step_by-step.ensures.step.index_is (is g t at) in
-    let part = told_by_entry _ _ v c.args.question.now.nested _ _ _ (child g t at).tells passed c.if-clear.true le in
+    let passed = last_passes (p g t at) _ _ _ a.can_find.partitioned some
+    (rw c.question-question.ensures.question at c.step_by-step.ensures.step).index_is (is g t at) in
+    let part = told_by_entry _ _ v (g.Q.LendsQuestion.question_of c.args.lender.now).nested _ _ _ (child g t at).tells passed c.if-clear.true le in
     record { approach = told g t at (Some false) part }

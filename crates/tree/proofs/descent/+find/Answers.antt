@@ -9,24 +9,25 @@ use Rattle.tree.proofs.descent.+find.Goals as goal
 use Rattle.tree.proofs.descent.+find.Goals.{After-index-entries-step}
 
 pub step-step-requires : goal.step-step-requires
-step-step-requires g t c = search (rules, can_step_at c.requires.can_reach c.header_ref-node.ensures.header c.requires.known)
+step-step-requires g t c =
+    rw c.bound.ensures.bound (search (rules, can_step_at c.requires.can_reach c.header_ref-node.ensures.header c.requires.known))
 
 -- the child at which the search goes on
 child_found : (g : Over) (t : ℕ) (c : After-index-entries-step g t)
-    → IsFound c.args.nodes.now (least_of g.row.N) c.args.height c.args.slot (below_of c.args.bound.now)
+    → IsFound c.args.nodes.now (least_of g.row.N) c.args.height c.args.slot (below_of (g.B.LendsBound.bound_of c.args.lender.now))
     (get_or c.entries-entries.result.now c.step-step.result.index c.index-entries-step.result).child
 child_found g t c =
     found _ _ c.args.height c.args.slot _ _ _ c.step-step.result.index c.index-entries-step.result c.if-height-eq0.false
     c.requires.can_reach.subtree c.requires.can_reach.partitioned c.header_ref-node.ensures.header c.entries-entries.ensures.entries
-    (c.step-step.ensures.step.index_is ∙ ap (index_in _) (sym c.entries-entries.ensures.entries))
+    ((rw c.bound.ensures.bound at c.step-step.ensures.step).index_is ∙ ap (index_in _) (sym c.entries-entries.ensures.entries))
 
 pub find-requires : goal.find-requires
 find-requires g t c κs within =
     let some : 1 ≤ least_of g.row.N = omega arith in
     let f = child_found g t (goal.at.find-requires g t c).After-index-entries-step in
-    let known = known_below _ _ _ _ _ _ f (bytes_of c.args.bound.now) (target_of c.args.bound.now)
+    let known = known_below _ _ _ _ _ _ f (bytes_of (g.B.LendsBound.bound_of c.args.lender.now)) (target_of (g.B.LendsBound.bound_of c.args.lender.now))
     c.step-step.result.common_prefix_len _ c.step-step.result.index c.header_ref-node.ensures.header
-    c.step-step.ensures.step.index_is c.step-step.ensures.step.knows in
+    (rw c.bound.ensures.bound at c.step-step.ensures.step).index_is (rw c.bound.ensures.bound at c.step-step.ensures.step).knows in
     search (rules, known, found_subtree _ _ _ _ _ _ f, some_below _ _ _ _ _ _ f some, found_partitioned _ _ _ _ _ _ f)
 
 pub returns-clause-leaf : goal.returns-clause-leaf
@@ -38,5 +39,5 @@ returns-clause-behind g t c =
     c.find.ensures.behind
     ∙ key_behind_child _ _ _ _ _ _ (child_found g t (goal.at.returns-clause-behind g t c).After-index-entries-step) _
     c.entries-entries.result.now c.step-step.result.index c.args.behind c.key_at-next.result c.header_ref-node.ensures.header
-    c.entries-entries.ensures.entries (c.step-step.ensures.step.index_is ∙ ap (index_in _) (sym c.entries-entries.ensures.entries))
+    c.entries-entries.ensures.entries ((rw c.bound.ensures.bound at c.step-step.ensures.step).index_is ∙ ap (index_in _) (sym c.entries-entries.ensures.entries))
     c.key_at-next.ensures.key

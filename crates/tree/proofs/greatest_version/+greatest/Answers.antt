@@ -12,12 +12,12 @@ use Rattle.tree.proofs.greatest_version.+greatest.Goals.{After-saturating_sub-fi
 
 look : (g : Over) (t : ℕ) (c : After-saturating_sub-first g t)
     → IsLook c.args.nodes.now (least_of g.row.N) c.args.height c.args.slot
-    (below_from (option_map (λ p. below_of p.now) c.args.from))
-    (below_to (option_map (λ q. below_of q.now) c.args.to)) c.entries-entries.result.now
+    (below_from (option_map (λ p. below_of (g.B.LendsBound.bound_of p.now)) c.args.from))
+    (below_to (option_map (λ q. below_of (g.B.LendsBound.bound_of q.now)) c.args.to)) c.entries-entries.result.now
     c.begin_of-begin.result c.end_of-end.result
 look g t c =
-    look_of _ _ _ _ (λ p. bytes_of p.now) (λ p. below_of p.now) (λ q. bytes_of q.now)
-    (λ q. below_of q.now) c.args.from c.args.to _ _ _ _ c.requires.subtree c.requires.from c.requires.to
+    look_of _ _ _ _ (λ p. bytes_of (g.B.LendsBound.bound_of p.now)) (λ p. below_of (g.B.LendsBound.bound_of p.now)) (λ q. bytes_of (g.B.LendsBound.bound_of q.now))
+    (λ q. below_of (g.B.LendsBound.bound_of q.now)) c.args.from c.args.to _ _ _ _ c.requires.subtree c.requires.from c.requires.to
     c.requires.nested c.header_ref-node.ensures.header c.entries-entries.ensures.entries c.begin_of-begin.ensures.count
     c.end_of-end.ensures.count
 
@@ -53,14 +53,14 @@ returns-then-height-eq0 g t c =
 -- the two children that the search goes on in
 abbrev halves : (g : Over) (t : ℕ) (c : After-index-entries-last g t)
     → AreHalves c.args.nodes.now (least_of g.row.N) c.args.height c.args.slot
-    (below_from (option_map (λ p. below_of p.now) c.args.from))
-    (below_to (option_map (λ q. below_of q.now) c.args.to))
+    (below_from (option_map (λ p. below_of (g.B.LendsBound.bound_of p.now)) c.args.from))
+    (below_to (option_map (λ q. below_of (g.B.LendsBound.bound_of q.now)) c.args.to))
 halves g t c = record {
   es = c.entries-entries.result.now;
   begin = c.begin_of-begin.result;
   end = c.end_of-end.result;
-  look = look_of _ _ _ _ (λ p. bytes_of p.now) (λ p. below_of p.now) (λ q. bytes_of q.now)
-      (λ q. below_of q.now) c.args.from c.args.to _ _ _ _ c.requires.subtree c.requires.from c.requires.to
+  look = look_of _ _ _ _ (λ p. bytes_of (g.B.LendsBound.bound_of p.now)) (λ p. below_of (g.B.LendsBound.bound_of p.now)) (λ q. bytes_of (g.B.LendsBound.bound_of q.now))
+      (λ q. below_of (g.B.LendsBound.bound_of q.now)) c.args.from c.args.to _ _ _ _ c.requires.subtree c.requires.from c.requires.to
       c.requires.nested c.header_ref-node.ensures.header c.entries-entries.ensures.entries c.begin_of-begin.ensures.count
       c.end_of-end.ensures.count;
   some = c.if-height-eq0.false;
@@ -107,8 +107,8 @@ greatest-most-requires-then-is_above-2 g t c κs within =
 pub returns-then-not-is_above : goal.returns-then-not-is_above
 returns-then-not-is_above g t c =
     let h = halves g t (goal.at.returns-then-not-is_above g t c).After-index-entries-last in
-    let from = λ (x : Item). below_from (option_map (λ p. below_of p.now) c.args.from) x.key in
-    let to = λ (x : Item). below_to (option_map (λ q. below_of q.now) c.args.to) x.key in
+    let from = λ (x : Item). below_from (option_map (λ p. below_of (g.B.LendsBound.bound_of p.now)) c.args.from) x.key in
+    let to = λ (x : Item). below_to (option_map (λ q. below_of (g.B.LendsBound.bound_of q.now)) c.args.to) x.key in
     let told = most_passed c.args.least c.index-entries-first.result (left_items h) from to c.is_above.result
     (search rules) (left_is h).tells c.if-not-is_above.true c.is_above.ensures.above in
     record { greatest = rw (in_one h c.if-first-last.true) told }
@@ -122,7 +122,7 @@ returns-then-first-last g t c =
 sooner : (g : Over) (t : ℕ) (c : After-is_above-3 g t)
     → Tells c.index-entries-first.result (items_in c.args.nodes.now (c.args.height - 1) c.index-entries-first.result.child)
     → IsGreatestWith c.greater-most.result
-    (from_last_of (λ (x : Item). below_from (option_map (λ p. below_of p.now) c.args.from) x.key)
+    (from_last_of (λ (x : Item). below_from (option_map (λ p. below_of (g.B.LendsBound.bound_of p.now)) c.args.from) x.key)
     (λ (x : Item). true) (items_in c.args.nodes.now (c.args.height - 1) c.index-entries-first.result.child))
     c.if-is_above.most
 sooner g t c left =
@@ -147,7 +147,7 @@ pub returns-else-is_above-2 : goal.returns-else-is_above-2
 returns-else-is_above-2 g t c =
     let at = goal.at.returns-else-is_above-2 g t c in
     let h = halves g t at.After-index-entries-last in
-    let to = λ (x : Item). below_to (option_map (λ q. below_of q.now) c.args.to) x.key in
+    let to = λ (x : Item). below_to (option_map (λ q. below_of (g.B.LendsBound.bound_of q.now)) c.args.to) x.key in
     let later = most_passed c.if-is_above.most c.index-entries-last.result (right_items h) (λ x. false) to c.is_above-3.result
     (search rules) (right_is h).tells c.if-is_above-2.false c.is_above-3.ensures.above in
     record {
