@@ -125,12 +125,9 @@ module _ (q r : ℕ → Bool) (es : List Entry) (end : ℕ) (others : drop end e
   ]
 
   -- Where there is none, the key behind the leaf does.
-  pub ended_behind : length es ≤ end → (post : ℕ → Type 0) → MatchOption otherwise (ended ≡ false) post
-      → ((key : ℕ) → post key → ended ≡ r key)
+  pub ended_behind : length es ≤ end → ended ≡ first_is_below r otherwise
       → ended ≡ first_is_below r (first_key otherwise (behind q (map item_of es)))
-  ended_behind all post tested says =
-      let Tells = λ (key : Option ℕ). MatchOption key (ended ≡ false) post → ended ≡ first_is_below r key in
-      rw (behind_end, drop_all end es all) ((elim otherwise as Tells [ None ↦ λ none. none | Some key ↦ says key ]) tested)
+  ended_behind all told = rw (behind_end, drop_all end es all) told
 
 -- no version is given where there is none
 pub none_if : (o : Option ℤ) → is_some o ≡ false → o ≡ None

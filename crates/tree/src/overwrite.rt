@@ -4,7 +4,8 @@ ghost use Rattle.std.specs.Prelude.{◌≡◌, ◌<◌, ◌-◌, ℕ, true, take
 ghost use Rattle.keys.specs.Key.{IsBytes};
 ghost use Rattle.tree.specs.Item.{item_of};
 ghost use Rattle.tree.specs.KeyBound.{below_of, bytes_of, target_of};
-ghost use Rattle.tree.specs.Overwrite.{GivesWritten, IsPartOfPartitioned, part_of_part, put_of};
+ghost use Rattle.tree.specs.Overwrite.{GivesWritten, IsPartOfPartitioned, first_is_below, part_of_part};
+ghost use Rattle.tree.specs.Overwrite.{put_of};
 
 use crate::entry::Entry;
 use crate::key_bound::KeyBound;
@@ -125,7 +126,7 @@ impl<'a, 'b, const N: usize> LeafChange<N> for Overwriting<'a, 'b> {
         let ended = if end < leaf.len() {
             leaf.is_below_at(end, &new.past, to_head)
         } else {
-            place.behind.is_some_and(|key| new.past.is_below(key))
+            is_first_below(place.behind, &new.past)
         };
         self.written = Written::Whole { ended };
         let run = Run {
@@ -150,4 +151,14 @@ impl<'a, 'b, const N: usize> LeafChange<N> for Overwriting<'a, 'b> {
     }
 
     ghost part = { λ o. part_of_part (below_of o.new.now.from) };
+}
+
+// Returns whether a key is below the bound; false if there is none.
+fn is_first_below(key: Option<Slot>, bound: &KeyBound<'_>) -> bool
+    ensures below { result ≡ first_is_below (below_of bound.now) key }
+{
+    match key {
+        Some(key) => bound.is_below(key),
+        None => false,
+    }
 }

@@ -27,6 +27,12 @@ lower_bound_by_head-begin-requires g c =
     (below_of bound) (key_order bound) c.args.near.common_prefix_len a.can_find.some a.known in
     (search rules, (a.can_find, (from_head.head, (λ none. known (from_head.none none)))))
 
+pub overflow_sub-begin : goal.overflow_sub-begin
+overflow_sub-begin g c =
+    let a = asked g (goal.at.overflow_sub-begin g c).After-entries-entries in
+    let least = some_pass (below_of c.args.question.now.from) _ a.can_find.some (λ e is. (a.known e is).0) in
+    omega (arith, least, c.lower_bound_by_head-begin.ensures.count.count_is)
+
 pub end_in-end-requires : goal.end_in-end-requires
 end_in-end-requires g c =
     let a = asked g (goal.at.end_in-end-requires g c).After-entries-entries in

@@ -128,9 +128,9 @@ within g t c Gives now all all_is changed =
     (first_if _ _ _ c.if-place.below-true c.if-place.below-false)
     (rw (read g t k, ← c.entries-entries.ensures.entries) c.key_at.ensures.key) all_is changed
 
-pub change_leaf-requires : goal.change_leaf-requires
-change_leaf-requires g t c κs low =
-    let can = can_change_child g t (goal.at.change_leaf-requires g t c).After-index-entries-step in
+pub change_leaf-outcome-requires : goal.change_leaf-outcome-requires
+change_leaf-outcome-requires g t c κs low =
+    let can = can_change_child g t (goal.at.change_leaf-outcome-requires g t c).After-index-entries-step in
     (search rules, (search rules, (search rules, (search rules, (search rules, (search rules, can))))))
 
 -- The node is as its child became.
@@ -150,8 +150,18 @@ unsettled g t c =
 
 pub settle-requires : goal.settle-requires
 settle-requires g t c =
-    let u = unsettled g t (goal.at.settle-requires g t c).After-change_leaf-outcome in
-    rw (c.leaf_bound-2.ensures.leaf_bound ∙ c.change_leaf-outcome.ensures.leaf_bound) (search rules, record { unsettled = u })
+    let here = (goal.at.settle-requires g t c).After-change_leaf-outcome in
+    let k = (goal.at.After-change_leaf-outcome g t here).After-index-entries-step in
+    rw (c.leaf_bound-2.ensures.leaf_bound ∙ c.change_leaf-outcome.ensures.leaf_bound) (
+      search rules,
+      record {
+        old = c.args.nodes.now;
+        height = c.args.height;
+        below = h g t k;
+        child = x g t k;
+        unsettled = unsettled g t here;
+      },
+    )
 
 pub returns : goal.returns
 returns g t c =

@@ -63,10 +63,10 @@ module _ (g : given.Over) (c : After-has_expired g) where
   swept : (now out : List Item)
       → now ≡ map item_of (take begin es) ++ (unexpired edge before looked ++ map item_of (drop end es))
       → out ≡ expired edge before looked
-      → GivesUnexpired (below_of bound.now) count edge before c.look_at-self.result out
+      → GivesUnexpired (below_of bound) count edge before c.look_at-self.result out
       place.behind (map item_of (entries_at nodes slot)) now
   swept now out now_is out_is =
-      let p = below_of bound.now in
+      let p = below_of bound in
       let partitioned = (leaf_can_step c.requires.can_change header).can_find.partitioned in
       let told = c.look_at-self.ensures in
       let first_is : begin + 1 ≡ length (filter (λ (e : Entry). p e.key) es) = omega (arith, counts, c.if-below-eq0.false) in

@@ -56,7 +56,7 @@ module _ (g : given.Over) (c : After-redistribute g) where
             let entries = apart_prepended es c.args.new.now c.args.from c.args.to can.ordered can.within in
             record {
               entries = cc;
-              given = IfSome_then c.args.heads w.splice-2.ensures.heads (λ h put.
+              given = IfSome_then c.args.heads w.splice-else-from-new-2.ensures.heads (λ h put.
                   let heads = apart_prepended node.heads h.now c.args.from c.args.to can.ordered within in
                   record { heads_are = cc; prefix_len = cc; right_prefix_len = cc });
             }

@@ -6,10 +6,12 @@ use Rattle.tree.proofs.GivenHeads.{given_count, where_given}
 use Rattle.tree.proofs.HeadChanges.{headed_spliced, known_spliced, map_spliced}
 use Rattle.tree.proofs.node.Node.splice_with_heads.Goals as goal
 
-pub splice-requires-clause-same_len : goal.splice-requires-clause-same_len
-splice-requires-clause-same_len g c =
-    given_count c.args.heads (λ h. h.now) (IsHeadBeside (key_at c.args.keys.now) (key_heads_of c.args.self.now)) (keys_of c.args.new.now)
-    (length c.args.new.now) (length-map c.args.new.now (λ (e : Entry). e.key)) c.requires.can_splice.beside
+pub splice-requires : goal.splice-requires
+splice-requires g c =
+    let can = c.requires.can_splice in
+    let same_len = given_count c.args.heads (λ h. h.now) (IsHeadBeside (key_at c.args.keys.now) (key_heads_of c.args.self.now))
+    (keys_of c.args.new.now) (length c.args.new.now) (length-map c.args.new.now (λ (e : Entry). e.key)) can.beside in
+    (search rules, (can.ordered, (can.within, (same_len, c.requires.room))))
 
 pub compute_heads-requires : goal.compute_heads-requires
 compute_heads-requires g c =

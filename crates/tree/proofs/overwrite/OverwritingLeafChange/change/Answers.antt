@@ -155,8 +155,8 @@ module _ (g : given.Over) (c : Joined-end-len g) where
             w.ended-is ∙ ended_in_leaf q _ es end others place.behind w.is_below_at-ended.result
             (omega (arith, w.if-end-len.true, c.len.ensures.len)) w.is_below_at-ended.ensures.is_below
         | else-end-len w ↦
-            w.ended-is ∙ ended_behind q _ es end others place.behind w.is_some_and-ended.result
-            (omega (arith, w.if-end-len.false, c.len.ensures.len)) _ w.is_some_and-ended.ensures (λ k h. search rules)
+            w.ended-is ∙ ended_behind q _ es end others place.behind w.is_first_below-ended.result
+            (omega (arith, w.if-end-len.false, c.len.ensures.len)) w.is_first_below-ended.ensures.below
       ]
 
   -- the items of the leaf once the run is written over

@@ -1,4 +1,5 @@
-use Rattle.std.proofs.Common.{None, ap, rules}
+use Rattle.std.proofs.Common.{None, inl, inr, ap, rules, w64}
+use Rattle.std.proofs.lemmas.Int.{to_z-of_z}
 use Rattle.tree.specs.Item.{Item}
 use Rattle.tree.specs.Tree.{Items}
 use Rattle.tree.proofs.FromLast.{from_last_some}
@@ -18,3 +19,13 @@ unwrap-requires g c =
     let some = rw (← ap (λ (v : Items). v.items) c.self.view_is) at c.requires.some in
     let nested = λ (x : Item). c.requires.nested x.key in
     most_some None c.greatest.result _ (from_last_some _ _ nested _ some) c.greatest.ensures.greatest
+
+pub returns : goal.returns
+returns g c =
+    let most = rw c.unwrap.ensures at c.greatest.ensures.greatest in
+    record {
+      greatest = rw (to_z-of_z w64 c.unwrap.result (search rules), ← c.self.view_is) record {
+        bound = most.bound;
+        reached = elim most.reached [ inl is ↦ absurd (cc) | inr any ↦ any ];
+      };
+    }
