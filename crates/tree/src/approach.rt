@@ -43,9 +43,9 @@ pub enum Approach {
     Open,
 }
 
-// Goes down a subtree to the leaf that answers the question that is lent. `common_prefix_len` is how many bytes
-// the first key of the subtree and the target of the first bound begin with in common. `clear` says
-// that the items after the subtree don't come before the second bound.
+// Goes down a subtree to the leaf that answers the question that is lent. `common_prefix_len` is
+// how many bytes the first key of the subtree and the target of the first bound begin with in
+// common. `clear` says that the items after the subtree don't come before the second bound.
 fn descend<Q: LendsQuestion, const N: usize>(
     nodes: &Arena<Node<N>>,
     slot: Slot,
