@@ -21,12 +21,12 @@ use arena::{Arena, Slot};
 /// second bound, of those before the first one the last alone. If the first bound is missing, no
 /// item is before it; if the second one is, all are. Subtrees that have none above it are passed
 /// over.
-pub fn greatest<B: LendsBound, const N: usize>(
+pub fn greatest<'a, B: LendsBound, const N: usize>(
     nodes: &Arena<Node<N>>,
     slot: Slot,
     height: usize,
-    from: Option<&B>,
-    to: Option<&B>,
+    from: Option<&'a B>,
+    to: Option<&'a B>,
     least: Option<i64>,
 ) -> Option<i64>
     requires subtree { IsSubtree nodes.now (least_of N) height slot }
@@ -57,12 +57,13 @@ pub fn greatest<B: LendsBound, const N: usize>(
         }
         return greatest(nodes, left.child, height - 1, from, to, least);
     }
+    let none: Option<&'a B> = None;
     let mut most = greater(least, greatest_of(&entries[first + 1..last]));
     if is_above(left.version, most) {
-        most = greatest(nodes, left.child, height - 1, from, None, most);
+        most = greatest(nodes, left.child, height - 1, from, none, most);
     }
     if is_above(right.version, most) {
-        most = greatest(nodes, right.child, height - 1, None, to, most);
+        most = greatest(nodes, right.child, height - 1, none, to, most);
     }
     most
 }

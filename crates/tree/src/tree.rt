@@ -164,7 +164,7 @@ impl<const N: usize> Tree<N> {
 
     /// Returns the greatest version of the items before the second bound, of those before the first
     /// one the last alone, of which there is one.
-    pub fn greatest(&self, from: &KeyBound<'_>, to: &KeyBound<'_>) -> i64
+    pub fn greatest<'a>(&self, from: &'a KeyBound<'a>, to: &'a KeyBound<'a>) -> i64
         requires from { CanSearchItems (below_of from.now) (bytes_of from.now) self.now }
         requires to { CanSearchItems (below_of to.now) (bytes_of to.now) self.now }
         requires nested { (key : ℕ) → below_of from.now key ≡ true → below_of to.now key ≡ true }
