@@ -79,7 +79,7 @@ descend-requires g t c κs within_lives =
     let target = target_of (g.Q.LendsQuestion.question_of c.args.lender.now).from in
     let some_below = known_some_below bytes below target _ _ node.tells c.in-Some.is (step.knows _ there) in
     let knows = knows_child _ _ _ _ _ bytes below target c.step_by-step.result.common_prefix_len node refl (step.knows _ there) in
-    (search rules, (search rules, (search rules, (search rules, (search rules, (search rules, rw c.in-Some.is at knows))))))
+    (search rules, (search rules, (search rules, (search rules, (search rules, rw c.in-Some.is at knows)))))
 
 pub returns-then-height-eq0 : goal.returns-then-height-eq0
 returns-then-height-eq0 g t c =
