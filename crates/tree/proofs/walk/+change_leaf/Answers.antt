@@ -131,7 +131,7 @@ within g t c Gives now all all_is changed =
 pub change_leaf-outcome-requires : goal.change_leaf-outcome-requires
 change_leaf-outcome-requires g t c κs low =
     let can = can_change_child g t (goal.at.change_leaf-outcome-requires g t c).After-index-entries-step in
-    (search rules, (search rules, (search rules, (search rules, (search rules, (search rules, can))))))
+    (search rules, (search rules, (search rules, (search rules, (search rules, can)))))
 
 -- The node is as its child became.
 unsettled : (g : Over) (t : ℕ) (c : After-change_leaf-outcome g t)
