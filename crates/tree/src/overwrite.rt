@@ -4,8 +4,8 @@ ghost use Rattle.std.specs.Prelude.{◌≡◌, ◌<◌, ◌-◌, ℕ, true, take
 ghost use Rattle.keys.specs.Key.{IsBytes};
 ghost use Rattle.tree.specs.Item.{item_of};
 ghost use Rattle.tree.specs.KeyBound.{below_of, bytes_of, target_of};
-ghost use Rattle.tree.specs.Overwrite.{GivesWritten, IsPartOfPartitioned, first_is_below, part_of_part};
-ghost use Rattle.tree.specs.Overwrite.{put_of};
+ghost use Rattle.tree.specs.Overwrite.{GivesWritten, IsPartOfPartitioned, first_is_below};
+ghost use Rattle.tree.specs.Overwrite.{part_of_part, put_of};
 
 use crate::entry::Entry;
 use crate::key_bound::KeyBound;
