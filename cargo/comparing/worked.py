@@ -135,6 +135,11 @@ def subcommand_cases() -> list[Case]:
         stdin = files[row.stdin] if row.stdin else b""
         runs.append(Run("batches", row.args, stdin, expected=Outcome(row.status, out, row.err.encode())))
     runs += [Run("batches", args, text=Text.OF_CLAP, expected=Outcome(2, b"", b"error: ")) for args in batches_rows.REFUSED]
+    for number, (text, line, more) in enumerate(batches_rows.VERBOSE):
+        files[f"lines{number}"] = text.encode()
+        for args, name in (((), "standard input"), ((f"lines{number}",), f"lines{number}")):
+            err = f"{line}\n  batches: {name}:{more}\n".encode()
+            runs.append(Run("batches", ("encode", "--verbose", *args), text.encode(), expected=Outcome(1, b"", err)))
     for version in batches_rows.VERSIONS:
         runs.append(Run("batches", ("opening", "--version", str(version)), expected=Outcome(0, opening(version), b"")))
     return [Case(f"subcommand {number}", "worked rows", files, (run,)) for number, run in enumerate(runs)]

@@ -151,6 +151,24 @@ ROWS = (
 )
 FILES["alone"] = ("-1>0",)
 
+# Files of lines, and what `encode --verbose` prints of them after the fixed line.
+VERBOSE: tuple[tuple[str, str, str], ...] = (
+    ('{"previous":0,"version":0,"transactions":[]}', "line 1: version: not above the previous version", "1:25: version: not above the previous version"),
+    ('\n \n  {"previous" : 0 , "version":\t-1}', "line 3: transactions: missing", "3:3: transactions: missing"),
+    ("[]", "line 1: not an object", "1:1: not an object"),
+    ("{", "line 1: not JSON", "1:1: not JSON"),
+    (
+        '{"transactions":[{"snapshot":0,"reads":["a,[",["b","a"]],"writes":[]}],"version":1,"previous":0}',
+        "line 1: transactions[0].reads[1]: begin is above end",
+        "1:47: transactions[0].reads[1]: begin is above end",
+    ),
+    (
+        '{"transactions":[{"snapshot":0,"reads":[],"writes":[]},{"writes":[["\\\\x0","a"]],"snapshot":0,"reads":[]}],"version":1,"previous":0}',
+        "line 1: transactions[1].writes[0][0]: backslash that begins neither \\\\ nor \\xNN",
+        "1:68: transactions[1].writes[0][0]: backslash that begins neither \\\\ nor \\xNN",
+    ),
+)
+
 # Refused with status 2.
 REFUSED: tuple[tuple[str, ...], ...] = (
     ("opening",),

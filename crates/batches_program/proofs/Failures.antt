@@ -25,7 +25,7 @@ pub frame_fails : (kind : Kind) (number : ℕ) (left now : Option (List ℕ)) (f
     → IsFailureOfFrame kind number frame e → FailsFrame kind number left e
 frame_fails kind number left now frame (failure.Frame n fault) taken some end fails =
     (fails.0, first_fault kind fault left now frame taken some end fails.1)
-frame_fails kind number left now frame (failure.Line n refusal) taken some end fails = absurd fails
+frame_fails kind number left now frame (failure.Line n refusal column) taken some end fails = absurd fails
 frame_fails kind number left now frame (failure.Long n) taken some end fails = absurd fails
 frame_fails kind number left now frame (failure.LongClip n) taken some end fails = absurd fails
 frame_fails kind number left now frame (failure.NotRising n) taken some end fails = absurd fails
@@ -51,8 +51,8 @@ clip_fails points shard number left now frame (failure.LongClip n) taken some en
     (fails.0, too_long points shard left now frame taken fails.1)
 clip_fails points shard number left now frame (failure.Frame n fault) taken some end fails =
     frame_fails Batches number left now frame (failure.Frame n fault) taken some end fails
-clip_fails points shard number left now frame (failure.Line n refusal) taken some end fails =
-    frame_fails Batches number left now frame (failure.Line n refusal) taken some end fails
+clip_fails points shard number left now frame (failure.Line n refusal column) taken some end fails =
+    frame_fails Batches number left now frame (failure.Line n refusal column) taken some end fails
 clip_fails points shard number left now frame (failure.Long n) taken some end fails =
     frame_fails Batches number left now frame (failure.Long n) taken some end fails
 clip_fails points shard number left now frame (failure.NotRising n) taken some end fails =
@@ -83,7 +83,7 @@ begins Is (Some bytes) line read some is =
 pub line_fails : (kind : Kind) (number : ℕ) (left : Option (List ℕ)) (line : List ℕ) (e : Failure)
     → IfSome left (λ bytes. line ≡ take_through 10 bytes) → IsTrue (not (is_blank line))
     → IsFailureOfLine kind number line e → FailsLine kind number left e
-line_fails kind number left line (failure.Line n refusal) read some fails =
+line_fails kind number left line (failure.Line n refusal column) read some fails =
     (fails.0, begins (SpellsNothing kind) left line read some fails.1)
 line_fails kind number left line (failure.Long n) read some fails =
     (fails.0, begins (SpellsTooMuch kind) left line read some fails.1)

@@ -34,7 +34,7 @@ SpellsTooMuch Replies line = (reply : Reply) × (reply_of line ≡ Some (reply_f
 
 -- the failure of the line of this number
 abbrev pub IsFailureOfLine : Kind → ℕ → List ℕ → Failure → Type 0
-IsFailureOfLine kind number line (failure.Line n refusal) = (n ≡ number) × SpellsNothing kind line
+IsFailureOfLine kind number line (failure.Line n refusal column) = (n ≡ number) × SpellsNothing kind line
 IsFailureOfLine kind number line (failure.Long n) = (n ≡ number) × SpellsTooMuch kind line
 IsFailureOfLine kind number line failure.Memory = Unit {0}
 IsFailureOfLine kind number line other = ⊥
@@ -45,7 +45,7 @@ BeginsWithLine Is bytes = IsTrue (not (is_blank (take_through 10 bytes))) × Is 
 
 -- what the failure says of the line of this number, or that memory, reading or writing failed
 abbrev pub FailsLine : Kind → ℕ → Option (List ℕ) → Failure → Type 0
-FailsLine kind number left (failure.Line n refusal) = (n ≡ number) × IfSome left (BeginsWithLine (SpellsNothing kind))
+FailsLine kind number left (failure.Line n refusal column) = (n ≡ number) × IfSome left (BeginsWithLine (SpellsNothing kind))
 FailsLine kind number left (failure.Long n) = (n ≡ number) × IfSome left (BeginsWithLine (SpellsTooMuch kind))
 FailsLine kind number left failure.Memory = Unit {0}
 FailsLine kind number left failure.Read = Unit {0}

@@ -30,6 +30,7 @@ fn encode<'a>(alloc: Global) -> Result<Command<'a>, AllocError> {
     Command::new(alloc, "encode")
         .about("Reads JSON, one batch a line, and writes frames")
         .arg(replies(alloc))?
+        .arg(verbose(alloc))?
         .arg(file(alloc))
 }
 
@@ -37,6 +38,7 @@ fn decode<'a>(alloc: Global) -> Result<Command<'a>, AllocError> {
     Command::new(alloc, "decode")
         .about("Reads frames and writes JSON, one batch a line")
         .arg(replies(alloc))?
+        .arg(verbose(alloc))?
         .arg(file(alloc))
 }
 
@@ -45,6 +47,7 @@ fn show<'a>(alloc: Global) -> Result<Command<'a>, AllocError> {
         .about("Reads frames and prints them as a table for people")
         .arg(replies(alloc))?
         .arg(full(alloc))?
+        .arg(verbose(alloc))?
         .arg(file(alloc))
 }
 
@@ -119,6 +122,13 @@ fn full<'a>(alloc: Global) -> Arg<'a> {
         .long("full")
         .action(ArgAction::SetTrue)
         .help("Prints wide keys whole, and doesn't cut them")
+}
+
+fn verbose<'a>(alloc: Global) -> Arg<'a> {
+    Arg::new(alloc, "verbose")
+        .long("verbose")
+        .action(ArgAction::SetTrue)
+        .help("Prints one more line after a failure: file, line, column and cause")
 }
 
 fn file<'a>(alloc: Global) -> Arg<'a> {

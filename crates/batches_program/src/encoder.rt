@@ -15,7 +15,7 @@ ghost use Rattle.batches_program.specs.declared.kind.Kind.TheVariants.{Batches, 
 use crate::failure::Failure;
 use crate::kind::Kind;
 use crate::progress::Progress;
-use json_lines::{Scratch, read_batch, read_reply};
+use json_lines::{Scratch, column_of, read_batch, read_reply};
 use std::alloc::Global;
 use std::io::BufRead;
 use wire::{Sink, encode_batch, encode_reply, write_all};
@@ -137,7 +137,10 @@ fn batch_frame(
             Ok(frame) => Ok(frame),
             Err(refusal) => Err(Failure::of_long(number, refusal)),
         },
-        Err(refusal) => Err(Failure::of_line(number, refusal)),
+        Err(refusal) => {
+            let column = column_of(line, refusal.place);
+            Err(Failure::of_line(number, refusal, column))
+        }
     }
 }
 
@@ -155,6 +158,9 @@ fn reply_frame(
             Ok(frame) => Ok(frame),
             Err(refusal) => Err(Failure::of_long(number, refusal)),
         },
-        Err(refusal) => Err(Failure::of_line(number, refusal)),
+        Err(refusal) => {
+            let column = column_of(line, refusal.place);
+            Err(Failure::of_line(number, refusal, column))
+        }
     }
 }

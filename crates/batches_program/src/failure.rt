@@ -11,12 +11,12 @@ use std::io;
 use thiserror::Error;
 use wire::{Failed, Sink, WireError, write_all};
 
-/// What goes wrong. Lines and frames are counted from 1, blank lines too.
+/// What goes wrong. Lines and frames are counted from 1, blank lines too, and columns in bytes.
 #[derive(Debug, Drop, Error)]
 pub enum Failure {
-    /// A line is refused.
+    /// A line is refused, and this is the column of the value that is wrong.
     #[error("line {0}: {1}")]
-    Line(u64, Refusal),
+    Line(u64, Refusal, usize),
     /// What a line says is too long for a frame.
     #[error("line {0}: longer as a frame than 4,194,304 bytes")]
     Long(u64),
@@ -51,14 +51,14 @@ pub enum Failure {
 }
 
 impl Failure {
-    /// Creates the failure of a refused line.
-    pub fn of_line(number: u64, refusal: Refusal) -> Self
+    /// Creates the failure of a refused line, by the column of the value that is wrong.
+    pub fn of_line(number: u64, refusal: Refusal, column: usize) -> Self
         ensures which { ((refusal.cause ≡ Cause.Memory) × (result ≡ Failure.Memory))
-            ⊎ ((refusal.cause ≢ Cause.Memory) × (result ≡ Failure.Line number refusal)) }
+            ⊎ ((refusal.cause ≢ Cause.Memory) × (result ≡ Failure.Line number refusal column)) }
     {
         match refusal.cause {
             Cause::Memory => Failure::Memory,
-            cause => Failure::Line(number, Refusal::new(refusal.place, cause)),
+            cause => Failure::Line(number, Refusal::new(refusal.place, cause), column),
         }
     }
 
@@ -156,6 +156,24 @@ pub fn fail_in<E: Sink>(error: &mut E, alloc: Global, name: &str, failure: &Fail
     }
 }
 
+/// Tells the failure in its line and in one more line, which begins with two spaces, the program and
+/// the name of the input, and returns how the program ends. A failed write changes nothing.
+pub fn fail_verbosely<E: Sink>(
+    error: &mut E,
+    alloc: Global,
+    name: &str,
+    failure: &Failure,
+) -> Status
+    ensures failed { result ≡ Status.Failed }
+    ensures told { TellsLine (E.given error.old) (E.given error.new) (E.failures error.old)
+        (E.failures error.new) }
+{
+    match lines_of(alloc, name, failure) {
+        Ok(lines) => tell(error, lines.as_bytes()),
+        Err(_) => tell(error, b"memory was refused\n"),
+    }
+}
+
 fn tell<E: Sink>(error: &mut E, line: &[u8]) -> Status
     requires line { IsLine line.now }
     ensures failed { result ≡ Status.Failed }
@@ -182,4 +200,18 @@ fn line_in(alloc: Global, name: &str, failure: &Failure) -> Result<String, Alloc
     let mut line = format!(in alloc; "batches: {name}: {failure}")?;
     line.push('\n')?;
     Ok(line)
+}
+
+// Returns the line of a failure, and one more with the place of it.
+fn lines_of(alloc: Global, name: &str, failure: &Failure) -> Result<String, AllocError>
+    ensures line { IfOk result (λ line. IsLine (string_bytes line)) }
+{
+    let mut lines = match failure {
+        Failure::Line(number, refusal, column) => {
+            format!(in alloc; "{failure}\n  batches: {name}:{number}:{column}: {refusal}")?
+        }
+        _ => format!(in alloc; "{failure}\n  batches: {name}: {failure}")?,
+    };
+    lines.push('\n')?;
+    Ok(lines)
 }

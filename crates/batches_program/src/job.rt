@@ -35,4 +35,6 @@ pub struct CommandLine<'a> {
     pub kind: Kind,
     /// The name of the file, or none for standard input.
     pub file: Option<&'a str>,
+    /// Whether a failure gets one more line, with the file and the place.
+    pub verbose: bool,
 }

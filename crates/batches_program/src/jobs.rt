@@ -21,7 +21,7 @@ use std::io::BufReader;
 use wire::{Sink, StdSource, write_and_flush};
 
 // What messages call standard input and standard output.
-const INPUT: &str = "standard input";
+pub const INPUT: &str = "standard input";
 const OUTPUT: &str = "standard output";
 
 /// Prints what the batches of the files add up to, as lines or as JSON. Prints nothing if a file

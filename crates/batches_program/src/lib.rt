@@ -42,7 +42,7 @@ pub use converter::convert;
 pub use counter::count_frames;
 pub use decoder::decode;
 pub use encoder::encode;
-pub use failure::{Failure, fail, fail_in};
+pub use failure::{Failure, fail, fail_in, fail_verbosely};
 pub use kind::Kind;
 pub use opening::write_opening;
 pub use points::{lines_of_points, read_points};

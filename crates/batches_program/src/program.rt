@@ -4,9 +4,9 @@ ghost use Rattle.std.specs.Prelude.{◌≡◌, IsTrue, OnOk, not};
 ghost use Rattle.batches_program.specs.Told.{Tells, TellsLine};
 
 use crate::converter::convert;
-use crate::failure::{Failure, fail};
+use crate::failure::{Failure, fail, fail_verbosely};
 use crate::job::{CommandLine, Job};
-use crate::jobs::{print_points, print_stats, write_clips};
+use crate::jobs::{INPUT, print_points, print_stats, write_clips};
 use crate::opening::write_opening;
 use crate::progress::{LONG_FILE, Progress};
 use crate::status::Status;
@@ -58,7 +58,7 @@ fn do_job<R: Files<File = File> + Input + AllocGlobal, O: Sink, E: Sink>(
         (E.failures error.new) }
 {
     let done = match job {
-        Job::Convert(line) => do_line(rt, line, watched, out, error),
+        Job::Convert(line) => return convert_line(rt, line, watched, out, error),
         Job::Opening(version) => write_opening(rt.alloc(), *version, out),
         Job::Stats { files, json } => return print_stats(rt, files, *json, out, error),
         Job::SplitPoints { files, resolvers } => {
@@ -105,6 +105,32 @@ fn end<O: Sink, E: Sink>(stop: &Stop, alloc: Global, out: &mut O, error: &mut E)
             Status::Usage
         }
         Stop::Memory => fail(error, alloc, &Failure::Memory),
+    }
+}
+
+// Does a conversion, and tells why if it can't.
+fn convert_line<R: Files<File = File> + Input + AllocGlobal, O: Sink, E: Sink>(
+    rt: &R,
+    line: &CommandLine<'_>,
+    watched: bool,
+    out: &mut O,
+    error: &mut E,
+) -> Status
+    ensures ok { result ≡ Status.Done → O.failures out.new ≡ O.failures out.old }
+    ensures quiet { result ≡ Status.Done → IsTrue (not watched) → error.new ≡ error.old }
+    ensures told { result ≡ Status.Failed
+        → TellsLine (E.given error.old) (E.given error.new) (E.failures error.old)
+        (E.failures error.new) }
+{
+    match do_line(rt, line, watched, out, error) {
+        Ok(()) => Status::Done,
+        Err(failure) => {
+            if line.verbose {
+                fail_verbosely(error, rt.alloc(), line.file.unwrap_or(INPUT), &failure)
+            } else {
+                fail(error, rt.alloc(), &failure)
+            }
+        }
     }
 }
 

@@ -83,6 +83,7 @@ fn line_of<'a>(name: &str, matches: &ArgMatches<'a>) -> CommandLine<'a> {
         task,
         kind,
         file: file_of(matches),
+        verbose: matches.get_flag("verbose"),
     }
 }
 

@@ -12,6 +12,7 @@
 mod batch;
 mod batch_writer;
 mod cause;
+mod column;
 mod document;
 mod items;
 mod key_form;
@@ -30,6 +31,7 @@ mod txn;
 pub use batch::read_batch;
 pub use batch_writer::write_batch;
 pub use cause::Cause;
+pub use column::column_of;
 pub use json::Scratch;
 pub use key_form::{put_key_form, read_key};
 pub use member::Member;
