@@ -4,3 +4,5 @@ pub mod Joining
 pub mod Appending
 pub mod Dropping
 pub mod NextOwed
+pub mod KeysGiven
+pub mod ReadFrames

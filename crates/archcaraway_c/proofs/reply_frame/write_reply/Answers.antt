@@ -1,9 +1,9 @@
-use Rattle.std.proofs.Common.{rules, ℕ, List, length, Some, refl, sym, subst, ◌∙◌}
+use Rattle.std.proofs.Common.{ℕ, List, length, Some, refl, sym, subst, ◌∙◌}
 use Rattle.keyspace.specs.declared.answer.Answer.TheVariants as answer
 use Rattle.wire.specs.Spelling.{SpellsReply}
 use Rattle.archcaraway_c.specs.declared.refusal.Refusal.{Refusal}
 use Rattle.archcaraway_c.specs.Given.{WriteRefuses}
-use Rattle.archcaraway_c.proofs.waiting.write_reply.Goals as goal
+use Rattle.archcaraway_c.proofs.reply_frame.write_reply.Goals as goal
 
 pub returns-in-Err-write_frame-clause-refused : goal.returns-in-Err-write_frame-clause-refused
 returns-in-Err-write_frame-clause-refused c =
@@ -20,13 +20,7 @@ returns-in-Err-write_frame-clause-refused c =
       ),
     )
 
-pub returns-clause-told : goal.returns-clause-told
-returns-clause-told c =
-    let reply = c.args.reply.now in
-    let written = c.in-Ok-write_frame.ensures.written in (
-      reply,
-      refl,
-      search rules,
-      c.in-Ok-write_frame.ensures.within,
-      subst (λ (bytes : List ℕ). SpellsReply bytes reply) (sym (written ∙ c.deref.ensures.value)) c.in-Ok.ensures.spelled,
-    )
+pub returns-in-Ok-write_frame-clause-spelled : goal.returns-in-Ok-write_frame-clause-spelled
+returns-in-Ok-write_frame-clause-spelled c =
+    subst (λ (bytes : List ℕ). SpellsReply bytes c.args.reply.now) (sym (c.in-Ok-write_frame.ensures.written ∙ c.deref.ensures.value))
+    c.in-Ok.ensures.spelled
