@@ -36,10 +36,12 @@ class Link:
         self.unanswered: dict[int, bytes] = {}  # by version, in the order of sending
         self.received = -1  # the answers up to this version have come
         self.ended = False
+        self.socket = socket.socket()
         self.connect()
 
     def connect(self) -> None:
         """Sends again what has no answer yet. The resolver gives the replies that it keeps."""
+        self.socket.close()
         deadline = time.monotonic() + PATIENCE
         while True:
             try:
@@ -57,10 +59,6 @@ class Link:
             self.outgoing += frame
         if self.ended:
             self.end()
-
-    def reconnect(self) -> None:
-        self.socket.close()
-        self.connect()
 
     def close(self) -> None:
         """Waits until the resolver has read everything."""
@@ -85,7 +83,7 @@ class Link:
         except BlockingIOError:
             pass
         except OSError:
-            self.reconnect()
+            self.connect()
 
     def read(self) -> list[Answer]:
         """Returns the answers that have come."""
@@ -96,9 +94,9 @@ class Link:
         except OSError:
             data = b""
         if not data:
-            self.reconnect()
+            self.connect()
         self.incoming += data
-        answers = []
+        answers: list[Answer] = []
         while len(self.incoming) >= 4:
             end = 4 + struct.unpack_from(">I", self.incoming)[0]
             if len(self.incoming) < end:
@@ -117,11 +115,6 @@ class Link:
         return awaited
 
 
-class Batch(NamedTuple):
-    frame: bytes
-    answers: dict[int, Answer]  # by shard
-
-
 def reply_text(reply: Reply) -> str:
     words = []
     for entry in reply.entries:
@@ -134,7 +127,7 @@ class Proxy:
     def __init__(self, number: int, points: SplitPoints, ports: list[int], drop: int) -> None:
         self.number, self.points, self.drop, self.answered = number, points, drop, 0
         self.links = [Link(number, port) for port in ports]
-        self.pending: dict[int, Batch] = {}
+        self.pending: dict[int, tuple[bytes, dict[int, Answer]]] = {}  # frame, answers by shard
         self.input = bytearray()
 
     def take(self) -> None:
@@ -146,26 +139,24 @@ class Proxy:
             frame = bytes(self.input[:end])
             del self.input[:end]
             version = int.from_bytes(frame[VERSION], "big", signed=True)
-            self.pending[version] = Batch(frame, {})
+            self.pending[version] = frame, {}
             for shard, link in enumerate(self.links):
                 link.send(version, self.points.clip(shard, frame))
 
-    def combined(self, batch: Batch) -> str:
-        """No shard's verdict counts if another shard has none."""
-        answers = [batch.answers[shard] for shard in range(len(self.links))]
-        kinds = {answer.kind for answer in answers}
-        if Kind.NEVER in kinds:
-            return "never"
-        if Kind.HELD in kinds:
-            return "held"
-        return reply_text(self.points.combine(batch.frame, [answer.frame for answer in answers]))
-
     def note(self, shard: int, answer: Answer) -> None:
-        batch = self.pending[answer.version]
-        batch.answers[shard] = answer
-        if len(batch.answers) == len(self.links):
-            del self.pending[answer.version]
-            print(self.number, answer.version, self.combined(batch), flush=True)
+        """No shard's verdict counts if another shard has none."""
+        frame, answers = self.pending[answer.version]
+        answers[shard] = answer
+        if len(answers) < len(self.links):
+            return
+        del self.pending[answer.version]
+        kinds = {each.kind for each in answers.values()}
+        if kinds == {Kind.REPLY}:
+            replies = [answers[number].frame for number in range(len(self.links))]
+            text = reply_text(self.points.combine(frame, replies))
+        else:
+            text = "never" if Kind.NEVER in kinds else "held"
+        print(self.number, answer.version, text, flush=True)
 
     def run(self) -> None:
         """Ends once all batches of the input are answered."""
@@ -196,7 +187,7 @@ class Proxy:
             self.note(shard, answer)
             self.answered += 1
             if self.drop and self.answered % self.drop == 0:
-                self.links[shard].reconnect()  # loses what is on its way in both directions
+                self.links[shard].connect()  # loses what is on its way in both directions
 
 
 if __name__ == "__main__":

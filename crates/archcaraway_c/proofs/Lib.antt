@@ -6,3 +6,4 @@ pub mod Dropping
 pub mod NextOwed
 pub mod KeysGiven
 pub mod ReadFrames
+pub mod Combining

@@ -1,6 +1,6 @@
 //! How every shard numbers the read ranges of a batch.
 
-ghost use Rattle.std.specs.Prelude.{◌≡◌, map, IfOk};
+ghost use Rattle.std.specs.Prelude.{◌≡◌, [], ◌∷◌, ◌++◌, length, IfOk, OnOk};
 ghost use Rattle.std.specs.List.{AllZip};
 ghost use Rattle.keyspace.specs.BatchRanges.{ranges_in};
 ghost use Rattle.serial.specs.Shards.{Shard, shards};
@@ -12,7 +12,7 @@ use crate::reach::{Reach, reaches_of};
 use crate::read_indices::ReadIndices;
 use crate::shard_tables::put_indices;
 use crate::split_points::SplitPoints;
-use keyspace::Batch;
+use keyspace::{Batch, TxnRef};
 use std::alloc::{AllocError, Global};
 
 /// Returns what [`clip_all`](crate::clip_all) returns as the `reads` of every shard, in the order
@@ -41,21 +41,43 @@ fn number_by(
     shard: usize,
     reaches: &[Reach],
 ) -> Result<ReadIndices, AllocError>
-    requires reaches { (owner : Shard)
+    requires told { (owner : Shard)
         × AllZip (IsTold owner shard) (ranges_in batch.now.txns) reaches.now }
     ensures numbered { IfOk result (λ reads. (owner : Shard)
         → AllZip (IsTold owner shard) (ranges_in batch.now.txns) reaches.now
         → AreNumbered owner batch.now reads) }
 {
     let mut indices = Vec::new(alloc);
-    let mut ends = Vec::with_capacity(alloc, batch.txns.len())?;
+    let mut ends = Vec::new(alloc);
     let mut rest = reaches;
     for index in 0..batch.txns.len() {
         let txn = batch.txns.txn(index);
         let (own, later) = rest.split_at(txn.reads.len() + txn.writes.len());
-        put_indices(&mut indices, shard, &own[..txn.reads.len()])?;
-        ends.push(indices.len())?;
+        put_numbers(&mut indices, &mut ends, shard, &txn, own)?;
         rest = later;
     }
     Ok(ReadIndices::new(indices, ends))
+}
+
+// Appends the indices of the read ranges of a transaction, and where they end. The reaches are those
+// of its read ranges, and then of its write ranges.
+fn put_numbers(
+    indices: &mut Vec<u16>,
+    ends: &mut Vec<usize>,
+    shard: usize,
+    txn: &TxnRef<'_>,
+    reaches: &[Reach],
+) -> Result<(), AllocError>
+    requires told { (owner : Shard)
+        × AllZip (IsTold owner shard) (txn.now.reads ++ txn.now.writes) reaches.now }
+    ensures put { OnOk result ((owner : Shard)
+        → AllZip (IsTold owner shard) (txn.now.reads ++ txn.now.writes) reaches.now
+        → (indices.new.items ≡ indices.old.items ++ read_indices owner txn.now)
+        × (ends.new.items ≡ ends.old.items
+        ++ length (indices.old.items ++ read_indices owner txn.now) ∷ [])) }
+{
+    let (reads, _) = reaches.split_at(txn.reads.len());
+    put_indices(indices, shard, reads)?;
+    ends.push(indices.len())?;
+    Ok(())
 }
