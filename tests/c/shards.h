@@ -5,7 +5,7 @@
 #include "archcaraway_shards.h"
 #include "chains.h"
 
-enum { ROOM = 200000 };
+enum { ROOM = 4194308 };
 
 static uint8_t buffer[ROOM];
 

@@ -7,3 +7,4 @@ pub mod NextOwed
 pub mod KeysGiven
 pub mod ReadFrames
 pub mod Combining
+pub mod Clipping

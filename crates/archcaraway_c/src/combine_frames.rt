@@ -63,7 +63,9 @@ fn read_replies(
     let mut rest = bytes;
     for reads in all {
         let (reply, count) = read_front(alloc, rest, each.len())?;
-        each.push(ShardReply { reply, reads })?;
+        let Ok(()) = each.push(ShardReply { reply, reads }) else {
+            return Err(CombineRefusal::Frame(Refusal::Wire(WireError::Memory)));
+        };
         rest = &rest[count..];
     }
     if !rest.is_empty() {

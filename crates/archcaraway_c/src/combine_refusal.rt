@@ -1,7 +1,7 @@
 //! Why replies aren't combined, and the number by which C sees it.
 
 ghost use Rattle.std.specs.Prelude.{◌≡◌};
-ghost use Rattle.wire.specs.declared.error.WireError.TheVariants as wire;
+ghost use Rattle.wire.specs.declared.error.WireError.TheVariants as fault;
 ghost use Rattle.archcaraway_c.specs.ShardFrames.{combine_status, misfit_status, combine_needed};
 ghost use Rattle.archcaraway_c.specs.ShardFrames.{bad_shard};
 ghost use Rattle.archcaraway_c.specs.declared.combine_refusal.CombineRefusal.TheVariants as refusal;
@@ -26,7 +26,7 @@ pub enum CombineRefusal {
 }
 
 impl From<AllocError> for CombineRefusal {
-    ghost from_gives = { λ _ e. e ≡ refusal.Frame (frame.Wire wire.Memory) };
+    ghost from_gives = { λ _ e. e ≡ refusal.Frame (frame.Wire fault.Memory) };
 
     fn from(_refused: AllocError) -> CombineRefusal {
         CombineRefusal::Frame(Refusal::Wire(WireError::Memory))

@@ -28,7 +28,9 @@ pub fn copy_keys(
             return Err(PointsRefusal::Argument);
         }
         let (key, later) = rest.split_at(*count);
-        keys.push(Key::copied(alloc, key)?)?;
+        let Ok(()) = keys.push(Key::copied(alloc, key)?) else {
+            return Err(PointsRefusal::Memory);
+        };
         rest = later;
     }
     Ok(keys)
