@@ -75,11 +75,7 @@ fn read_replies(
 }
 
 // Decodes the reply at the front, which is that of the shard, and returns it and its length.
-fn read_front(
-    alloc: Global,
-    bytes: &[u8],
-    shard: usize,
-) -> Result<(Reply, usize), CombineRefusal>
+fn read_front(alloc: Global, bytes: &[u8], shard: usize) -> Result<(Reply, usize), CombineRefusal>
     ensures within { IfOk result (λ found. found.1 ≤ length bytes.now) }
     ensures spelled { IfOk result (λ found. SpellsReply (take found.1 bytes.now) found.0) }
     ensures refused { IfErr result (λ refusal.
@@ -95,11 +91,7 @@ fn read_front(
 }
 
 // Combines replies, of which there is at least one.
-fn combine_each(
-    alloc: Global,
-    batch: &Batch,
-    each: &[ShardReply],
-) -> Result<Reply, CombineRefusal>
+fn combine_each(alloc: Global, batch: &Batch, each: &[ShardReply]) -> Result<Reply, CombineRefusal>
     ensures combined { IfOk result (λ reply. IsCombined batch.now each.now reply) }
     ensures refused { IfErr result (λ refusal.
         (refusal ≡ CombineRefusal.Frame (Refusal.Wire WireError.Memory))

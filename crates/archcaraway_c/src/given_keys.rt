@@ -10,11 +10,7 @@ use std::alloc::Global;
 /// Copies keys of these lengths, which lie one by one among the bytes. Returns `KeyLength` with the
 /// index of the first key that is too long, `Argument` if the bytes end before the keys do, or
 /// `Memory` if memory is refused, for the first key of which one holds.
-pub fn copy_keys(
-    alloc: Global,
-    bytes: &[u8],
-    lengths: &[usize],
-) -> Result<Vec<Key>, PointsRefusal>
+pub fn copy_keys(alloc: Global, bytes: &[u8], lengths: &[usize]) -> Result<Vec<Key>, PointsRefusal>
     ensures keys { IfOk result (λ keys. keys.items ≡ keys_given bytes.now lengths.now) }
     ensures refused { IfErr result (λ refusal. KeysRefuse bytes.now lengths.now refusal) }
 {

@@ -34,6 +34,6 @@ returns c = record {
       ∙ ap (λ (u : Txn). c.args.indices.now.items ++ places_from 0 (goes_to owner) u.reads) c.txn.view_is in (
         indices,
         c.in_ok-push.ensures.items
-        ∙ ap (λ (n : ℕ). c.args.ends.now.items ++ n ∷ []) (c.len-2.ensures ∙ c.put_indices.new.indices.ok.0 ∙ ap length indices),
+            ∙ ap (λ (n : ℕ). c.args.ends.now.items ++ n ∷ []) (c.len-2.ensures ∙ c.put_indices.new.indices.ok.0 ∙ ap length indices),
       );
 }
