@@ -104,7 +104,8 @@ int archcaraway_clip(const archcaraway_split_points *points, size_t shard, const
  *  - BUFFER, with the needed capacity in `*reply_length`
  *  - OK
  * FRAME_MEMORY may come instead of any but ARGUMENT. `*reply_length` is 0 after any other status.
- * With a status of a reply, `*bad` is its shard, else the number of shards. `bad` may be null.
+ * With a status of a reply, and if memory was refused while it was read, `*bad` is its shard, else
+ * the number of shards. `bad` may be null.
  *
  * A reply with the right version and the right number of transactions is believed. So the answers of
  * two resolvers must not be exchanged: keep a connection per resolver.

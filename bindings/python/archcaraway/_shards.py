@@ -18,6 +18,7 @@ class _Bytes(Structure):  # archcaraway_bytes
     _fields_ = [("bytes", c_char_p), ("length", c_size_t)]
 
 
+_MEMORY = 111  # FRAME_MEMORY: no fault of a reply
 _KEY, _SIZE = (c_char_p, c_size_t), POINTER(c_size_t)
 _HANDLE = POINTER(Handle)  # archcaraway_split_points
 for _name, (_result, *_parameters) in {
@@ -87,7 +88,7 @@ class SplitPoints(_Owner):
         try:
             return decode(self._fill("combine", frame, len(frame), stream, len(stream), (bad,)))
         except Error as refused:
-            if bad.value == self.shards:
+            if bad.value == self.shards or refused.status == _MEMORY:
                 raise
             error = ReplyError(refused.status)
             error.shard = bad.value

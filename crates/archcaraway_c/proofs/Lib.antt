@@ -8,3 +8,4 @@ pub mod KeysGiven
 pub mod ReadFrames
 pub mod Combining
 pub mod Clipping
+pub mod PointsRefused

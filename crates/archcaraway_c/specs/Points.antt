@@ -3,6 +3,8 @@ use Rattle.std.specs.Prelude.{ℕ, ℤ, pos, ◌<◌, ◌≤◌, List, [], ◌�
 use Rattle.keys.specs.declared.key.TheConstants.{MAX_KEY_LENGTH}
 use Rattle.shards.specs.SplitPoints.{IsFirstFall}
 use Rattle.shards.specs.declared.split_points.TheConstants.{MAX_SPLIT_POINTS}
+use Rattle.shards.specs.declared.error.SplitPointsError.{SplitPointsError}
+use Rattle.shards.specs.declared.error.SplitPointsError.TheVariants as error
 use Rattle.archcaraway_c.specs.declared.points_refusal.PointsRefusal.{PointsRefusal}
 use Rattle.archcaraway_c.specs.declared.points_refusal.PointsRefusal.TheVariants.{TooMany, NotRising, KeyLength, Argument, Memory}
 
@@ -28,6 +30,11 @@ PointsRefuse bytes lengths (KeyLength index) =
     (length lengths ≤ MAX_SPLIT_POINTS) × KeysRefuse bytes lengths (KeyLength index)
 PointsRefuse bytes lengths Argument = (length lengths ≤ MAX_SPLIT_POINTS) × KeysRefuse bytes lengths Argument
 PointsRefuse bytes lengths Memory = Unit {0}
+
+-- the refusal by the same name
+abbrev pub named : SplitPointsError → PointsRefusal
+named error.TooMany = TooMany
+named (error.NotRising index) = NotRising index
 
 -- the numbers by which C sees these refusals
 abbrev pub points_status : PointsRefusal → ℤ

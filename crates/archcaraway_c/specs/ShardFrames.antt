@@ -96,16 +96,30 @@ pub record IsCombinedReply (points : List (List ℕ)) (frame bytes : List ℕ) (
 abbrev pub IsCombinedFrame : List (List ℕ) → List ℕ → List ℕ → List ℕ → Type 0
 IsCombinedFrame points frame bytes out = (r : ReplyValue) × IsCombinedReply points frame bytes r × SpellsReply out r
 
--- Why the bytes aren't the frames of so many replies: one has this fault, bytes follow the last, or memory is refused.
+-- Why the bytes don't begin with the frame of a shard's reply: by the first fault that reading meets. Memory may be refused instead.
+abbrev pub FrontRefuses : ℕ → List ℕ → CombineRefusal → Type 0
+FrontRefuses number bytes (Reply shard fault) = (shard ≡ number) × ((fault ≡ wire.Memory) ⊎ (reply_fault bytes ≡ Some fault))
+FrontRefuses number bytes (Frame refusal) = ⊥
+FrontRefuses number bytes Behind = ⊥
+FrontRefuses number bytes (Misfit shard cause) = ⊥
+
+-- Why the bytes aren't the frames of so many replies: one is none, bytes follow the last, or memory is refused.
 abbrev pub RepliesRefuse : ℕ → List ℕ → CombineRefusal → Type 0
 RepliesRefuse count bytes (Frame refusal) = refusal ≡ refused.Wire wire.Memory
 RepliesRefuse count bytes (Reply shard fault) =
     (shard < count)
     × ((replies : List ReplyValue) × (rest : List ℕ) × (length replies ≡ shard) × AreRead bytes replies rest
-    × (reply_fault rest ≡ Some fault))
+    × FrontRefuses shard rest (Reply shard fault))
 RepliesRefuse count bytes Behind =
     (replies : List ReplyValue) × (rest : List ℕ) × (length replies ≡ count) × AreRead bytes replies rest × (0 < length rest)
 RepliesRefuse count bytes (Misfit shard cause) = ⊥
+
+-- Why replies to a batch have no combination: one isn't a reply to it, or memory is refused.
+abbrev pub EachRefuses : Batch → List ShardReply → CombineRefusal → Type 0
+EachRefuses b each (Frame refusal) = refusal ≡ refused.Wire wire.Memory
+EachRefuses b each (Misfit shard cause) = IsFirstMisfit b each shard cause
+EachRefuses b each (Reply shard fault) = ⊥
+EachRefuses b each Behind = ⊥
 
 -- Why replies aren't combined, given so many bytes for the frame: the frame of the batch is none, the replies are no frames, one of
 -- them isn't a reply to the batch, or the buffer is too small. Memory may be refused instead.

@@ -1,14 +1,10 @@
 //! The combination of the replies of all shards, from frames to a frame.
 
-ghost use Rattle.std.specs.Prelude.{◌≡◌, ◌≤◌, ◌⊎◌, ℕ, [], length, map, take, vec_len, Some};
-ghost use Rattle.std.specs.Prelude.{IfOk, IfErr};
-ghost use Rattle.keyspace.specs.declared.reply.Reply.{Reply as ReplyValue};
-ghost use Rattle.shards.specs.declared.error.Misfit.{Misfit as MisfitValue};
-ghost use Rattle.shards.specs.Combined.{IsCombined, IsFirstMisfit};
-ghost use Rattle.wire.specs.declared.error.WireError.{WireError as Fault};
-ghost use Rattle.wire.specs.Reading.{reply_fault};
+ghost use Rattle.std.specs.Prelude.{◌≡◌, ◌≤◌, [], length, map, take, vec_len, IfOk, IfErr};
+ghost use Rattle.shards.specs.Combined.{IsCombined};
 ghost use Rattle.wire.specs.Spelling.{SpellsReply};
-ghost use Rattle.archcaraway_c.specs.ShardFrames.{AreRead, RepliesRefuse};
+ghost use Rattle.archcaraway_c.specs.ShardFrames.{AreRead, FrontRefuses, RepliesRefuse};
+ghost use Rattle.archcaraway_c.specs.ShardFrames.{EachRefuses};
 ghost use Rattle.archcaraway_c.specs.ShardFrames.{IsCombinedFrame, CombineRefuses};
 
 use crate::batch_frame::decode_frame;
@@ -17,7 +13,7 @@ use crate::refusal::Refusal;
 use crate::reply_frame::write_reply;
 use keyspace::{Batch, Reply};
 use shards::{CombineError, ReadIndices, ShardReply, SplitPoints, combine, number_all};
-use std::alloc::Global;
+use std::alloc::{AllocError, Global};
 use wire::{WireError, decode_reply};
 
 /// Combines the replies of all shards to the batch of a frame, writes the frame of the combined
@@ -39,9 +35,18 @@ pub fn combine_frames(
         Ok(batch) => batch,
         Err(refusal) => return Err(CombineRefusal::Frame(refusal)),
     };
-    let all = number_all(alloc, &batch, points)?;
-    let each = read_replies(alloc, replies, all)?;
-    let reply = combine_each(alloc, &batch, &each)?;
+    let all = match number_all(alloc, &batch, points) {
+        Ok(all) => all,
+        Err(AllocError) => return Err(CombineRefusal::Frame(Refusal::Wire(WireError::Memory))),
+    };
+    let each = match read_replies(alloc, replies, all) {
+        Ok(each) => each,
+        Err(refusal) => return Err(refusal),
+    };
+    let reply = match combine_each(alloc, &batch, &each) {
+        Ok(reply) => reply,
+        Err(refusal) => return Err(refusal),
+    };
     match write_reply(alloc, &reply, buffer) {
         Ok(count) => Ok(count),
         Err(refusal) => Err(CombineRefusal::Frame(refusal)),
@@ -59,10 +64,13 @@ fn read_replies(
     ensures reads { IfOk result (λ each. map (λ s. s.reads) each.items ≡ all.items) }
     ensures refused { IfErr result (λ refusal. RepliesRefuse (vec_len all) bytes.now refusal) }
 {
-    let mut each = Vec::with_capacity(alloc, all.len())?;
+    let mut each = Vec::new(alloc);
     let mut rest = bytes;
     for reads in all {
-        let (reply, count) = read_front(alloc, rest, each.len())?;
+        let (reply, count) = match read_front(alloc, rest, each.len()) {
+            Ok(found) => found,
+            Err(refusal) => return Err(refusal),
+        };
         let Ok(()) = each.push(ShardReply { reply, reads }) else {
             return Err(CombineRefusal::Frame(Refusal::Wire(WireError::Memory)));
         };
@@ -78,14 +86,10 @@ fn read_replies(
 fn read_front(alloc: Global, bytes: &[u8], shard: usize) -> Result<(Reply, usize), CombineRefusal>
     ensures within { IfOk result (λ found. found.1 ≤ length bytes.now) }
     ensures spelled { IfOk result (λ found. SpellsReply (take found.1 bytes.now) found.0) }
-    ensures refused { IfErr result (λ refusal.
-        (refusal ≡ CombineRefusal.Frame (Refusal.Wire WireError.Memory))
-        ⊎ ((fault : Fault) × (refusal ≡ CombineRefusal.Reply shard fault)
-        × (reply_fault bytes.now ≡ Some fault))) }
+    ensures refused { IfErr result (λ refusal. FrontRefuses shard bytes.now refusal) }
 {
     match decode_reply(alloc, bytes) {
         Ok(found) => Ok(found),
-        Err(WireError::Memory) => Err(CombineRefusal::Frame(Refusal::Wire(WireError::Memory))),
         Err(fault) => Err(CombineRefusal::Reply(shard, fault)),
     }
 }
@@ -93,10 +97,7 @@ fn read_front(alloc: Global, bytes: &[u8], shard: usize) -> Result<(Reply, usize
 // Combines replies, of which there is at least one.
 fn combine_each(alloc: Global, batch: &Batch, each: &[ShardReply]) -> Result<Reply, CombineRefusal>
     ensures combined { IfOk result (λ reply. IsCombined batch.now each.now reply) }
-    ensures refused { IfErr result (λ refusal.
-        (refusal ≡ CombineRefusal.Frame (Refusal.Wire WireError.Memory))
-        ⊎ ((shard : ℕ) × (cause : MisfitValue) × (refusal ≡ CombineRefusal.Misfit shard cause)
-        × IsFirstMisfit batch.now each.now shard cause)) }
+    ensures refused { IfErr result (λ refusal. EachRefuses batch.now each.now refusal) }
 {
     match combine(alloc, batch, each) {
         Ok(reply) => Ok(reply),

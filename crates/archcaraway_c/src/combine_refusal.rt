@@ -1,15 +1,11 @@
 //! Why replies aren't combined, and the number by which C sees it.
 
 ghost use Rattle.std.specs.Prelude.{◌≡◌};
-ghost use Rattle.wire.specs.declared.error.WireError.TheVariants as fault;
 ghost use Rattle.archcaraway_c.specs.ShardFrames.{combine_status, misfit_status, combine_needed};
 ghost use Rattle.archcaraway_c.specs.ShardFrames.{bad_shard};
-ghost use Rattle.archcaraway_c.specs.declared.combine_refusal.CombineRefusal.TheVariants as refusal;
-ghost use Rattle.archcaraway_c.specs.declared.refusal.Refusal.TheVariants as frame;
 
 use crate::refusal::Refusal;
 use shards::Misfit;
-use std::alloc::AllocError;
 use wire::WireError;
 
 /// Why the replies of shards aren't combined.
@@ -23,14 +19,6 @@ pub enum CombineRefusal {
     Behind,
     /// The reply of this shard is the first that isn't one to the batch.
     Misfit(usize, Misfit),
-}
-
-impl From<AllocError> for CombineRefusal {
-    ghost from_gives = { λ _ e. e ≡ refusal.Frame (frame.Wire fault.Memory) };
-
-    fn from(_refused: AllocError) -> CombineRefusal {
-        CombineRefusal::Frame(Refusal::Wire(WireError::Memory))
-    }
 }
 
 impl CombineRefusal {

@@ -14,7 +14,7 @@ pub fn copy_keys(alloc: Global, bytes: &[u8], lengths: &[usize]) -> Result<Vec<K
     ensures keys { IfOk result (λ keys. keys.items ≡ keys_given bytes.now lengths.now) }
     ensures refused { IfErr result (λ refusal. KeysRefuse bytes.now lengths.now refusal) }
 {
-    let mut keys = Vec::with_capacity(alloc, lengths.len())?;
+    let mut keys = Vec::new(alloc);
     let mut rest = bytes;
     for (index, count) in lengths.iter().enumerate() {
         if *count > MAX_KEY_LENGTH {
@@ -23,8 +23,11 @@ pub fn copy_keys(alloc: Global, bytes: &[u8], lengths: &[usize]) -> Result<Vec<K
         if *count > rest.len() {
             return Err(PointsRefusal::Argument);
         }
-        let (key, later) = rest.split_at(*count);
-        let Ok(()) = keys.push(Key::copied(alloc, key)?) else {
+        let (front, later) = rest.split_at(*count);
+        let Ok(key) = Key::copied(alloc, front) else {
+            return Err(PointsRefusal::Memory);
+        };
+        let Ok(()) = keys.push(key) else {
             return Err(PointsRefusal::Memory);
         };
         rest = later;

@@ -11,9 +11,9 @@ use crate::clip_frame::clip_frame;
 use crate::combine_frames::combine_frames;
 use crate::combine_refusal::CombineRefusal;
 use crate::given_keys::copy_keys;
-use crate::points_refusal::PointsRefusal;
+use crate::points_refusal::{PointsRefusal, refusal_of_points};
 use crate::refusal::Refusal;
-use shards::{MAX_SPLIT_POINTS, SplitPoints, SplitPointsError};
+use shards::{MAX_SPLIT_POINTS, SplitPoints};
 use std::alloc::Global;
 use std::marker::Model;
 
@@ -48,14 +48,16 @@ impl PointsObject {
         if lengths.len() > MAX_SPLIT_POINTS {
             return Err(PointsRefusal::TooMany);
         }
-        let keys = copy_keys(alloc, bytes, lengths)?;
+        let keys = match copy_keys(alloc, bytes, lengths) {
+            Ok(keys) => keys,
+            Err(refusal) => return Err(refusal),
+        };
         match SplitPoints::checked(keys) {
             Ok(points) => {
                 points.shard_count();
                 Ok(PointsObject { alloc, points })
             }
-            Err(SplitPointsError::NotRising(index)) => Err(PointsRefusal::NotRising(index)),
-            Err(SplitPointsError::TooMany) => Err(PointsRefusal::TooMany),
+            Err(error) => Err(refusal_of_points(error)),
         }
     }
 
@@ -89,7 +91,8 @@ impl PointsObject {
     /// The first of these that holds decides. The bytes of the batch aren't one frame: `Frame` of
     /// `Wire` or `Behind`. From the front, a reply isn't a frame: `Reply`; bytes follow the last:
     /// `Behind`. From the front, a reply isn't one to the batch: `Misfit`. The buffer is too small:
-    /// `Frame` of `Buffer`. `Frame` of `Wire` of `Memory` may come instead.
+    /// `Frame` of `Buffer`. Memory may be refused instead: `Frame` of `Wire` of `Memory`, or `Reply`
+    /// of `Memory` while that reply is read.
     pub fn combine(
         &self,
         frame: &[u8],

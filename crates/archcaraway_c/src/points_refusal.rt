@@ -2,9 +2,9 @@
 
 ghost use Rattle.std.specs.Prelude.{◌≡◌};
 ghost use Rattle.archcaraway_c.specs.Points.{points_status, bad_key};
-ghost use Rattle.archcaraway_c.specs.declared.points_refusal.PointsRefusal.TheVariants as refusal;
+ghost use Rattle.archcaraway_c.specs.Points.{named};
 
-use std::alloc::AllocError;
+use shards::SplitPointsError;
 
 /// Why keys are refused as split points.
 #[derive(Clone, Copy, Debug, PartialEq, Eq)]
@@ -19,14 +19,6 @@ pub enum PointsRefusal {
     Argument,
     /// Memory was refused.
     Memory,
-}
-
-impl From<AllocError> for PointsRefusal {
-    ghost from_gives = { λ _ e. e ≡ refusal.Memory };
-
-    fn from(_refused: AllocError) -> PointsRefusal {
-        PointsRefusal::Memory
-    }
 }
 
 impl PointsRefusal {
@@ -51,5 +43,15 @@ impl PointsRefusal {
             PointsRefusal::NotRising(index) | PointsRefusal::KeyLength(index) => *index,
             _ => count,
         }
+    }
+}
+
+/// Returns the refusal of keys that are no split points.
+pub fn refusal_of_points(error: SplitPointsError) -> PointsRefusal
+    ensures refusal { result ≡ named error }
+{
+    match error {
+        SplitPointsError::TooMany => PointsRefusal::TooMany,
+        SplitPointsError::NotRising(index) => PointsRefusal::NotRising(index),
     }
 }

@@ -1,17 +1,74 @@
-use Rattle.std.proofs.Common.{◌≡◌, ◌∙◌, ◌++◌, ◌∷◌, ℕ, List, [], length, map, take, drop, refl, sym, ap, subst, append_assoc, append-nil, arith}
+use Rattle.std.proofs.Common.{◌≡◌, ◌<◌, ◌+◌, ◌∙◌, ◌++◌, ◌∷◌, ℕ, List, [], length, map, take, drop, refl, sym, ap, subst, append_assoc, append-nil, length-append, arith}
 use Rattle.std.specs.Vec.Iter.{into_iter_items}
-use Rattle.std.proofs.lemmas.List.{take-append-drop, map_push}
+use Rattle.std.proofs.lemmas.List.{take-append-drop, map_push, length-map}
 use Rattle.std.proofs.lemmas.Grind.{common_steps}
-use Rattle.keyspace.specs.declared.reply.Reply.{Reply}
+use Rattle.keyspace.specs.declared.reply.Reply.{Reply as ReplyValue}
 use Rattle.shards.specs.declared.shard_reply.ShardReply.{ShardReply}
-use Rattle.archcaraway_c.specs.ShardFrames.{AreRead, RepliesRefuse}
+use Rattle.archcaraway_c.specs.declared.refusal.Refusal.TheVariants as refused
+use Rattle.archcaraway_c.specs.ShardFrames.{AreRead}
+use Rattle.archcaraway_c.proofs.Combining.{front_refused}
 use Rattle.archcaraway_c.proofs.ReadFrames.{read_more}
 use Rattle.archcaraway_c.proofs.combine_frames.read_replies.Goals as goal
+
+reply_of : ShardReply → ReplyValue
+reply_of s = s.reply
+
+reads_of : ShardReply → List (List ℕ)
+reads_of s = s.reads
 
 pub loop-reads-init : goal.loop-reads-init
 loop-reads-init c = record {
   replies = subst (λ (items : List ShardReply). AreRead c.args.bytes.now (map (λ s. s.reply) items) c.args.bytes.now)
-      (sym c.in_ok-each.ensures.items) refl;
-  reads = ap (λ (items : List ShardReply). map (λ s. s.reads) items ++ into_iter_items c.into_iter-reads-iterator.result) c.in_ok-each.ensures.items
+      (sym c.new-each.ensures.items) refl;
+  reads = ap (λ (items : List ShardReply). map (λ s. s.reads) items ++ into_iter_items c.into_iter-reads-iterator.result) c.new-each.ensures.items
       ∙ c.into_iter-reads-iterator.ensures.into_iter_gives.0;
 }
+
+pub returns-in-Err-clause-refused : goal.returns-in-Err-clause-refused
+returns-in-Err-clause-refused c =
+    let each = c.loop-reads.each in
+    let long : length (map (λ (s : ShardReply). s.reply) each.items) ≡ c.len.result =
+    length-map each.items (λ (s : ShardReply). s.reply) ∙ sym each.ok.0 ∙ sym c.len.ensures in
+    let inside : c.len.result < c.args.all.len =
+    omega (
+      arith,
+      each.ok.0,
+      c.len.ensures,
+      c.args.all.ok.0,
+      ap length c.loop-reads.invariant.reads,
+      length-append (map (λ (s : ShardReply). s.reads) each.items) (into_iter_items c.loop-reads.reads-iterator),
+      length-map each.items (λ (s : ShardReply). s.reads),
+      ap length c.in-Some.ensures.steps.0,
+    ) in
+    front_refused _ c.args.bytes.now c.loop-reads.rest.now (map (λ s. s.reply) each.items) c.len.result c.in-Err.refusal long inside
+    c.loop-reads.invariant.replies c.in-Err.ensures.refused
+
+pub loop-reads-preserved : goal.loop-reads-preserved
+loop-reads-preserved c =
+    let each = c.loop-reads.each.items in
+    let rest = c.loop-reads.rest.now in
+    let reply = c.in-Ok.reply in
+    let count = c.in-Ok.count in
+    let reads = c.in-Some.reads in
+    let pushed : ShardReply = record { reply = reply; reads = reads } in
+    record {
+      replies = subst (λ (replies : List ReplyValue). AreRead c.args.bytes.now replies (drop count rest))
+          (sym (ap (map (λ (s : ShardReply). s.reply)) c.in-Ok-push.ensures.items ∙ map_push (λ (s : ShardReply). s.reply) each pushed))
+          (read_more c.args.bytes.now (map (λ s. s.reply) each) rest (take count rest) (drop count rest) reply
+          c.loop-reads.invariant.replies (sym (take-append-drop count rest)) c.in-Ok.ensures.spelled);
+      reads = ap (λ (items : List ShardReply). map (λ s. s.reads) items ++ into_iter_items c.next.new.self) c.in-Ok-push.ensures.items
+          ∙ ap (λ (items : List (List (List ℕ))). items ++ into_iter_items c.next.new.self) (map_push (λ (s : ShardReply). s.reads) each pushed)
+          ∙ append_assoc (map (λ (s : ShardReply). s.reads) each) (reads ∷ []) (into_iter_items c.next.new.self)
+          ∙ ap (λ (items : List (List (List ℕ))). map (λ (s : ShardReply). s.reads) each ++ items) (sym c.in-Some.ensures.steps.0)
+          ∙ c.loop-reads.invariant.reads;
+    }
+
+-- all have been read
+pub returns-then-is_empty-clause-refused : goal.returns-then-is_empty-clause-refused
+returns-then-is_empty-clause-refused c = ?
+
+pub returns-clause-replies : goal.returns-clause-replies
+returns-clause-replies c = ?
+
+pub returns-clause-reads : goal.returns-clause-reads
+returns-clause-reads c = ?
