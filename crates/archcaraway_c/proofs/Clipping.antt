@@ -23,9 +23,9 @@ clip_to points number frame batch clipped asked there =
 
 pub frame_refused : (points : List (List ℕ)) (number : ℕ) (frame : List ℕ) (capacity : ℕ) (refusal : Refusal)
     → number < length (shards points) → IsNoFrame frame refusal → ClipRefuses points number frame capacity refusal
-frame_refused points number frame capacity (Wire fault) inside no = (inside, inl no)
-frame_refused points number frame capacity Behind inside no = (inside, no)
-frame_refused points number frame capacity (Stop stop) inside no = absurd no
-frame_refused points number frame capacity Version inside no = absurd no
-frame_refused points number frame capacity Argument inside no = absurd no
-frame_refused points number frame capacity (Buffer needed) inside no = absurd no
+frame_refused points number frame capacity (Wire fault) inside bad = (inside, inl bad)
+frame_refused points number frame capacity Behind inside bad = (inside, bad)
+frame_refused points number frame capacity (Stop stop) inside bad = absurd bad
+frame_refused points number frame capacity Version inside bad = absurd bad
+frame_refused points number frame capacity Argument inside bad = absurd bad
+frame_refused points number frame capacity (Buffer needed) inside bad = absurd bad

@@ -1,5 +1,6 @@
 -- Keys that lie one by one among bytes.
 use Rattle.std.proofs.Common.{◌≡◌, ℕ, zero, suc, ◌+◌, ◌<◌, List, [], ◌∷◌, length, drop, get_or, refl, ap, ◌∙◌, arith}
+use Rattle.std.proofs.lemmas.List.Sums.{sum_by-cons}
 use Rattle.std.proofs.Math.Seq.{drop-cons}
 use Rattle.std.specs.Prelude.{sum, slice_get, IsSomeAnd}
 use Rattle.archcaraway_c.specs.Points.{keys_given}
@@ -17,7 +18,8 @@ drop_step lengths i inside =
 
 pub sum_step : (lengths : List ℕ) (i : ℕ) → i < length lengths
     → sum (drop i lengths) ≡ get_or lengths i 0 + sum (drop (i + 1) lengths)
-sum_step lengths i inside = ap sum (drop_step lengths i inside)
+sum_step lengths i inside =
+    ap sum (drop_step lengths i inside) ∙ sum_by-cons (λ (n : ℕ). n) (get_or lengths i 0) (drop (i + 1) lengths)
 
 pub long_key : (lengths : List ℕ) (i limit : ℕ) → i < length lengths → limit < get_or lengths i 0
     → IsSomeAnd (slice_get lengths i) (λ count. limit < count)

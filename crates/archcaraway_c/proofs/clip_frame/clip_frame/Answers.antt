@@ -11,17 +11,17 @@ use Rattle.archcaraway_c.proofs.clip_frame.clip_frame.Goals as goal
 
 pub returns-in-Err-clause-refused : goal.returns-in-Err-clause-refused
 returns-in-Err-clause-refused c =
-    let inside : c.args.shard < length (shards c.args.points.now) = omega (arith, c.if-shard.false, c.shard_count.ensures.count) in
+    let inside : c.args.shard < length (shards c.args.points.now) = omega (arith, c.if-shard-shard_count.false, c.shard_count.ensures.count) in
     frame_refused c.args.points.now c.args.shard c.args.frame.now (length c.args.buffer.now) c.in-Err.refusal inside c.in-Err.ensures.refused
 
 pub returns-in-Err-clip-clause-refused : goal.returns-in-Err-clip-clause-refused
 returns-in-Err-clip-clause-refused c =
-    let inside : c.args.shard < length (shards c.args.points.now) = omega (arith, c.if-shard.false, c.shard_count.ensures.count) in
+    let inside : c.args.shard < length (shards c.args.points.now) = omega (arith, c.if-shard-shard_count.false, c.shard_count.ensures.count) in
     (inside, inl (inl refl))
 
 pub returns-in-Err-encode_batch-clause-refused : goal.returns-in-Err-encode_batch-clause-refused
 returns-in-Err-encode_batch-clause-refused c =
-    let inside : c.args.shard < length (shards c.args.points.now) = omega (arith, c.if-shard.false, c.shard_count.ensures.count) in
+    let inside : c.args.shard < length (shards c.args.points.now) = omega (arith, c.if-shard-shard_count.false, c.shard_count.ensures.count) in
     let clip = clip_to c.args.points.now c.args.shard c.args.frame.now c.in-Ok.batch c.in-Ok-clip.clipped c.in-Ok.ensures.frame
     c.in-Ok-clip.ensures.clip in (
       inside,
@@ -31,9 +31,9 @@ returns-in-Err-encode_batch-clause-refused c =
       ],
     )
 
-pub returns-in-Err-write_frame-clause-refused : goal.returns-in-Err-write_frame-clause-refused
-returns-in-Err-write_frame-clause-refused c =
-    let inside : c.args.shard < length (shards c.args.points.now) = omega (arith, c.if-shard.false, c.shard_count.ensures.count) in
+pub returns-clause-refused : goal.returns-clause-refused
+returns-clause-refused c =
+    let inside : c.args.shard < length (shards c.args.points.now) = omega (arith, c.if-shard-shard_count.false, c.shard_count.ensures.count) in
     let clip = clip_to c.args.points.now c.args.shard c.args.frame.now c.in-Ok.batch c.in-Ok-clip.clipped c.in-Ok.ensures.frame
     c.in-Ok-clip.ensures.clip in
     let small = c.in-Err-write_frame.ensures.small in

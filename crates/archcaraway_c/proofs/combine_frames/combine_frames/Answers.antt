@@ -37,8 +37,8 @@ returns-in-Err-combine_each-clause-refused c =
     (subst (λ (all : List ShardReply). EachRefuses batch all c.in-Err-combine_each.refusal) c.deref.ensures.value
     c.in-Err-combine_each.ensures.refused)
 
-pub returns-in-Err-write_reply-clause-refused : goal.returns-in-Err-write_reply-clause-refused
-returns-in-Err-write_reply-clause-refused c =
+pub returns-clause-refused : goal.returns-clause-refused
+returns-clause-refused c =
     let points = c.args.points.now in
     let batch = c.in-Ok.batch in
     let each = c.in-Ok-read_replies.each.items in

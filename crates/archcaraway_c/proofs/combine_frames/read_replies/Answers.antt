@@ -1,4 +1,4 @@
-use Rattle.std.proofs.Common.{◌≡◌, ◌<◌, ◌+◌, ◌∙◌, ◌++◌, ◌∷◌, ℕ, List, [], length, map, take, drop, refl, sym, ap, subst, append_assoc, append-nil, length-append, arith}
+use Rattle.std.proofs.Common.{◌≡◌, ◌<◌, ◌+◌, ◌∙◌, ◌++◌, ◌∷◌, ℕ, List, [], length, map, take, drop, refl, sym, ap, subst, append_assoc, append-nil, length-append, rules, arith}
 use Rattle.std.specs.Vec.Iter.{into_iter_items}
 use Rattle.std.proofs.lemmas.List.{take-append-drop, map_push, length-map}
 use Rattle.std.proofs.lemmas.Grind.{common_steps}
@@ -9,12 +9,6 @@ use Rattle.archcaraway_c.specs.ShardFrames.{AreRead}
 use Rattle.archcaraway_c.proofs.Combining.{front_refused}
 use Rattle.archcaraway_c.proofs.ReadFrames.{read_more}
 use Rattle.archcaraway_c.proofs.combine_frames.read_replies.Goals as goal
-
-reply_of : ShardReply → ReplyValue
-reply_of s = s.reply
-
-reads_of : ShardReply → List (List ℕ)
-reads_of s = s.reads
 
 pub loop-reads-init : goal.loop-reads-init
 loop-reads-init c = record {
@@ -47,8 +41,8 @@ pub loop-reads-preserved : goal.loop-reads-preserved
 loop-reads-preserved c =
     let each = c.loop-reads.each.items in
     let rest = c.loop-reads.rest.now in
-    let reply = c.in-Ok.reply in
-    let count = c.in-Ok.count in
+    let reply = c.in-Ok.found.0 in
+    let count = c.in-Ok.found.1 in
     let reads = c.in-Some.reads in
     let pushed : ShardReply = record { reply = reply; reads = reads } in
     record {
@@ -64,11 +58,38 @@ loop-reads-preserved c =
     }
 
 -- all have been read
-pub returns-then-is_empty-clause-refused : goal.returns-then-is_empty-clause-refused
-returns-then-is_empty-clause-refused c = ?
+pub returns-then-not-is_empty-clause-refused : goal.returns-then-not-is_empty-clause-refused
+returns-then-not-is_empty-clause-refused c =
+    let each = c.loop-reads.each.items in
+    let none : into_iter_items c.loop-reads.reads-iterator ≡ [] = first_of (search rules, grind (arith, common_steps)) in
+    let some : 0 < length c.loop-reads.rest.now = first_of (search rules, grind (arith, common_steps)) in (
+      map (λ (s : ShardReply). s.reply) each,
+      c.loop-reads.rest.now,
+      omega (
+        arith,
+        c.args.all.ok.0,
+        ap length none,
+        ap length c.loop-reads.invariant.reads,
+        length-append (map (λ (s : ShardReply). s.reads) each) (into_iter_items c.loop-reads.reads-iterator),
+        length-map each (λ (s : ShardReply). s.reads),
+        length-map each (λ (s : ShardReply). s.reply),
+      ),
+      c.loop-reads.invariant.replies,
+      some,
+    )
+
+empty_list : (xs : List ℕ) → length xs ≡ 0 → xs ≡ []
+empty_list [] none = refl
+empty_list (x ∷ xs) none = absurd (omega (arith, none))
 
 pub returns-clause-replies : goal.returns-clause-replies
-returns-clause-replies c = ?
+returns-clause-replies c =
+    let none : length c.loop-reads.rest.now ≡ 0 = first_of (search rules, grind (arith, common_steps)) in
+    subst (λ (rest : List ℕ). AreRead c.args.bytes.now (map (λ (s : ShardReply). s.reply) c.loop-reads.each.items) rest)
+    (empty_list c.loop-reads.rest.now none) c.loop-reads.invariant.replies
 
 pub returns-clause-reads : goal.returns-clause-reads
-returns-clause-reads c = ?
+returns-clause-reads c =
+    let read = map (λ (s : ShardReply). s.reads) c.loop-reads.each.items in
+    let none : into_iter_items c.loop-reads.reads-iterator ≡ [] = first_of (search rules, grind (arith, common_steps)) in
+    sym (append-nil read) ∙ ap (λ (rest : List (List (List ℕ))). read ++ rest) (sym none) ∙ c.loop-reads.invariant.reads

@@ -5,8 +5,8 @@ use Rattle.archcaraway_c.specs.declared.refusal.Refusal.{Refusal}
 use Rattle.archcaraway_c.specs.Given.{WriteRefuses}
 use Rattle.archcaraway_c.proofs.reply_frame.write_reply.Goals as goal
 
-pub returns-in-Err-write_frame-clause-refused : goal.returns-in-Err-write_frame-clause-refused
-returns-in-Err-write_frame-clause-refused c =
+pub returns-clause-refused : goal.returns-clause-refused
+returns-clause-refused c =
     let reply = c.args.reply.now in
     let small = c.in-Err-write_frame.ensures.small in
     subst (λ (r : Refusal). WriteRefuses (Some (answer.Reply reply)) (length c.args.buffer.now) r) (sym small.0) (
