@@ -74,7 +74,8 @@ fn read_replies(
         let Ok(()) = each.push(ShardReply { reply, reads }) else {
             return Err(CombineRefusal::Frame(Refusal::Wire(WireError::Memory)));
         };
-        rest = &rest[count..];
+        let (_, later) = rest.split_at(count);
+        rest = later;
     }
     if !rest.is_empty() {
         return Err(CombineRefusal::Behind);

@@ -45,11 +45,14 @@ loop-reads-preserved c =
     let count = c.in-Ok.found.1 in
     let reads = c.in-Some.reads in
     let pushed : ShardReply = record { reply = reply; reads = reads } in
+    let later = c.split_at.result.1.now in
+    let parts : rest ≡ take count rest ++ later =
+    sym (take-append-drop count rest) ∙ ap (λ (back : List ℕ). take count rest ++ back) (sym c.split_at.ensures.back) in
     record {
-      replies = subst (λ (replies : List ReplyValue). AreRead c.args.bytes.now replies (drop count rest))
+      replies = subst (λ (replies : List ReplyValue). AreRead c.args.bytes.now replies later)
           (sym (ap (map (λ (s : ShardReply). s.reply)) c.in-Ok-push.ensures.items ∙ map_push (λ (s : ShardReply). s.reply) each pushed))
-          (read_more c.args.bytes.now (map (λ s. s.reply) each) rest (take count rest) (drop count rest) reply
-          c.loop-reads.invariant.replies (sym (take-append-drop count rest)) c.in-Ok.ensures.spelled);
+          (read_more c.args.bytes.now (map (λ s. s.reply) each) rest (take count rest) later reply
+          c.loop-reads.invariant.replies parts c.in-Ok.ensures.spelled);
       reads = ap (λ (items : List ShardReply). map (λ s. s.reads) items ++ into_iter_items c.next.new.self) c.in-Ok-push.ensures.items
           ∙ ap (λ (items : List (List (List ℕ))). items ++ into_iter_items c.next.new.self) (map_push (λ (s : ShardReply). s.reads) each pushed)
           ∙ append_assoc (map (λ (s : ShardReply). s.reads) each) (reads ∷ []) (into_iter_items c.next.new.self)
