@@ -87,7 +87,7 @@ uninstall:
 library-test: library
 	.ci/library-test
 
-# Tests the library of BUILT in each language: C, C++, Python, Go, Rust; their examples, and the snippets of docs/EMBEDDING.md.
+# Tests the library of BUILT in each language: C, C++, Python, Go, Rust; their examples, and the snippets of documents.
 languages-test:
 	.ci/languages-test
 
@@ -124,7 +124,7 @@ check:
 test:
 	rt ci
 
-# Tries the edits of edits/, which `make test` leaves out: all, or those of CRATES='NAME..'. Best after `make check`.
+# Tries the edits of edits/, which `make test` leaves out: all, or those of CRATES='NAME..'. Best after `make test`, whose proofs it takes.
 more-edits:
 	.ci/more-edits $(CRATES)
 

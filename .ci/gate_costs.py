@@ -130,7 +130,7 @@ def landed(rows: Iterable[Row]) -> dict[str, Cost]:
 
 
 def proved(costs: Mapping[str, Cost]) -> dict[str, Cost]:
-    """Returns the crates that were proved in this run. The others are kept from earlier runs."""
+    """Returns the crates of which a proof took time in this run."""
     return {crate: cost for crate, cost in costs.items() if cost.proof > 0}
 
 
@@ -170,7 +170,7 @@ def comparison(costs: Mapping[str, Cost], before: Mapping[str, Cost], table: str
     if kept:
         minutes = full_seconds(costs, before) / 60
         lines.append(
-            f"crates kept from earlier runs, not compared: {len(kept)};"
+            f"crates not proved in this run, so not compared: {len(kept)};"
             f" with their figures from {table}, {minutes:.1f} minutes in all"
         )
     return lines

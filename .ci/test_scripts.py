@@ -5,6 +5,7 @@ import importlib.machinery
 import importlib.util
 import pathlib
 import sys
+import tempfile
 import types
 import unittest
 
@@ -189,7 +190,7 @@ class Comparison(unittest.TestCase):
             lines,
             [
                 "crates proved in this run: 1, 3.0 minutes (gate.csv: 2.0)",
-                "crates kept from earlier runs, not compared: 3;"
+                "crates not proved in this run, so not compared: 3;"
                 " with their figures from gate.csv, 8.0 minutes in all",
             ],
         )
@@ -234,11 +235,12 @@ rt: must-fail wire/form.edit: BAD EDIT: it did not reach the prover; the first l
 src/form.rt:1:1: error[E1]: no such name
 rt: must-fail wire/last.edit: NOT TRIED: its check was killed
 rt: a line of something else
+4 passed, 2 failed (keys wire and the crates below alone: not the gate)
 """
 
 
 class MoreEdits(unittest.TestCase):
-    """What `rt must-fail` prints, and which crates are copied."""
+    """What `rt` prints of edits, and what is copied."""
 
     def test_results(self) -> None:
         found = more_edits.parse_results(SAID)
@@ -254,6 +256,7 @@ class MoreEdits(unittest.TestCase):
         )
         self.assertEqual(found[0].reason, ": src/tie.rt:3:1: error: ensures sorted")
         self.assertTrue(found[3].reason.endswith("\n  src/form.rt:1:1: error[E1]: no such name"))
+        self.assertEqual(found[4].reason, ": its check was killed")
 
     def test_summary(self) -> None:
         found = more_edits.parse_results(SAID)
@@ -265,6 +268,16 @@ class MoreEdits(unittest.TestCase):
         self.assertEqual(
             more_edits.summary(found[:1]), "1 edits: 1 refused, 0 not refused, 0 bad"
         )
+
+    def test_paths_to_copy(self) -> None:
+        with tempfile.TemporaryDirectory() as folder:
+            crates = pathlib.Path(folder)
+            for part in ("keys/src", "keys/out", "wire/must-fail", "wire/src", "wire/specs"):
+                (crates / part).mkdir(parents=True)
+            self.assertEqual(
+                more_edits.paths_to_copy(crates),
+                ["crates.txt", "HANDLES", "crates/keys/src", "crates/wire/specs", "crates/wire/src"],
+            )
 
     def test_edit_without_result(self) -> None:
         edits = ["keys/lost", "keys/tie"]

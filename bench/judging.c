@@ -1,11 +1,13 @@
 // SPDX-License-Identifier: Apache-2.0
-// Times a set on batches of small transactions: by frames, which it writes and whose replies it reads, and by values.
+// Times a set on batches of small transactions: by frames, which it writes and whose replies it reads; by one call of values; and by
+// values that are added to a batch, which is used again.
 //
-//     judging [TRANSACTIONS [BATCHES [ROUNDS [KEYS]]]]
+//     judging [TRANSACTIONS [BATCHES [ROUNDS [KEYS [READS [WRITES]]]]]]
 //
-// A transaction reads two of KEYS keys and writes two, of 16 bytes each. Both ways judge the same chain, each by its own set, in turn;
-// of ROUNDS rounds the fastest counts. It prints the microseconds per transaction of both, and their quotient; and of frames the part
-// for writing them, decoding them and reading the replies, without which there would be no less to do by values.
+// A transaction reads two of KEYS keys and writes two, or READS and WRITES of them, of 16 bytes each. All ways judge the same chain,
+// each by its own set, in turn; of ROUNDS rounds the fastest counts. It prints the microseconds per transaction of each, and the
+// quotients by that of frames; and of frames the part for writing them, decoding them and reading the replies, without which there
+// would be no less to do by values.
 //     cc -O2 -Iinclude bench/judging.c out/quick/libarchcaraway.a -o judging
 #include <inttypes.h>
 #include <stdio.h>
@@ -14,7 +16,7 @@
 
 #include "archcaraway_frames.h"
 
-enum { KEY = 16, READS = 2, WRITES = 2, RANGES = READS + WRITES };
+enum { KEY = 16 };
 
 static void demand(bool holds, const char *what) {
     if (holds) return;
@@ -37,13 +39,13 @@ static uint64_t random_below(uint64_t *state, uint64_t limit) {
 typedef struct {
     uint8_t (*keys)[KEY];
     int64_t version, snapshot;
-    size_t count, choice;
+    size_t count, choice, reads, ranges;
 } Drawn;
 
 static void draw(Drawn *drawn, uint64_t *state) {
     drawn->version += 1000;
     drawn->snapshot = drawn->version > 5000 ? drawn->version - 5000 : 0;
-    for (size_t i = 0; i < drawn->count * RANGES; i++) {
+    for (size_t i = 0; i < drawn->count * drawn->ranges; i++) {
         char text[KEY + 1];
         snprintf(text, sizeof text, "key/%012" PRIu64, random_below(state, drawn->choice));
         memcpy(drawn->keys[i], text, KEY);
@@ -61,8 +63,9 @@ static void by_frame(archcaraway_set *set, archcaraway_writer *writer, uint8_t *
     archcaraway_batch_begin(writer, -1, drawn->version, -1);
     for (size_t t = 0; t < drawn->count; t++) {
         archcaraway_batch_transaction(writer, drawn->snapshot, false);
-        for (int r = 0; r < READS; r++) archcaraway_batch_read_key(writer, drawn->keys[RANGES * t + r], KEY);
-        for (int w = READS; w < RANGES; w++) archcaraway_batch_write_key(writer, drawn->keys[RANGES * t + w], KEY);
+        uint8_t(*keys)[KEY] = drawn->keys + drawn->ranges * t;
+        for (size_t r = 0; r < drawn->reads; r++) archcaraway_batch_read_key(writer, keys[r], KEY);
+        for (size_t w = drawn->reads; w < drawn->ranges; w++) archcaraway_batch_write_key(writer, keys[w], KEY);
     }
     demand(archcaraway_batch_end(writer) == 0, "a frame");
     double written = now();
@@ -74,36 +77,55 @@ static void by_frame(archcaraway_set *set, archcaraway_writer *writer, uint8_t *
     reading += now() - resolved;
 }
 
-static void by_value(archcaraway_set *set, archcaraway_range *ranges, archcaraway_txn *txns, const Drawn *drawn, uint8_t *verdicts) {
-    for (size_t i = 0; i < drawn->count * RANGES; i++) {
+// Points to the drawn keys.
+static void borrow(archcaraway_range *ranges, archcaraway_txn *txns, const Drawn *drawn) {
+    for (size_t i = 0; i < drawn->count * drawn->ranges; i++) {
         ranges[i].begin.bytes = drawn->keys[i];
         ranges[i].begin.length = KEY;
         ranges[i].single = true;
     }
     for (size_t t = 0; t < drawn->count; t++) {
-        archcaraway_txn txn = {drawn->snapshot, &ranges[RANGES * t], READS, &ranges[RANGES * t + READS], WRITES, false};
+        const archcaraway_range *reads = ranges + drawn->ranges * t, *writes = reads + drawn->reads;
+        archcaraway_txn txn = {drawn->snapshot, reads, drawn->reads, writes, drawn->ranges - drawn->reads, false};
         txns[t] = txn;
     }
+}
+
+static void by_value(archcaraway_set *set, archcaraway_range *ranges, archcaraway_txn *txns, const Drawn *drawn, uint8_t *verdicts) {
+    borrow(ranges, txns, drawn);
     demand(archcaraway_set_judge(set, drawn->version, txns, drawn->count, verdicts, NULL) == 0, "verdicts");
+}
+
+static void by_batch(archcaraway_set *set, archcaraway_batch *batch, archcaraway_range *ranges, archcaraway_txn *txns,
+                     const Drawn *drawn, uint8_t *verdicts) {
+    borrow(ranges, txns, drawn);
+    archcaraway_batch_clear(batch);
+    for (size_t t = 0; t < drawn->count; t++) demand(archcaraway_batch_add(batch, &txns[t]) == 0, "a transaction");
+    demand(archcaraway_set_judge_batch(set, drawn->version, batch, verdicts, drawn->count) == 0, "verdicts");
 }
 
 int main(int words, char **word) {
     const size_t count = words > 1 ? strtoull(word[1], NULL, 10) : 64, batches = words > 2 ? strtoull(word[2], NULL, 10) : 2000;
     const int rounds = words > 3 ? atoi(word[3]) : 5;
     const size_t choice = words > 4 ? strtoull(word[4], NULL, 10) : 100000;
-    uint8_t *buffer = malloc(ARCHCARAWAY_MAX_REPLY), *one = malloc(count), *two = malloc(count);
-    archcaraway_range *ranges = calloc(count * RANGES, sizeof *ranges);
+    const size_t reads = words > 5 ? strtoull(word[5], NULL, 10) : 2, writes = words > 6 ? strtoull(word[6], NULL, 10) : 2;
+    const size_t all = count * (reads + writes);
+    uint8_t *buffer = malloc(ARCHCARAWAY_MAX_REPLY), *one = malloc(count), *two = malloc(count), *three = malloc(count);
+    archcaraway_range *ranges = calloc(all, sizeof *ranges);
     archcaraway_txn *txns = calloc(count, sizeof *txns);
-    Drawn drawn = {malloc(count * RANGES * KEY), 0, 0, count, choice};
-    demand(buffer && one && two && ranges && txns && drawn.keys, "memory");
-    double least_frames = 1e9, least_values = 1e9;
+    Drawn drawn = {malloc(all * KEY), 0, 0, count, choice, reads, reads + writes};
+    demand(buffer && one && two && three && ranges && txns && drawn.keys, "memory");
+    double least_frames = 1e9, least_values = 1e9, least_again = 1e9;
     for (int round = 0; round < rounds; round++) {
-        archcaraway_set a = ARCHCARAWAY_NONE, b = ARCHCARAWAY_NONE;
+        archcaraway_set a = ARCHCARAWAY_NONE, b = ARCHCARAWAY_NONE, c = ARCHCARAWAY_NONE;
+        archcaraway_batch batch = ARCHCARAWAY_NONE;
         archcaraway_writer writer = archcaraway_writer_new(archcaraway_grow_malloc, NULL);
         uint64_t state = 1;
-        double frames = 0, values = 0;
+        double frames = 0, values = 0, again = 0;
         demand(archcaraway_set_new(ARCHCARAWAY_WINDOW, ARCHCARAWAY_LIMIT, &a) == 0, "a set");
         demand(archcaraway_set_new(ARCHCARAWAY_WINDOW, ARCHCARAWAY_LIMIT, &b) == 0, "a set");
+        demand(archcaraway_set_new(ARCHCARAWAY_WINDOW, ARCHCARAWAY_LIMIT, &c) == 0, "a set");
+        demand(archcaraway_batch_new(&batch) == 0, "a batch");
         drawn.version = 0;
         for (size_t i = 0; i < batches; i++) {
             draw(&drawn, &state);
@@ -117,23 +139,31 @@ int main(int words, char **word) {
             double decoded = now();
             decoding += decoded - middle;
             by_value(&b, ranges, txns, &drawn, two);
+            double judged = now();
+            by_batch(&c, &batch, ranges, txns, &drawn, three);
             double end = now();
             frames += middle - start;
-            values += end - decoded;
-            demand(memcmp(one, two, count) == 0, "the same verdicts");
+            values += judged - decoded;
+            again += end - judged;
+            demand(memcmp(one, two, count) == 0 && memcmp(one, three, count) == 0, "the same verdicts");
         }
         if (frames < least_frames) least_frames = frames;
         if (values < least_values) least_values = values;
+        if (again < least_again) least_again = again;
         archcaraway_writer_free(&writer);
         archcaraway_set_free(&a);
         archcaraway_set_free(&b);
+        archcaraway_set_free(&c);
+        archcaraway_batch_free(&batch);
     }
     const double each = 1e6 / (double)(count * batches);
-    printf("%zu transactions a batch: %.3f us each by frames, %.3f by values, quotient %.2f\n", count, each * least_frames,
-           each * least_values, least_values / least_frames);
+    printf("%zu transactions a batch: %.3f us each by frames; %.3f by values, quotient %.2f; %.3f in a batch that is used again, "
+           "quotient %.2f\n",
+           count, each * least_frames, each * least_values, least_values / least_frames, each * least_again,
+           least_again / least_frames);
     const double part = each / rounds;
     printf("of frames, on average: %.3f us for writing, %.3f for decoding and ranking, %.3f for reading replies\n",
            part * writing, part * decoding, part * reading);
-    free(buffer), free(one), free(two), free(ranges), free(txns), free(drawn.keys);
+    free(buffer), free(one), free(two), free(three), free(ranges), free(txns), free(drawn.keys);
     return 0;
 }

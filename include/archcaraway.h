@@ -6,7 +6,7 @@
  * chain of versions of many proxies: it holds batches that come too early, answers repeats, and
  * owes each proxy its answers in order. A batch is given as one frame, of either version of the
  * wire form, and a reply comes as one frame. docs/WIRE.md has the form, archcaraway_frames.h writes
- * and reads it, docs/EMBEDDING.md says how to link and what is proved.
+ * and reads it, docs/EMBEDDING.md says how to link, docs/C-API.md what holds for all calls.
  *
  * What the caller promises, in every call:
  *  - A handle was filled by a call of this library that creates a set or a core, with status 0, and

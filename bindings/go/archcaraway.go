@@ -54,6 +54,12 @@ func check(status C.int) error {
 // patch.
 func Version() int { return int(C.archcaraway_version()) }
 
+// Takes a lock, and returns what gives it back.
+func lock(mutex *sync.Mutex) func() {
+	mutex.Lock()
+	return mutex.Unlock
+}
+
 // The bytes as C sees them. C keeps no pointer to them.
 func pointer(bytes []byte) *C.uint8_t {
 	if len(bytes) == 0 {
@@ -88,8 +94,7 @@ func NewSetAt(window int64, limit uint64, version int64) (*Set, error) {
 
 // Close frees the set. Later calls return Argument; closing it again does nothing.
 func (s *Set) Close() {
-	s.mutex.Lock()
-	defer s.mutex.Unlock()
+	defer lock(&s.mutex)()
 	C.archcaraway_set_free(&s.handle)
 }
 
@@ -114,8 +119,7 @@ func (s *Set) Resolve(batch []byte) ([]byte, error) {
 
 // Boundaries returns the number of boundaries that the set keeps; 0 if it is closed.
 func (s *Set) Boundaries() uint64 {
-	s.mutex.Lock()
-	defer s.mutex.Unlock()
+	defer lock(&s.mutex)()
 	return uint64(C.archcaraway_set_boundaries(&s.handle))
 }
 
@@ -133,8 +137,7 @@ func statsOf(stats C.archcaraway_stats) Stats {
 
 // Stats returns the boundaries, the limit, the version and the edge of the set.
 func (s *Set) Stats() (Stats, error) {
-	s.mutex.Lock()
-	defer s.mutex.Unlock()
+	defer lock(&s.mutex)()
 	var stats C.archcaraway_stats
 	err := check(C.archcaraway_set_stats(&s.handle, &stats))
 	return statsOf(stats), err
@@ -186,31 +189,27 @@ func NewCoreAt(proxies uint32, window int64, limit uint64, version int64) (*Core
 
 // Close frees the core. Later calls return Argument; closing it again does nothing.
 func (c *Core) Close() {
-	c.mutex.Lock()
-	defer c.mutex.Unlock()
+	defer lock(&c.mutex)()
 	C.archcaraway_core_free(&c.handle)
 }
 
 // Admit takes the batch of a frame from a proxy. After a stop the core takes no more; after another
 // error it is as before.
 func (c *Core) Admit(proxy uint32, batch []byte) error {
-	c.mutex.Lock()
-	defer c.mutex.Unlock()
+	defer lock(&c.mutex)()
 	return check(C.archcaraway_core_admit(&c.handle, C.uint32_t(proxy), pointer(batch),
 		C.size_t(len(batch))))
 }
 
 // Finish answers every batch that is still held.
 func (c *Core) Finish() error {
-	c.mutex.Lock()
-	defer c.mutex.Unlock()
+	defer lock(&c.mutex)()
 	return check(C.archcaraway_core_finish(&c.handle))
 }
 
 // Give returns the oldest answer owed to a proxy. It continues after a stop.
 func (c *Core) Give(proxy uint32) (Answer, error) {
-	c.mutex.Lock()
-	defer c.mutex.Unlock()
+	defer lock(&c.mutex)()
 	frame := make([]byte, 256)
 	for {
 		var length C.size_t
@@ -227,15 +226,13 @@ func (c *Core) Give(proxy uint32) (Answer, error) {
 
 // Owed returns the number of answers owed to all proxies; 0 if the core is closed.
 func (c *Core) Owed() uint64 {
-	c.mutex.Lock()
-	defer c.mutex.Unlock()
+	defer lock(&c.mutex)()
 	return uint64(C.archcaraway_core_owed(&c.handle))
 }
 
 // Next returns the lowest proxy that is owed an answer, if any is.
 func (c *Core) Next() (proxy uint32, owed bool) {
-	c.mutex.Lock()
-	defer c.mutex.Unlock()
+	defer lock(&c.mutex)()
 	var number C.uint32_t
 	owed = C.archcaraway_core_next(&c.handle, &number) != 0
 	return uint32(number), owed
@@ -243,8 +240,7 @@ func (c *Core) Next() (proxy uint32, owed bool) {
 
 // Stats returns those of the core's set, the batches that it holds, and the answers that it owes.
 func (c *Core) Stats() (Stats, error) {
-	c.mutex.Lock()
-	defer c.mutex.Unlock()
+	defer lock(&c.mutex)()
 	var stats C.archcaraway_stats
 	err := check(C.archcaraway_core_stats(&c.handle, &stats))
 	return statsOf(stats), err
@@ -252,7 +248,6 @@ func (c *Core) Stats() (Stats, error) {
 
 // Stop returns the stop that the core has met, or nil.
 func (c *Core) Stop() error {
-	c.mutex.Lock()
-	defer c.mutex.Unlock()
+	defer lock(&c.mutex)()
 	return check(C.archcaraway_core_stop(&c.handle))
 }

@@ -42,10 +42,10 @@ func (b *Batch) Encode() ([]byte, error) {
 	for _, each := range b.Transactions {
 		C.archcaraway_batch_transaction(&writer, C.int64_t(each.Snapshot), C.bool(each.Report))
 		for _, read := range each.Reads {
-			addRead(&writer, read)
+			put(&writer, read, true)
 		}
 		for _, write := range each.Writes {
-			addWrite(&writer, write)
+			put(&writer, write, false)
 		}
 	}
 	if err := check(C.archcaraway_batch_end(&writer)); err != nil {
@@ -54,20 +54,16 @@ func (b *Batch) Encode() ([]byte, error) {
 	return C.GoBytes(unsafe.Pointer(writer.bytes), C.int(writer.length)), nil
 }
 
-func addRead(writer *C.archcaraway_writer, r Range) {
+func put(writer *C.archcaraway_writer, r Range, isRead bool) {
 	begin, end := C.size_t(len(r.Begin)), C.size_t(len(r.End))
-	if r.IsKey {
+	switch {
+	case r.IsKey && isRead:
 		C.archcaraway_batch_read_key(writer, pointer(r.Begin), begin)
-	} else {
-		C.archcaraway_batch_read(writer, pointer(r.Begin), begin, pointer(r.End), end)
-	}
-}
-
-func addWrite(writer *C.archcaraway_writer, r Range) {
-	begin, end := C.size_t(len(r.Begin)), C.size_t(len(r.End))
-	if r.IsKey {
+	case r.IsKey:
 		C.archcaraway_batch_write_key(writer, pointer(r.Begin), begin)
-	} else {
+	case isRead:
+		C.archcaraway_batch_read(writer, pointer(r.Begin), begin, pointer(r.End), end)
+	default:
 		C.archcaraway_batch_write(writer, pointer(r.Begin), begin, pointer(r.End), end)
 	}
 }

@@ -8,8 +8,21 @@ from ctypes import c_uint32, c_uint64, c_void_p
 from pathlib import Path
 
 
-class Handle(Structure):  # archcaraway_set and archcaraway_core
+class Handle(Structure):  # archcaraway_set, archcaraway_core and archcaraway_batch
     _fields_ = [("at", c_void_p)]
+
+
+class KeyRecord(Structure):  # archcaraway_bytes
+    _fields_ = [("bytes", c_char_p), ("length", c_size_t)]
+
+
+class RangeRecord(Structure):  # archcaraway_range
+    _fields_ = [("begin", KeyRecord), ("end", KeyRecord), ("single", c_bool)]
+
+
+class TransactionRecord(Structure):  # archcaraway_txn
+    _fields_ = [("snapshot", c_int64), ("reads", POINTER(RangeRecord)), ("read_count", c_size_t)]
+    _fields_ += [("writes", POINTER(RangeRecord)), ("write_count", c_size_t), ("report", c_bool)]
 
 
 class Writer(Structure):  # archcaraway_writer
@@ -58,6 +71,15 @@ _FUNCTIONS = {
     "core_owed": (c_uint64, _HANDLE),
     "core_stop": (c_int, _HANDLE),
     "core_free": (None, _HANDLE),
+    "batch_new": (c_int, _HANDLE),
+    "batch_add": (c_int, _HANDLE, POINTER(TransactionRecord)),
+    "batch_append": (c_int, _HANDLE, _HANDLE),
+    "batch_drop_last": (None, _HANDLE),
+    "batch_clear": (None, _HANDLE),
+    "batch_room": (c_size_t, _HANDLE),
+    "batch_free": (None, _HANDLE),
+    "set_judge_batch": (c_int, _HANDLE, c_int64, _HANDLE, c_char_p, c_size_t),
+    "core_admit_batch": (c_int, _HANDLE, c_uint32, _HANDLE, c_int64, c_int64, c_int64),
     "writer_new": (Writer, c_void_p, c_void_p),
     "writer_free": (None, _WRITER),
     "batch_begin": (c_int, _WRITER, c_int64, c_int64, c_int64),

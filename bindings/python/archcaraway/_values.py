@@ -10,7 +10,8 @@ from dataclasses import dataclass
 from typing import Union
 
 from ._errors import check
-from ._library import LIBRARY, EntryReader, ReplyReader, Writer
+from ._library import LIBRARY, EntryReader, KeyRecord, RangeRecord, ReplyReader
+from ._library import TransactionRecord, Writer
 
 Key = Union[bytes, bytearray, memoryview]
 Range = Union[Key, "tuple[Key, Key]"]
@@ -67,6 +68,31 @@ def as_integer(name: str, value: int, bits: int = 64, signed: bool = True) -> in
     if not least <= number <= most:
         raise ValueError(f"{name} is {number}, and not from {least} to {most}")
     return number
+
+
+def _key_record(key: Key) -> KeyRecord:
+    kept = as_bytes(key)
+    return KeyRecord(kept, len(kept))
+
+
+def _range_record(item: Range) -> RangeRecord:
+    if isinstance(item, tuple):
+        begin, end = map(_key_record, item)
+        return RangeRecord(begin, end, False)
+    return RangeRecord(_key_record(item), KeyRecord(), True)
+
+
+def _range_records(items: Iterable[Range]) -> ctypes.Array[RangeRecord]:
+    records = [_range_record(item) for item in items]
+    return (RangeRecord * len(records))(*records)
+
+
+def transaction_record(transaction: Transaction) -> TransactionRecord:
+    """Returns the transaction as C reads it. The record keeps the bytes that it points to."""
+    snapshot = as_integer("snapshot", transaction.snapshot)
+    reads, writes = _range_records(transaction.reads), _range_records(transaction.writes)
+    report = bool(transaction.report)
+    return TransactionRecord(snapshot, reads, len(reads), writes, len(writes), report)
 
 
 def _add(writer: ctypes._Pointer[Writer], kind: str, item: Range) -> None:

@@ -9,8 +9,9 @@
 // | `keyspace::RangesRef::slice` | `ordered`, `within` | from 0 to `len` |
 // | `wire::decode_batch`, `encode_batch`, `encode_batch_1`, `read_frames`, `Frames::next` | none beside that of their reader | `wire_error` |
 
-use crate::builder::{BuildError, Tables};
+use crate::build_error::BuildError;
 use crate::range::Range;
+use crate::tables::Tables;
 use crate::wire_error::{Noting, WireError, into_std, wire_error};
 use keyspace::RangesRef;
 use rattle_std::alloc::Global;

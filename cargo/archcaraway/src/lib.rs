@@ -107,6 +107,7 @@
 #![warn(missing_docs, missing_debug_implementations)]
 
 mod batch;
+mod build_error;
 mod builder;
 mod client;
 mod combining;
@@ -117,12 +118,14 @@ mod resolver_core;
 mod service;
 mod split_points;
 mod stop;
+mod tables;
 mod txn;
 mod waiting;
 mod wire_error;
 
 pub use batch::{Batch, TxnRef};
-pub use builder::{BatchBuilder, BuildError};
+pub use build_error::BuildError;
+pub use builder::BatchBuilder;
 pub use client::{Client, TryReceiveError, TrySendError};
 pub use combining::{CombineError, ShardReply, combine};
 pub use conflict_set::{ConflictSet, ResolveError};
