@@ -1,8 +1,8 @@
 -- Keys that lie one by one among bytes.
-use Rattle.std.proofs.Common.{◌≡◌, ℕ, zero, suc, ◌+◌, ◌<◌, List, [], ◌∷◌, length, drop, get_or, refl, ap, ◌∙◌, arith}
+use Rattle.std.proofs.Common.{◌≡◌, ℕ, suc, ◌+◌, ◌<◌, List, [], ◌∷◌, length, drop, get_or, refl, ap, ◌∙◌, arith}
 use Rattle.std.proofs.lemmas.List.Sums.{sum_by-cons}
 use Rattle.std.proofs.Math.Seq.{drop-cons}
-use Rattle.std.specs.Prelude.{sum, slice_get, IsSomeAnd}
+use Rattle.std.specs.Prelude.{sum}
 use Rattle.archcaraway_c.specs.Points.{keys_given}
 
 -- as many keys as lengths
@@ -20,9 +20,3 @@ pub sum_step : (lengths : List ℕ) (i : ℕ) → i < length lengths
     → sum (drop i lengths) ≡ get_or lengths i 0 + sum (drop (i + 1) lengths)
 sum_step lengths i inside =
     ap sum (drop_step lengths i inside) ∙ sum_by-cons (λ (n : ℕ). n) (get_or lengths i 0) (drop (i + 1) lengths)
-
-pub long_key : (lengths : List ℕ) (i limit : ℕ) → i < length lengths → limit < get_or lengths i 0
-    → IsSomeAnd (slice_get lengths i) (λ count. limit < count)
-long_key [] i limit inside long = absurd (omega (arith, inside))
-long_key (n ∷ ns) zero limit inside long = long
-long_key (n ∷ ns) (suc i) limit inside long = long_key ns i limit (omega (arith, inside)) long

@@ -27,7 +27,6 @@ use Rattle.shards.specs.declared.error.Misfit.TheVariants as misfit
 use Rattle.shards.specs.Clips.{IsBatchClip}
 use Rattle.shards.specs.Numbered.{AreNumbered}
 use Rattle.shards.specs.Combined.{IsCombined, IsFirstMisfit}
-use Rattle.wire.specs.declared.error.WireError.{WireError}
 use Rattle.wire.specs.declared.error.WireError.TheVariants as wire
 use Rattle.wire.specs.declared.field.TheConstants.{MAX_BODY_LENGTH}
 use Rattle.wire.specs.declared.version.WireVersion.TheVariants.{Two}

@@ -1,6 +1,6 @@
 //! The clip of a batch to a shard, from a frame to a frame.
 
-ghost use Rattle.std.specs.Prelude.{◌≡◌, ◌≤◌, length, take, IfOk, IfErr};
+ghost use Rattle.std.specs.Prelude.{◌≤◌, length, take, IfOk, IfErr};
 ghost use Rattle.archcaraway_c.specs.ShardFrames.{IsClippedFrame, ClipRefuses};
 
 use crate::batch_frame::decode_frame;

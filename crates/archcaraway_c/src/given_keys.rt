@@ -1,6 +1,6 @@
 //! The keys that C gives as split points.
 
-ghost use Rattle.std.specs.Prelude.{◌≡◌, ◌<◌, ◌≤◌, length, sum, slice_get, IfOk, IfErr, IsSomeAnd};
+ghost use Rattle.std.specs.Prelude.{◌≡◌, ◌<◌, IfOk, IfErr};
 ghost use Rattle.archcaraway_c.specs.Points.{keys_given, KeysRefuse};
 
 use crate::points_refusal::PointsRefusal;

@@ -1,10 +1,9 @@
-use Rattle.std.proofs.Common.{◌≡◌, ◌<◌, ◌∙◌, ℕ, List, length, refl, sym, ap, subst, inl, inr, arith}
+use Rattle.std.proofs.Common.{◌<◌, ◌∙◌, ℕ, List, length, refl, sym, ap, subst, inl, inr, arith}
 use Rattle.std.specs.Prelude.{Err}
 use Rattle.serial.specs.Shards.{shards}
 use Rattle.wire.specs.declared.version.WireVersion.TheVariants.{Two}
 use Rattle.wire.specs.Spelling.{SpellsBatch}
 use Rattle.archcaraway_c.specs.declared.refusal.Refusal.{Refusal}
-use Rattle.archcaraway_c.specs.declared.refusal.Refusal.TheVariants.{Wire}
 use Rattle.archcaraway_c.specs.ShardFrames.{ClipRefuses}
 use Rattle.archcaraway_c.proofs.Clipping.{clip_to, frame_refused}
 use Rattle.archcaraway_c.proofs.clip_frame.clip_frame.Goals as goal

@@ -1,5 +1,4 @@
-use Rattle.std.proofs.Common.{◌≡◌, ◌∙◌, ℕ, List, length, refl, sym, subst, inl, inr, arith}
-use Rattle.std.specs.List.{AllZip}
+use Rattle.std.proofs.Common.{◌∙◌, ℕ, List, length, refl, subst, inl, inr}
 use Rattle.std.proofs.lemmas.Slice.Zip.{AllZip-long}
 use Rattle.serial.specs.Shards.{Shard, shards}
 use Rattle.shards.specs.declared.shard_reply.ShardReply.{ShardReply}

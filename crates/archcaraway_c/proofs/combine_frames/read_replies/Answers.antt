@@ -1,4 +1,4 @@
-use Rattle.std.proofs.Common.{◌≡◌, ◌<◌, ◌+◌, ◌∙◌, ◌++◌, ◌∷◌, ℕ, List, [], length, map, take, drop, refl, sym, ap, subst, append_assoc, append-nil, length-append, rules, arith}
+use Rattle.std.proofs.Common.{◌≡◌, ◌<◌, ◌+◌, ◌∙◌, ◌++◌, ◌∷◌, ℕ, List, [], length, map, take, refl, sym, ap, subst, append_assoc, append-nil, length-append, rules, arith}
 use Rattle.std.specs.Vec.Iter.{into_iter_items}
 use Rattle.std.proofs.lemmas.List.{take-append-drop, map_push, length-map}
 use Rattle.std.proofs.lemmas.Grind.{common_steps}

@@ -1,6 +1,6 @@
-use Rattle.std.proofs.Common.{◌≡◌, ◌<◌, ◌+◌, ◌∙◌, ◌++◌, ◌∷◌, ℕ, List, [], length, take, drop, get_or, sym, ap, ap₂, append_assoc, length-drop, arith}
+use Rattle.std.proofs.Common.{◌≡◌, ◌+◌, ◌∙◌, ◌++◌, ◌∷◌, ℕ, List, [], length, take, drop, get_or, sym, ap, ap₂, append_assoc, length-drop, arith}
 use Rattle.archcaraway_c.specs.Points.{keys_given}
-use Rattle.archcaraway_c.proofs.KeysGiven.{drop_step, sum_step, long_key}
+use Rattle.archcaraway_c.proofs.KeysGiven.{drop_step, sum_step}
 use Rattle.archcaraway_c.proofs.given_keys.copy_keys.Goals as goal
 
 pub loop-index-preserved : goal.loop-index-preserved

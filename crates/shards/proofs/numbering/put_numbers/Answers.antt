@@ -1,9 +1,8 @@
-use Rattle.std.proofs.Common.{◌≡◌, ◌≤◌, ◌++◌, ◌∷◌, ◌∙◌, ℕ, List, [], length, ap, sym, subst, arith, length-append}
+use Rattle.std.proofs.Common.{◌≡◌, ◌++◌, ◌∷◌, ◌∙◌, ℕ, [], length, ap, sym, subst, arith, length-append}
 use Rattle.std.specs.List.{AllZip}
 use Rattle.std.proofs.lemmas.Slice.Zip.{AllZip-long}
 use Rattle.keyspace.specs.declared.txn.Txn.{Txn}
 use Rattle.keyspace.specs.Judge.{places_from}
-use Rattle.shards.specs.declared.reach.Reach.{Reach}
 use Rattle.shards.specs.Clips.{goes_to, read_indices}
 use Rattle.shards.specs.Reach.{IsTold}
 use Rattle.shards.proofs.Fronts.{zip_front}

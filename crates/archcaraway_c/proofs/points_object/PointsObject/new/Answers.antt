@@ -1,7 +1,5 @@
-use Rattle.std.proofs.Common.{◌≡◌, ◌≤◌, ◌<◌, ◌∙◌, ℕ, List, length, ap, sym, subst, arith}
+use Rattle.std.proofs.Common.{◌≤◌, length, ap, sym, subst, arith}
 use Rattle.std.specs.Prelude.{Err}
-use Rattle.shards.specs.declared.error.SplitPointsError.{SplitPointsError}
-use Rattle.archcaraway_c.specs.declared.points_refusal.PointsRefusal.{PointsRefusal}
 use Rattle.archcaraway_c.specs.Points.{PointsRefuse}
 use Rattle.archcaraway_c.proofs.PointsRefused.{keys_refused, points_refused}
 use Rattle.archcaraway_c.proofs.points_object.PointsObject.new.Goals as goal
