@@ -1,7 +1,7 @@
 .PHONY: quick demo rust rust-packages rust-crate-test rust-doc rust-package library-unproved quick-test rust-test \
 	rust-test-long replay batches check test more-edits \
 	refused-memory json-examples stalled-pipes readme-runs manual-page program-runs library install uninstall library-test \
-	languages-test store-test fuzz rust-plant plant bench profile
+	languages-test store-test cluster-test fuzz rust-plant plant bench profile
 
 # The Cargo edition: the same sources, clauses erased, built by rustc. It needs Rust 1.85, cc, make and python3, and no network.
 
@@ -94,6 +94,10 @@ languages-test:
 # Tests the store of examples/store over the library in BUILT (out/quick): each workload for SECONDS_EACH (10) seconds, kills, controls.
 store-test:
 	.ci/store-test
+
+# Tests the resolvers and proxies of examples/cluster over the library in BUILT (out/quick), after `make quick` and `make library-unproved`.
+cluster-test:
+	.ci/cluster-test
 
 # Fuzzes the library that cargo builds, and the proved one if it is in out/, for SECONDS (30) each. Needs clang with its runtime.
 fuzz:

@@ -1,7 +1,7 @@
 // SPDX-License-Identifier: Apache-2.0. Copyright 2026 Archcaraway maintainers.
 //
-// archcaraway.hpp: the library for C++17 and later. Header only, over archcaraway.h and
-// archcaraway_frames.h.
+// archcaraway.hpp: the library for C++17 and later. Header only, over archcaraway.h,
+// archcaraway_frames.h and archcaraway_shards.h.
 //
 // Set and Core each own a handle and free it. They can be moved and not copied. A moved-from object
 // has no handle: calls on it are refused as ARCHCARAWAY_ARGUMENT. A call that is refused, and a
@@ -46,6 +46,7 @@
 
 #include "archcaraway.h"
 #include "archcaraway_frames.h"
+#include "archcaraway_shards.h"
 
 namespace archcaraway {
 
@@ -449,6 +450,61 @@ private:
 
     archcaraway_batch batch_ = ARCHCARAWAY_NONE;
     std::vector<archcaraway_range> ranges_;
+};
+
+// Split points, which split all keys into shards with a resolver each. A proxy clips a batch to every
+// shard, and combines the replies of their resolvers.
+class SplitPoints {
+public:
+    // The keys rise strictly, the first from the empty key on. Fails if a key is at fault.
+    explicit SplitPoints(const std::vector<std::string>& keys) {
+        std::vector<archcaraway_bytes> bytes;
+        for (const std::string& key : keys) bytes.push_back({View(key).data, key.size()});
+        check(archcaraway_split_points_new(bytes.data(), bytes.size(), &points_, nullptr));
+    }
+    ~SplitPoints() { archcaraway_split_points_free(&points_); }
+    SplitPoints(const SplitPoints&) = delete;
+    SplitPoints& operator=(const SplitPoints&) = delete;
+    SplitPoints(SplitPoints&& other) noexcept
+      : points_(std::exchange(other.points_, ARCHCARAWAY_NONE)) {}
+    SplitPoints& operator=(SplitPoints&& other) noexcept {
+        std::swap(points_, other.points_);
+        return *this;
+    }
+
+    std::size_t shards() const { return archcaraway_split_points_shards(&points_); }
+    // Writes the frame of the batch of a shard to `clip`, which grows as needed.
+    View clip(std::size_t shard, View frame, std::vector<std::uint8_t>& clip) const {
+        std::size_t length = 0;
+        int status = archcaraway_clip(&points_, shard, frame.data, frame.size, clip.data(),
+                                      clip.size(), &length);
+        if (status == ARCHCARAWAY_BUFFER) {
+            clip.resize(length);
+            status = archcaraway_clip(&points_, shard, frame.data, frame.size, clip.data(),
+                                      clip.size(), &length);
+        }
+        check(status);
+        return View(clip.data(), length);
+    }
+    // Combines the replies of all shards, which are one by one in `replies`. Writes the combined
+    // reply to `reply`, which grows as needed.
+    Reply combine(View frame, View replies, std::vector<std::uint8_t>& reply) const {
+        std::size_t length = 0;
+        int status = archcaraway_combine(&points_, frame.data, frame.size, replies.data,
+                                         replies.size, reply.data(), reply.size(), &length, nullptr);
+        if (status == ARCHCARAWAY_BUFFER) {
+            reply.resize(length);
+            status = archcaraway_combine(&points_, frame.data, frame.size, replies.data,
+                                         replies.size, reply.data(), reply.size(), &length, nullptr);
+        }
+        check(status);
+        return Reply(View(reply.data(), length));
+    }
+    // The handle, for the C functions. It stays this object's.
+    archcaraway_split_points* handle() { return &points_; }
+
+private:
+    archcaraway_split_points points_ = ARCHCARAWAY_NONE;
 };
 
 // The committed writes of the batches so far, as far back as the window.

@@ -1,6 +1,7 @@
 /* SPDX-License-Identifier: Apache-2.0. Copyright 2026 Archcaraway maintainers. */
 /*
  * The functions of archcaraway.h and archcaraway_frames.h, as symbols of the library. Not proved.
+ * batches.c and shards.c have those for batches without frames and for several resolvers.
  *
  * Each function of a set or a core tests its pointers and lengths, and calls the proved export of
  * the same name. A proved export takes a handle by value, and none may compare a pointer with null.
@@ -8,6 +9,7 @@
 #define ARCHCARAWAY_FRAMES /* the functions of the header are symbols here */
 #include "archcaraway_frames.h"
 
+#include "archcaraway_shards.h"
 #include "processor.h"
 
 #if defined(__x86_64__) && !defined(ARCHCARAWAY_BASELINE)
@@ -197,6 +199,12 @@ const char *archcaraway_status_text(int status) {
     case ARCHCARAWAY_PROCESSOR:
         return "processor: lacks x86-64-v2 (SSE4.2, POPCNT), so this build makes no set or core. "
                "For a build without them: make library-unproved PROCESSOR=x86-64";
+    case ARCHCARAWAY_POINTS_TOO_MANY: return "split points: more than 63";
+    case ARCHCARAWAY_POINTS_NOT_RISING:
+        return "split points: a key isn't after the one before it, or the first is empty";
+    case ARCHCARAWAY_MISFIT_VERSION: return "misfit: a reply has the version of another batch";
+    case ARCHCARAWAY_MISFIT_COUNT: return "misfit: a reply has another number of transactions";
+    case ARCHCARAWAY_MISFIT_PLACE: return "misfit: a reply reports a read range that isn't there";
     default: return "unknown status";
     }
 }

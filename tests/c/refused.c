@@ -7,6 +7,7 @@
 // nothing is lost. Nothing leaks.
 #include <stdlib.h>
 
+#include "archcaraway_shards.h"
 #include "chains.h"
 
 void *__real_malloc(size_t size);
@@ -191,6 +192,54 @@ static size_t refuse_set(const Chain *chain) {
     return number;
 }
 
+// Splits at two keys, clips a batch to each shard, and combines its replies, each call again until it isn't refused. Returns the
+// status of the split points.
+static int run_shards(const Batch *batch) {
+    static uint8_t clip[100000], reply[100000];
+    static const uint8_t keys[] = "ab";
+    const archcaraway_bytes given[] = {{keys, 1}, {keys, 2}};
+    archcaraway_split_points points = ARCHCARAWAY_NONE;
+    archcaraway_set set = ARCHCARAWAY_NONE;
+    Bytes frame = written_frame(batch);
+    size_t length, bad;
+    calls = 0;
+    int status = LIBRARY(archcaraway_split_points_new(given, 2, &points, &bad));
+    DEMAND(bad == 2 && (status == ARCHCARAWAY_OK || (status == ARCHCARAWAY_MEMORY && points.at == NULL)));
+    Text replies = {NULL, 0, 0};
+    for (size_t shard = 0; status == ARCHCARAWAY_OK && shard < 3; shard++) {
+        while (is_again(LIBRARY(archcaraway_clip(&points, shard, frame.bytes, frame.length, clip, sizeof clip, &length)))) {
+            DEMAND(length == 0);
+        }
+        DEMAND(archcaraway_set_new(ARCHCARAWAY_WINDOW, ARCHCARAWAY_LIMIT, &set) == ARCHCARAWAY_OK);
+        DEMAND(archcaraway_set_resolve(&set, clip, length, reply, sizeof reply, &length) == ARCHCARAWAY_OK);
+        for (size_t k = 0; k < length; k++) put(&replies, reply[k], 1);
+        archcaraway_set_free(&set);
+    }
+    if (status == ARCHCARAWAY_OK) {
+        int met;
+        while (is_again(met = LIBRARY(archcaraway_combine(&points, frame.bytes, frame.length, replies.bytes, replies.length,
+                                                          reply, sizeof reply, &length, &bad)))) {
+            DEMAND(length == 0 && bad <= 3);
+        }
+        DEMAND(met == ARCHCARAWAY_OK && length != 0);
+    }
+    enter();
+    archcaraway_split_points_free(&points);
+    leave(0);
+    DEMAND(held == 0);
+    free(replies.bytes);
+    free(frame.bytes);
+    return status;
+}
+
+static size_t refuse_shards(const Batch *batch) {
+    refuse_at = 0;
+    DEMAND(run_shards(batch) == ARCHCARAWAY_OK);
+    size_t number = calls;
+    for (refuse_at = 1; refuse_at <= number; refuse_at++) stops += run_shards(batch) != ARCHCARAWAY_OK;
+    return number;
+}
+
 int main(int count, char **words) {
     DEMAND(count == 3);
     size_t chains = (size_t)strtoul(words[1], NULL, 10), refused = 0;
@@ -200,6 +249,7 @@ int main(int count, char **words) {
         if (chain.length < 60) {
             refused += refuse_core(&chain);
             refused += refuse_set(&chain);
+            refused += refuse_shards(&chain.chain[chain.length - 1]);
         }
         free_chain(&chain);
     }

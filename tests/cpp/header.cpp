@@ -135,6 +135,29 @@ static void batches() {
     DEMAND(moved.size() == 0 && moved.judge(set, 30).empty());
 }
 
+static void shards() {
+    SplitPoints none(std::vector<std::string>{}), points(std::vector<std::string>{"m"});
+    DEMAND(none.shards() == 1 && points.shards() == 2);
+    BatchWriter writer;
+    writer.begin(-1, 0, -1);
+    writer.transaction(0, true);
+    writer.read("a", "z");
+    writer.write("x");
+    const View frame = writer.end();
+    std::vector<std::uint8_t> clip, reply, combined;
+    std::string replies;
+    Set sets[2];
+    for (std::size_t shard = 0; shard < points.shards(); shard++) {
+        const Reply own = sets[shard].resolve(points.clip(shard, frame, clip), reply);
+        DEMAND(own.size() == 1);
+        replies += View(reply.data(), frameLength(View(reply))).text();
+    }
+    DEMAND(points.combine(frame, replies, combined).size() == 1);
+    DEMAND((*points.combine(frame, replies, combined).begin()).verdict() == Verdict::committed);
+    SplitPoints moved = std::move(points);
+    DEMAND(points.shards() == 0 && moved.shards() == 2 && points.handle()->at == nullptr);
+}
+
 static void starts() {
     std::vector<int> committed;
     ConflictSet set = ConflictSet::at(1000);
@@ -181,6 +204,10 @@ static void refusals() {
     CommitTransactionRef inverted;
     inverted.read_conflict_ranges = {{"b", "a"}};
     DEMAND(refusal([&] { batch.add(inverted); }) == ARCHCARAWAY_FRAME_INVERTED && batch.size() == 0);
+    DEMAND(refusal([] { SplitPoints points(std::vector<std::string>{"b", "a"}); }) == ARCHCARAWAY_POINTS_NOT_RISING);
+    SplitPoints points(std::vector<std::string>{"m"});
+    DEMAND(refusal([&] { points.clip(0, "", bytes); }) == ARCHCARAWAY_FRAME_SHORT);
+    DEMAND(refusal([&] { points.clip(2, "", bytes); }) == ARCHCARAWAY_ARGUMENT);
     DEMAND(Error(ARCHCARAWAY_ARENA_FULL).isStop() && !Error(ARCHCARAWAY_BUFFER).isStop());
 }
 #else
@@ -193,7 +220,8 @@ int main() {
     iterators();
     moves();
     batches();
+    shards();
     starts();
     refusals();
-    std::puts("header: views, single keys, iterators, moves, batches and refusals are as the header says");
+    std::puts("header: views, single keys, iterators, moves, batches, shards and refusals are as the header says");
 }

@@ -11,6 +11,7 @@
 from ._errors import ArgumentError, Error, FrameError, ProcessorError, Stop, VersionError
 from ._library import LIBRARY
 from ._objects import LIMIT, WINDOW, Answer, Batch, ConflictSet, Core, Kind, Stats
+from ._shards import ReplyError, SplitPoints, SplitPointsError
 from ._values import Entry, Key, Range, Reply, Transaction, Verdict, decode, encode, frames
 
 _VERSION = LIBRARY.archcaraway_version()
@@ -18,3 +19,4 @@ __version__ = f"{_VERSION // 1_000_000}.{_VERSION // 1000 % 1000}.{_VERSION % 10
 __all__ = ["LIMIT", "WINDOW", "Answer", "ArgumentError", "Batch", "ConflictSet", "Core", "Entry"]
 __all__ += ["Error", "FrameError", "Key", "Kind", "ProcessorError", "Range", "Reply", "Stats"]
 __all__ += ["Stop", "Transaction", "Verdict", "VersionError", "decode", "encode", "frames"]
+__all__ += ["ReplyError", "SplitPoints", "SplitPointsError"]

@@ -4,7 +4,7 @@ use conflict::ConflictSet;
 use keyspace::Verdict;
 use rattle_std::alloc::Global;
 use shards::{BalanceError, Clipped, CombineError, Misfit, ReadIndices, ShardReply, SplitPoints, SplitPointsError};
-use shards::{balanced, clip, clip_all, combine};
+use shards::{balanced, clip, clip_all, combine, number_all};
 use stepmap::MAX_LIMIT;
 use tests::cases::{count, run};
 use tests::drawn::{KeySpace, any_batch};
@@ -110,6 +110,8 @@ fn clips_are_those_of_a_plain_definition() {
         let all = clipped(&batch, &split);
         let expected: Vec<_> = shards_of(&points).iter().map(|shard| shard.clip_batch(&batch)).collect();
         assert_eq!(all.iter().map(plain).collect::<Vec<_>>(), expected, "{points:?} {batch:?}");
+        let numbers = number_all(Global, &batch.batch(), &split).expect("memory is ample").into_std();
+        assert!(numbers.iter().map(indices).eq(expected.iter().map(|(_, reads)| reads.clone())), "{points:?} {batch:?}");
         let shard = random.index(split.shard_count());
         assert_eq!(plain(&clip(Global, &batch.batch(), &split, shard).expect("memory is ample")), expected[shard]);
         1 + batch.txns.len() as u64

@@ -4,3 +4,8 @@ pub mod Joining
 pub mod Appending
 pub mod Dropping
 pub mod NextOwed
+pub mod KeysGiven
+pub mod ReadFrames
+pub mod Combining
+pub mod Clipping
+pub mod PointsRefused

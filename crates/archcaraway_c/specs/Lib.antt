@@ -9,3 +9,5 @@ pub mod BatchObject
 pub mod Judging
 pub mod Moving
 pub mod Starts
+pub mod Points
+pub mod ShardFrames

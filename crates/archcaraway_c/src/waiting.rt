@@ -7,10 +7,9 @@ ghost use Rattle.archcaraway_c.specs.Given.{Tells, WriteRefuses};
 
 use crate::given::Given;
 use crate::refusal::Refusal;
-use crate::reply_frame::write_frame;
+use crate::reply_frame::write_reply;
 use keyspace::{Answer, Reply};
 use std::alloc::{AllocError, Global};
-use wire::encode_reply;
 
 /// Has no answer waiting for any of n proxies.
 pub fn nothing_waits(alloc: Global, proxies: usize) -> Result<Vec<Option<Answer>>, AllocError>
@@ -43,25 +42,20 @@ pub fn write_answer(
 {
     match answer {
         None => Ok(Given::Nothing),
-        Some(Answer::Reply(reply)) => write_reply(alloc, reply, buffer),
+        Some(Answer::Reply(reply)) => give_reply(alloc, reply, buffer),
         Some(Answer::Never(version)) => Ok(Given::Never(*version)),
         Some(Answer::Held(version)) => Ok(Given::Held(*version)),
     }
 }
 
 // Writes the frame of a reply to the front of the buffer, and returns what is given.
-fn write_reply(alloc: Global, reply: &Reply, buffer: &mut [u8]) -> Result<Given, Refusal>
+fn give_reply(alloc: Global, reply: &Reply, buffer: &mut [u8]) -> Result<Given, Refusal>
     ensures told { IfOk result (λ given. Tells given buffer.new (Some (Answer.Reply reply.now))) }
     ensures refused { IfErr result
         (λ refusal. WriteRefuses (Some (Answer.Reply reply.now)) (length buffer.old) refusal) }
 {
-    let frame = match encode_reply(alloc, reply) {
-        Ok(frame) => frame,
-        Err(fault) => return Err(Refusal::Wire(fault)),
-    };
-    let count = match write_frame(&frame, buffer) {
-        Ok(count) => count,
-        Err(refusal) => return Err(refusal),
-    };
-    Ok(Given::Reply(reply.version, count))
+    match write_reply(alloc, reply, buffer) {
+        Ok(count) => Ok(Given::Reply(reply.version, count)),
+        Err(refusal) => Err(refusal),
+    }
 }

@@ -15,3 +15,4 @@ mod BuiltTables
 mod KeyOrders
 mod Picked
 mod Begins
+mod Fronts

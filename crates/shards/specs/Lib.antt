@@ -2,6 +2,7 @@
 pub mod SplitPoints
 pub mod Balanced
 pub mod Clips
+pub mod Numbered
 pub mod Combined
 pub mod Laws
 -- Not of the meaning: how the code keeps the indices of read ranges, to which shards it takes a range to go, and how it picks split

@@ -256,8 +256,12 @@ fn put_key(buffer: &mut Vec<u8>, key: &[u8]) -> Result<KeyAt, AllocError>
     })
 }
 
-// Appends the indices of those ranges that go to the shard.
-fn put_indices(indices: &mut Vec<u16>, shard: usize, reaches: &[Reach]) -> Result<(), AllocError>
+/// Appends the indices of those ranges that go to the shard. Returns an error if memory is refused.
+pub(crate) fn put_indices(
+    indices: &mut Vec<u16>,
+    shard: usize,
+    reaches: &[Reach],
+) -> Result<(), AllocError>
     requires few { length reaches.now ≤ MAX_RANGES }
     ensures put { OnOk result ((owner : Shard) (ranges : List Range)
         → AllZip (IsTold owner shard) ranges reaches.now
