@@ -45,8 +45,8 @@ def draw_replay(chance: Random) -> list[str | bytes]:
 
 def draw_batches(chance: Random) -> list[str | bytes]:
     """Arguments of `batches`."""
-    args: list[str | bytes] = [chance.choice(("encode", "decode", "show", "show", "Encode", "enc", "--full", "help", "--"))]
-    parts: tuple[str | bytes, ...] = ("--replies", "--replies", "--full", "--full", "first", "lines", "replies", "encode", "show", *FLAGS, *ODD, *ASKING)
+    args: list[str | bytes] = [chance.choice(("encode", "decode", "show", "show", "Encode", "enc", "--full", "help", "--", *SUBCOMMANDS[:4]))]
+    parts: tuple[str | bytes, ...] = ("--replies", "--replies", "--full", "--full", "first", "lines", "replies", "encode", "show", *SUBCOMMANDS, *FLAGS, *ODD, *ASKING)
     for _ in range(chance.choice((0, 1, 1, 2, 3))):
         args.insert(chance.randint(0, len(args)), chance.choice(parts))
     return args if chance.random() < 0.95 else []
@@ -60,11 +60,13 @@ def command_files() -> dict[str, bytes]:
     return files | {"empty": b"", "replies": reply_frame(Reply(0)), "lines": line}
 
 
+SUBCOMMANDS = ("opening", "stats", "split-points", "clip", "--version=1", "--json", "--resolvers=2", "--shard=0", "--split-points=empty")
+
 # Arguments of which each pair is tried. The batch of `held` is never due, so two proxies may send it.
 SHORT_ARGS: tuple[str | bytes, ...] = ("--", "-", "", "-h", "--help", "-V", "--version", "help", "-x", "--none", "none", "--help=1", b"\xff", "1")
 SHORT_ARGS_OF: dict[str, tuple[str | bytes, ...]] = {
     "replay": (*SHORT_ARGS, "held", "empty", "--frames", "--json", "--frames=1", "--capacity", "--capacity=1", "--check", "--check=empty", "--limit=0"),
-    "batches": (*SHORT_ARGS, "encode", "decode", "show", "--replies", "--full", "--replies=1", "-hV", "lines"),
+    "batches": (*SHORT_ARGS, "encode", "decode", "show", "--replies", "--full", "--replies=1", "-hV", "lines", *SUBCOMMANDS),
     "workload": (*SHORT_ARGS, "points", "skiplisttest", "2500", "--points", "-hV"),
 }
 

@@ -18,6 +18,7 @@ from .replays import (
     draw_one,
     draw_stop,
 )
+from .shards_drawn import draw_shards
 
 Draw = Callable[[Random], Case]
 
@@ -37,6 +38,7 @@ FEATURES: tuple[tuple[Draw, int], ...] = (
     (draw_encoded, 6),
     (draw_mistaken, 10),
     (draw_decoded, 8),
+    (draw_shards, 6),
 )
 
 

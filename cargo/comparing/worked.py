@@ -2,13 +2,14 @@
 
 from pathlib import Path
 
-from tests import json_rows, rows, shell_rows, wire_rows
+from tests import batches_rows, json_rows, rows, shell_rows, wire_rows
 
 from .case import Case, Outcome, Run, Text
 from .commands import SHAPES, short_cases
 from .expecting import replay_outcome, turned
 from .lines import reply_table
 from .notation import batch_of, reply_of
+from .plain import opening
 from .reading import frames, read_batch
 from .wire import batch_frame, file_of, reply_frame
 
@@ -124,6 +125,21 @@ def json_cases() -> list[Case]:
     return [Case(f"json {number}", "worked rows", {}, (run,)) for number, run in enumerate(json_runs())]
 
 
+def subcommand_cases() -> list[Case]:
+    """The rows of `opening`, `stats`, `split-points` and `clip`."""
+    files = {name: file_of(map(batch_of, some), 2) for name, some in batches_rows.FILES.items()}
+    files |= {name: text.encode() for name, text in batches_rows.POINTS.items()}
+    runs = []
+    for row in batches_rows.ROWS:
+        out = row.out.encode() if isinstance(row.out, str) else file_of(map(batch_of, row.out), 2)
+        stdin = files[row.stdin] if row.stdin else b""
+        runs.append(Run("batches", row.args, stdin, expected=Outcome(row.status, out, row.err.encode())))
+    runs += [Run("batches", args, text=Text.OF_CLAP, expected=Outcome(2, b"", b"error: ")) for args in batches_rows.REFUSED]
+    for version in batches_rows.VERSIONS:
+        runs.append(Run("batches", ("opening", "--version", str(version)), expected=Outcome(0, opening(version), b"")))
+    return [Case(f"subcommand {number}", "worked rows", files, (run,)) for number, run in enumerate(runs)]
+
+
 def files_of_example(path: Path) -> list[Path]:
     """The files of a run of an example: `NAME.args` names the further ones."""
     more = path.with_suffix(".args")
@@ -191,6 +207,10 @@ FULL_RUNS: tuple[tuple[str, tuple[str, ...], bytes, bytes], ...] = (
     ("batches", ("decode",), rows.FIRST_RUN, b"the output can't be written\n"),
     ("batches", ("show",), rows.FIRST_RUN, b"the output can't be written\n"),
     ("batches", ("--help",), b"", b"the output can't be written\n"),
+    ("batches", ("opening", "--version", "1"), b"", b"the output can't be written\n"),
+    ("batches", ("stats",), rows.FIRST_RUN, b"batches: standard output: the output can't be written\n"),
+    ("batches", ("split-points", "--resolvers=2"), rows.FIRST_RUN, b"batches: standard output: the output can't be written\n"),
+    ("batches", ("clip", "--shard=0", "--split-points=empty"), rows.FIRST_RUN, b"batches: standard output: the output can't be written\n"),
     ("workload", ("points", "1", "1"), b"", b"workload: a write failed\n"),
     ("workload", (), b"", b"workload: a write failed\n"),
 )
@@ -204,4 +224,4 @@ def full_cases() -> list[Case]:
 
 def fixed_cases() -> list[Case]:
     """All cases that aren't drawn."""
-    return row_cases() + shell_cases() + wire_cases() + json_cases() + workload_cases() + short_cases() + full_cases() + example_cases()
+    return row_cases() + shell_cases() + wire_cases() + json_cases() + subcommand_cases() + workload_cases() + short_cases() + full_cases() + example_cases()

@@ -3,3 +3,10 @@ pub mod Lines
 pub mod Failing
 pub mod Told
 pub mod Task
+pub mod Opening
+pub mod Clipping
+pub mod Points
+pub mod Stats
+pub mod Counting
+pub mod StatsText
+pub mod StatsJson

@@ -23,6 +23,19 @@ pub enum Failure {
     /// A frame is refused.
     #[error("frame {0}: {1}")]
     Frame(u64, WireError),
+    /// The batch of a frame is too long for a frame once it is clipped.
+    #[error("frame {0}: its clip is longer as a frame than 4,194,304 bytes")]
+    LongClip(u64),
+    /// The split point of a line isn't after that of the line before, or is the empty key.
+    #[error("line {0}: the split point isn't after the one before")]
+    NotRising(u64),
+    #[error("more than 63 split points")]
+    TooManyPoints,
+    /// The split points make fewer shards: as many as this.
+    #[error("no shard has this number: there are {0}, counted from 0")]
+    NoShard(usize),
+    #[error("the number of resolvers isn't from 1 to 64")]
+    Resolvers,
     /// The file can't be opened.
     #[error("the file can't be opened")]
     Open,
@@ -67,6 +80,17 @@ impl Failure {
     {
         match refusal {
             WireError::Long => Failure::Long(number),
+            _ => Failure::Memory,
+        }
+    }
+
+    /// Creates the failure of a clip that has no frame.
+    pub fn of_clip(number: u64, refusal: WireError) -> Self
+        ensures which { ((refusal ≡ WireError.Long) × (result ≡ Failure.LongClip number))
+            ⊎ ((refusal ≢ WireError.Long) × (result ≡ Failure.Memory)) }
+    {
+        match refusal {
+            WireError::Long => Failure::LongClip(number),
             _ => Failure::Memory,
         }
     }
@@ -119,6 +143,19 @@ pub fn fail<E: Sink>(error: &mut E, alloc: Global, failure: &Failure) -> Status
     }
 }
 
+/// Tells the failure in a line that begins with the program and the name of the input, and returns
+/// how the program ends. A failed write changes nothing.
+pub fn fail_in<E: Sink>(error: &mut E, alloc: Global, name: &str, failure: &Failure) -> Status
+    ensures failed { result ≡ Status.Failed }
+    ensures told { TellsLine (E.given error.old) (E.given error.new) (E.failures error.old)
+        (E.failures error.new) }
+{
+    match line_in(alloc, name, failure) {
+        Ok(named) => tell(error, named.as_bytes()),
+        Err(_) => tell(error, b"memory was refused\n"),
+    }
+}
+
 fn tell<E: Sink>(error: &mut E, line: &[u8]) -> Status
     requires line { IsLine line.now }
     ensures failed { result ≡ Status.Failed }
@@ -134,6 +171,15 @@ fn line_of(alloc: Global, failure: &Failure) -> Result<String, AllocError>
     ensures line { IfOk result (λ line. IsLine (string_bytes line)) }
 {
     let mut line = format!(in alloc; "{failure}")?;
+    line.push('\n')?;
+    Ok(line)
+}
+
+// Returns the same with the names before it.
+fn line_in(alloc: Global, name: &str, failure: &Failure) -> Result<String, AllocError>
+    ensures line { IfOk result (λ line. IsLine (string_bytes line)) }
+{
+    let mut line = format!(in alloc; "batches: {name}: {failure}")?;
     line.push('\n')?;
     Ok(line)
 }

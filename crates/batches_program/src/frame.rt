@@ -1,11 +1,12 @@
 //! The next frame, and what it says.
 
-ghost use Rattle.std.specs.Prelude.{◌≡◌, ◌⊎◌, ◌<◌, ◌≤◌, length, vec_len, IfErr, IfOk, OnOk};
+ghost use Rattle.std.specs.Prelude.{◌≡◌, ◌⊎◌, ◌<◌, ◌≤◌, length, vec_len, IfErr, IfNone, IfOk};
+ghost use Rattle.std.specs.Prelude.{IfSome, OnOk};
 ghost use Rattle.std.specs.Io.KnownBytes.{Consumes, IsAtEnd};
 ghost use Rattle.wire.specs.FrameLength.{frame_length};
 ghost use Rattle.wire.specs.NextFrame.{IsFrameOf};
 ghost use Rattle.wire.specs.Spelling.{SpellsReply};
-ghost use Rattle.batches_program.specs.Failing.{IsFailureOfFrame};
+ghost use Rattle.batches_program.specs.Failing.{FailsFrame, IsFailureOfFrame};
 ghost use Rattle.batches_program.specs.declared.failure.Failure.TheVariants.{Memory, Read};
 ghost use Rattle.batches_program.specs.declared.kind.Kind.TheVariants.{Batches, Replies};
 
@@ -30,6 +31,30 @@ pub fn next_frame<R: Source>(reader: &mut R, frame: &mut Vec<u8>) -> Result<(), 
         Err(WireError::Read) => Err(Failure::Read),
         Err(_) => Err(Failure::Memory),
     }
+}
+
+/// Reads the next frame into the buffer and returns its batch, or none at the end of the input. The
+/// frame has this number.
+pub fn next_batch<R: Source>(
+    alloc: Global,
+    number: u64,
+    reader: &mut R,
+    frame: &mut Vec<u8>,
+) -> Result<Option<Batch>, Failure>
+    ensures taken { IfOk result (λ found. IfSome found (λ batch.
+        Consumes (R.remaining reader.old) (R.remaining reader.new) frame.new.items
+        × IsFrameOf frame.new.items batch)) }
+    ensures end { IfOk result (λ found. IfNone found (IsAtEnd (R.remaining reader.old))) }
+    ensures fails { IfErr result (FailsFrame Batches number (R.remaining reader.old)) }
+    ensures ok { OnOk result (R.failures reader.new ≡ R.failures reader.old) }
+    ensures read { IfErr result (λ e. e ≡ Read → R.failures reader.old < R.failures reader.new) }
+{
+    next_frame(reader, frame)?;
+    if frame.is_empty() {
+        return Ok(None);
+    }
+    let batch = batch_in(alloc, number, frame)?;
+    Ok(Some(batch))
 }
 
 /// Returns the batch of a frame, which has this number.

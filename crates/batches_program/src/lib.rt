@@ -1,34 +1,59 @@
-//! Turns lines of JSON into frames of batches or replies and back, and shows frames as a table.
+//! Turns lines of JSON into frames of batches or replies and back, shows frames as a table, counts
+//! what batches have, and clips them to shards.
 //!
 //! [`run`] is the program `batches` over the words and the files of its environment, and any sinks.
-//! `words` reads the command line, and `failure` tells what went wrong. [`encode`], [`decode`] and
-//! [`show`] work over any streams.
+//! `words` reads the command line, and `failure` tells what went wrong. The other calls work over
+//! any streams: [`encode`], [`decode`] and [`show`]; [`write_opening`]; [`count_frames`] with
+//! [`text_of_stats`] and [`json_of_stats`]; [`read_batches`] with [`split_points`]; and
+//! [`read_points`] with [`clip_frames`].
 #![tactic(auto)]
 
+mod clipper;
 mod command;
 mod converter;
+mod counter;
 mod decoder;
 mod encoder;
 mod failure;
 mod form;
 mod frame;
+mod job;
+mod jobs;
 mod kind;
+pub mod laws;
+mod opening;
+mod points;
 mod printer;
 mod program;
 mod progress;
+mod put;
+mod sample;
+mod spread;
+mod stats;
+mod stats_json;
+mod stats_text;
 mod status;
 mod table;
 mod task;
 mod viewer;
 mod words;
 
+pub use clipper::clip_frames;
 pub use converter::convert;
+pub use counter::count_frames;
 pub use decoder::decode;
 pub use encoder::encode;
-pub use failure::{Failure, fail};
+pub use failure::{Failure, fail, fail_in};
 pub use kind::Kind;
+pub use opening::write_opening;
+pub use points::{lines_of_points, read_points};
 pub use program::run;
 pub use progress::Progress;
+pub use sample::{read_batches, split_points};
+pub use spread::Spread;
+pub use stats::{Stats, TxnCounts};
+pub use stats_json::json_of_stats;
+pub use stats_text::text_of_stats;
 pub use status::Status;
 pub use task::Task;
 pub use viewer::show;

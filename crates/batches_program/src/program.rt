@@ -1,13 +1,16 @@
 //! What the command line asks for, done.
 
-ghost use Rattle.std.specs.Prelude.{◌≡◌, IsTrue, OnOk, not};
+ghost use Rattle.std.specs.Prelude.{◌≡◌, ◌≤ℤ◌, pos, IsTrue, OnOk, not};
 ghost use Rattle.batches_program.specs.Told.{Tells, TellsLine};
 
 use crate::converter::convert;
 use crate::failure::{Failure, fail};
+use crate::job::{CommandLine, Job};
+use crate::jobs::{print_points, print_stats, write_clips};
+use crate::opening::write_opening;
 use crate::progress::{LONG_FILE, Progress};
 use crate::status::Status;
-use crate::words::{CommandLine, Stop, read_words};
+use crate::words::{Stop, read_words};
 use std::alloc::Global;
 use std::fs::{File, Files};
 use std::io::BufReader;
@@ -34,11 +37,69 @@ pub fn run<R: Files<File = File> + Env + Input + AllocGlobal, O: Sink, E: Sink>(
         Ok(words) => words,
         Err(failure) => return fail(error, alloc, &failure),
     };
-    let line = match read_words(alloc, &words) {
-        Ok(line) => line,
-        Err(stop) => return end(&stop, alloc, out, error),
-    };
-    match do_line(rt, &line, watched, out, error) {
+    match read_words(alloc, &words) {
+        Ok(job) => do_job(rt, &job, watched, out, error),
+        Err(stop) => end(&stop, alloc, out, error),
+    }
+}
+
+// Does what the command line asks for, and tells why if it can't.
+fn do_job<R: Files<File = File> + Input + AllocGlobal, O: Sink, E: Sink>(
+    rt: &R,
+    job: &Job<'_>,
+    watched: bool,
+    out: &mut O,
+    error: &mut E,
+) -> Status
+    ensures ok { result ≡ Status.Done → O.failures out.new ≡ O.failures out.old }
+    ensures quiet { result ≡ Status.Done → IsTrue (not watched) → error.new ≡ error.old }
+    ensures told { result ≡ Status.Failed
+        → TellsLine (E.given error.old) (E.given error.new) (E.failures error.old)
+        (E.failures error.new) }
+{
+    match job {
+        Job::Convert(line) => convert_file(rt, line, watched, out, error),
+        Job::Opening(version) => open_chain(rt.alloc(), *version, out, error),
+        Job::Stats { files, json } => print_stats(rt, files, *json, out, error),
+        Job::SplitPoints { files, resolvers } => print_points(rt, files, *resolvers, out, error),
+        Job::Clip {
+            points,
+            shard,
+            file,
+        } => write_clips(rt, points, *shard, *file, out, error),
+    }
+}
+
+// Does a conversion, and tells why if it can't.
+fn convert_file<R: Files<File = File> + Input + AllocGlobal, O: Sink, E: Sink>(
+    rt: &R,
+    line: &CommandLine<'_>,
+    watched: bool,
+    out: &mut O,
+    error: &mut E,
+) -> Status
+    ensures ok { result ≡ Status.Done → O.failures out.new ≡ O.failures out.old }
+    ensures quiet { result ≡ Status.Done → IsTrue (not watched) → error.new ≡ error.old }
+    ensures told { result ≡ Status.Failed
+        → TellsLine (E.given error.old) (E.given error.new) (E.failures error.old)
+        (E.failures error.new) }
+{
+    match do_line(rt, line, watched, out, error) {
+        Ok(()) => Status::Done,
+        Err(failure) => fail(error, rt.alloc(), &failure),
+    }
+}
+
+// Writes the batch that starts a chain at the version, and tells why if it can't.
+fn open_chain<O: Sink, E: Sink>(alloc: Global, version: i64, out: &mut O, error: &mut E) -> Status
+    requires natural { pos 0 ≤ℤ version }
+    ensures ok { result ≡ Status.Done → O.failures out.new ≡ O.failures out.old }
+    ensures quiet { result ≡ Status.Done → error.new ≡ error.old }
+    ensures told { result ≡ Status.Failed
+        → TellsLine (E.given error.old) (E.given error.new) (E.failures error.old)
+        (E.failures error.new) }
+{
+    match write_opening(alloc, version, out) {
         Ok(()) => Status::Done,
         Err(failure) => fail(error, alloc, &failure),
     }

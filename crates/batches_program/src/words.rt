@@ -1,20 +1,12 @@
 //! The words of the command line.
 
 use crate::command::command;
+use crate::job::{CommandLine, Job, STANDARD_INPUT};
 use crate::kind::Kind;
 use crate::task::Task;
 use clap::ArgMatches;
 use clap::error::ErrorKind;
 use std::alloc::{AllocError, Global};
-
-/// What the command line asks for.
-#[derive(Debug, Drop)]
-pub struct CommandLine<'a> {
-    pub task: Task,
-    pub kind: Kind,
-    /// The name of the file, or none for standard input.
-    pub file: Option<&'a str>,
-}
 
 /// Why nothing is done.
 #[derive(Debug, Drop)]
@@ -33,9 +25,9 @@ impl From<AllocError> for Stop {
 }
 
 /// Reads the words of the command line, of which the first is the program's name.
-pub fn read_words<'a>(alloc: Global, words: &'a [String]) -> Result<CommandLine<'a>, Stop> {
+pub fn read_words<'a>(alloc: Global, words: &'a [String]) -> Result<Job<'a>, Stop> {
     match command(alloc)?.try_get_matches_from(words) {
-        Ok(matches) => line_of(&matches),
+        Ok(matches) => job_of(alloc, &matches),
         Err(error) => Err(stop_of(alloc, &error)?),
     }
 }
@@ -53,11 +45,26 @@ fn stop_of(alloc: Global, error: &clap::Error) -> Result<Stop, AllocError> {
     }
 }
 
-// Reads what was matched. `clap` itself refuses a line without a subcommand.
-fn line_of<'a>(matches: &ArgMatches<'a>) -> Result<CommandLine<'a>, Stop> {
+// Reads what was matched. `clap` itself refuses a line without a subcommand or a required option,
+// and numbers outside their ranges.
+fn job_of<'a>(alloc: Global, matches: &ArgMatches<'a>) -> Result<Job<'a>, Stop> {
     let Some((name, matches)) = matches.subcommand() else {
         return Err(Stop::Memory);
     };
+    if name == "opening" {
+        opening_of(matches).ok_or(Stop::Memory)
+    } else if name == "stats" {
+        stats_of(alloc, matches)
+    } else if name == "split-points" {
+        split_points_of(alloc, matches)
+    } else if name == "clip" {
+        clip_of(matches).ok_or(Stop::Memory)
+    } else {
+        Ok(Job::Convert(line_of(name, matches)))
+    }
+}
+
+fn line_of<'a>(name: &str, matches: &ArgMatches<'a>) -> CommandLine<'a> {
     let task = if name == "encode" {
         Task::Encode
     } else if name == "decode" {
@@ -72,9 +79,58 @@ fn line_of<'a>(matches: &ArgMatches<'a>) -> Result<CommandLine<'a>, Stop> {
     } else {
         Kind::Batches
     };
-    Ok(CommandLine {
+    CommandLine {
         task,
         kind,
-        file: matches.get_str("FILE"),
+        file: file_of(matches),
+    }
+}
+
+fn opening_of<'a>(matches: &ArgMatches<'a>) -> Option<Job<'a>> {
+    Some(Job::Opening(matches.get_one("version")?))
+}
+
+fn stats_of<'a>(alloc: Global, matches: &ArgMatches<'a>) -> Result<Job<'a>, Stop> {
+    Ok(Job::Stats {
+        files: files_of(alloc, matches)?,
+        json: matches.get_flag("json"),
     })
+}
+
+fn split_points_of<'a>(alloc: Global, matches: &ArgMatches<'a>) -> Result<Job<'a>, Stop> {
+    let Some(resolvers) = matches.get_one("resolvers") else {
+        return Err(Stop::Memory);
+    };
+    Ok(Job::SplitPoints {
+        files: files_of(alloc, matches)?,
+        resolvers,
+    })
+}
+
+fn clip_of<'a>(matches: &ArgMatches<'a>) -> Option<Job<'a>> {
+    Some(Job::Clip {
+        points: matches.get_str("split-points")?,
+        shard: matches.get_one("shard")?,
+        file: file_of(matches),
+    })
+}
+
+// Returns the name of the file, or none for standard input.
+fn file_of<'a>(matches: &ArgMatches<'a>) -> Option<&'a str> {
+    let name = matches.get_str("FILE")?;
+    if name == STANDARD_INPUT {
+        None
+    } else {
+        Some(name)
+    }
+}
+
+// Returns the names of the files, of which standard input is one if none is given.
+fn files_of<'a>(alloc: Global, matches: &ArgMatches<'a>) -> Result<Vec<&'a str>, AllocError> {
+    if let Some(files) = matches.get_strs("FILE") {
+        return Vec::from_slice(alloc, files);
+    }
+    let mut files = Vec::new(alloc);
+    files.push(STANDARD_INPUT)?;
+    Ok(files)
 }

@@ -5,13 +5,14 @@ ghost use Rattle.std.specs.Prelude.{vec_len, option_map};
 ghost use Rattle.std.specs.Char.{digit_char};
 ghost use Rattle.json_lines.specs.KeyForm.{is_printable, byte_form, key_form, hex_value, number_at};
 ghost use Rattle.json_lines.specs.KeyForm.{escaped_at, byte_at, spelled};
+ghost use Rattle.keys.specs.declared.key.TheConstants.{MAX_KEY_LENGTH};
 ghost use Rattle.json_lines.specs.Ranges.{key_within};
 ghost use Rattle.json_lines.specs.Values.{Reads};
 
 use crate::cause::Cause;
 use crate::place::Place;
 use crate::refusal::Refusal;
-use keys::MAX_KEY_LENGTH;
+use keys::{Key, MAX_KEY_LENGTH};
 use std::alloc::{AllocError, Global};
 
 /// Appends the printed form of a key.
@@ -117,13 +118,27 @@ fn fault_of(text: &[u8]) -> Cause {
     }
 }
 
+/// Reads a key from its printed form. The place of a refusal is the line.
+pub fn read_key(alloc: Global, text: &[u8]) -> Result<Key, Refusal>
+    ensures reads { Reads (λ key. key) result (key_within MAX_KEY_LENGTH text.now) }
+{
+    Ok(Key::new(key_within(alloc, text, MAX_KEY_LENGTH, Place::Line)?))
+}
+
 /// Reads a key of at most n bytes from its text.
-#[tactic(auto, unfolding(crate::specs::Ranges::key_within))]
 pub fn key_of(alloc: Global, text: &str, limit: usize, place: Place) -> Result<Vec<u8>, Refusal>
     ensures reads { Reads (λ key. key.items) result (key_within limit text.now) }
     ensures short { IfOk result (λ key. vec_len key ≤ limit) }
 {
-    let key = bytes_of(alloc, text.as_bytes(), place)?;
+    key_within(alloc, text.as_bytes(), limit, place)
+}
+
+#[tactic(auto, unfolding(crate::specs::Ranges::key_within))]
+fn key_within(alloc: Global, text: &[u8], limit: usize, place: Place) -> Result<Vec<u8>, Refusal>
+    ensures reads { Reads (λ key. key.items) result (key_within limit text.now) }
+    ensures short { IfOk result (λ key. vec_len key ≤ limit) }
+{
+    let key = bytes_of(alloc, text, place)?;
     if key.len() > limit {
         let cause = if limit == MAX_KEY_LENGTH {
             Cause::KeyLength

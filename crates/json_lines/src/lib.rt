@@ -6,7 +6,7 @@
 //!
 //! The layers above use [`read_batch`] and [`read_reply`], which read a line or say which member is
 //! wrong and why ([`Refusal`]); and [`write_batch`] and [`write_reply`], whose lines read back as
-//! what was written ([`laws`]).
+//! what was written ([`laws`]). [`put_key_form`] and [`read_key`] do the same with keys alone.
 #![tactic(auto)]
 
 mod batch;
@@ -31,7 +31,7 @@ pub use batch::read_batch;
 pub use batch_writer::write_batch;
 pub use cause::Cause;
 pub use json::Scratch;
-pub use key_form::put_key_form;
+pub use key_form::{put_key_form, read_key};
 pub use member::Member;
 pub use place::Place;
 pub use refusal::Refusal;

@@ -1,5 +1,5 @@
 use Rattle.batches_program.proofs.Telling.{line_after}
-use Rattle.batches_program.proofs.program.run.Goals as goal
+use Rattle.batches_program.proofs.program.convert_file.Goals as goal
 
 pub returns-clause-told : goal.returns-clause-told
 returns-clause-told g c failed =

@@ -1,0 +1,41 @@
+//! What the command line asks for.
+
+use crate::kind::Kind;
+use crate::task::Task;
+
+/// The name of standard input, which is read instead of a file.
+pub const STANDARD_INPUT: &str = "-";
+
+/// What the command line asks for.
+#[derive(Debug, Drop)]
+pub enum Job<'a> {
+    /// Lines become frames, or frames lines or a table.
+    Convert(CommandLine<'a>),
+    /// The batch that starts a chain at this version, 0 or more.
+    Opening(i64),
+    /// What the batches of files add up to.
+    Stats {
+        files: Vec<&'a str>,
+        json: bool,
+    },
+    /// Split points that spread the batches of files evenly over so many resolvers.
+    SplitPoints {
+        files: Vec<&'a str>,
+        resolvers: usize,
+    },
+    /// The batches of a file for one shard. Without a name the file is standard input.
+    Clip {
+        points: &'a str,
+        shard: usize,
+        file: Option<&'a str>,
+    },
+}
+
+/// A conversion, and the file that it reads.
+#[derive(Debug, Drop)]
+pub struct CommandLine<'a> {
+    pub task: Task,
+    pub kind: Kind,
+    /// The name of the file, or none for standard input.
+    pub file: Option<&'a str>,
+}
