@@ -69,7 +69,8 @@ extern "C" {
  *
  * 1 to 3 are stops. An object that met one returns the same stop from every later call that would
  * take a batch, and its earlier answers are a prefix of those without a stop. From a call that
- * creates an object, ARCHCARAWAY_MEMORY means that there is no object.
+ * creates an object, ARCHCARAWAY_MEMORY means that there is no object. From archcaraway_set_try_..,
+ * ARCHCARAWAY_ARENA_FULL is no stop, unless the set has met it before: the set continues.
  *
  * 101 to 115 are faults of a frame, with the numbers of docs/WIRE.md and 100.
  * ARCHCARAWAY_FRAME_MEMORY is no fault of the frame: an allocation failed while a frame was read or
@@ -176,6 +177,22 @@ int archcaraway_set_new_at(int64_t window, uint64_t limit, int64_t version, arch
  */
 int archcaraway_set_resolve(archcaraway_set *set, const uint8_t *frame, size_t length,
                             uint8_t *reply, size_t capacity, size_t *reply_length);
+
+/*
+ * Judges the batch of a frame, and remembers what it commits, as archcaraway_set_resolve does. But
+ * if the batch doesn't fit the limit, it is refused with ARENA_FULL, and the set is as before: it
+ * doesn't stop, and forgets nothing. Then send fewer transactions, or send the batch at a later
+ * version: boundaries of writes that have left the window make room. Or create a set at the version
+ * of the batch resolved last, by archcaraway_set_new_at.
+ *
+ * The statuses are those of archcaraway_set_resolve, and MEMORY is a stop as there. A set that
+ * resolves by this function and archcaraway_set_try_judge alone never stops with ARENA_FULL.
+ *
+ * If there isn't room without a sweep of boundaries that have left the window, the call looks at
+ * every boundary of the set first. Else it takes as long as archcaraway_set_resolve.
+ */
+int archcaraway_set_try_resolve(archcaraway_set *set, const uint8_t *frame, size_t length,
+                                uint8_t *reply, size_t capacity, size_t *reply_length);
 
 /*
  * Returns the number of boundaries that the set keeps: the keys where the version that it remembers
@@ -347,6 +364,13 @@ int archcaraway_set_judge(archcaraway_set *set, int64_t version, const archcaraw
                           size_t count, uint8_t *verdicts, size_t *bad);
 
 /*
+ * Judges transactions as archcaraway_set_judge does. But if they don't fit the limit, they are
+ * refused with ARENA_FULL, and the set is as before, as with archcaraway_set_try_resolve.
+ */
+int archcaraway_set_try_judge(archcaraway_set *set, int64_t version, const archcaraway_txn *txns,
+                              size_t count, uint8_t *verdicts, size_t *bad);
+
+/*
  * Creates a batch of no transaction, and fills the handle. Free it with archcaraway_batch_free.
  *
  * Statuses: OK, MEMORY, ARGUMENT, PROCESSOR. With any status but OK the handle is one of zeros.
@@ -393,6 +417,13 @@ int archcaraway_set_judge_batch(archcaraway_set *set, int64_t version, archcaraw
                                 uint8_t *verdicts, size_t capacity);
 
 /*
+ * Judges the transactions of a batch as archcaraway_set_judge_batch does. But if they don't fit the
+ * limit, they are refused with ARENA_FULL, and the set is as before.
+ */
+int archcaraway_set_try_judge_batch(archcaraway_set *set, int64_t version,
+                                    archcaraway_batch *batch, uint8_t *verdicts, size_t capacity);
+
+/*
  * Takes the transactions of a batch from a proxy, as the batch of these versions: as
  * archcaraway_core_admit does of a frame. The batch stays as it is.
  *
@@ -428,6 +459,9 @@ int32_t archcaraway_export_core_next(archcaraway_core core, uint32_t *proxy, voi
 int32_t archcaraway_export_set_resolve(archcaraway_set set, const uint8_t *frame, size_t length,
                                        uint8_t *reply, size_t capacity, size_t *reply_length,
                                        void **at);
+int32_t archcaraway_export_set_try_resolve(archcaraway_set set, const uint8_t *frame, size_t length,
+                                           uint8_t *reply, size_t capacity, size_t *reply_length,
+                                           void **at);
 uint64_t archcaraway_export_set_boundaries(archcaraway_set set, void **at);
 void archcaraway_export_set_free(archcaraway_set set);
 int32_t archcaraway_export_core_new(uint32_t proxies, int64_t window, uint64_t limit, void **at);
@@ -462,6 +496,9 @@ void archcaraway_export_batch_free(archcaraway_batch batch);
 int32_t archcaraway_export_set_judge(archcaraway_set set, archcaraway_batch batch, int64_t version,
                                      uint8_t *verdicts, size_t capacity, void **set_at,
                                      void **batch_at);
+int32_t archcaraway_export_set_try_judge(archcaraway_set set, archcaraway_batch batch,
+                                         int64_t version, uint8_t *verdicts, size_t capacity,
+                                         void **set_at, void **batch_at);
 int32_t archcaraway_export_core_admit_batch(archcaraway_core core, uint32_t proxy,
                                             archcaraway_batch batch, int64_t previous,
                                             int64_t version, int64_t received, void **core_at,

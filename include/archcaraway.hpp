@@ -254,13 +254,15 @@ public:
     // Resolves the batch of a frame. Writes the reply to `reply`, which grows as needed.
     Reply resolve(View frame, std::vector<std::uint8_t>& reply) {
         std::size_t length = 0;
-        int status = archcaraway_set_resolve(&set_, frame.data, frame.size, reply.data(),
-                                             reply.size(), &length);
-        if (status == ARCHCARAWAY_BUFFER) {
-            reply.resize(length);
-            status = archcaraway_set_resolve(&set_, frame.data, frame.size, reply.data(),
-                                             reply.size(), &length);
-        }
+        check(resolveBy(archcaraway_set_resolve, frame, reply, length));
+        return Reply(View(reply.data(), length));
+    }
+    // The same, but a batch that doesn't fit the limit is refused: then there is no reply, and the
+    // set is as before. A set that has stopped before with ARENA_FULL gives no reply, either.
+    std::optional<Reply> tryResolve(View frame, std::vector<std::uint8_t>& reply) {
+        std::size_t length = 0;
+        const int status = resolveBy(archcaraway_set_try_resolve, frame, reply, length);
+        if (status == ARCHCARAWAY_ARENA_FULL) return std::nullopt;
         check(status);
         return Reply(View(reply.data(), length));
     }
@@ -276,6 +278,13 @@ public:
 private:
     struct None {};
     explicit Set(None) {}
+    int resolveBy(decltype(archcaraway_set_resolve) call, View frame,
+                  std::vector<std::uint8_t>& reply, std::size_t& length) {
+        const int status = call(&set_, frame.data, frame.size, reply.data(), reply.size(), &length);
+        if (status != ARCHCARAWAY_BUFFER) return status;
+        reply.resize(length);
+        return call(&set_, frame.data, frame.size, reply.data(), reply.size(), &length);
+    }
     archcaraway_set set_ = ARCHCARAWAY_NONE;
 };
 
@@ -422,10 +431,17 @@ public:
         std::vector<std::uint8_t> numbers(size());
         check(archcaraway_set_judge_batch(set.handle(), version, &batch_, numbers.data(),
                                           numbers.size()));
-        std::vector<Verdict> verdicts;
-        verdicts.reserve(numbers.size());
-        for (std::uint8_t number : numbers) verdicts.push_back(static_cast<Verdict>(number));
-        return verdicts;
+        return verdictsOf(numbers);
+    }
+    // The same, but what doesn't fit the limit is refused: then there are no verdicts, and the set
+    // is as before.
+    std::optional<std::vector<Verdict>> tryJudge(Set& set, Version version) {
+        std::vector<std::uint8_t> numbers(size());
+        const int status = archcaraway_set_try_judge_batch(set.handle(), version, &batch_,
+                                                           numbers.data(), numbers.size());
+        if (status == ARCHCARAWAY_ARENA_FULL) return std::nullopt;
+        check(status);
+        return verdictsOf(numbers);
     }
     // Gives the transactions to a core, as a batch of a proxy. The batch may be used again.
     void admit(Core& core, std::uint32_t proxy, Version previous, Version version,
@@ -437,6 +453,12 @@ public:
     archcaraway_batch* handle() { return &batch_; }
 
 private:
+    static std::vector<Verdict> verdictsOf(const std::vector<std::uint8_t>& numbers) {
+        std::vector<Verdict> verdicts;
+        verdicts.reserve(numbers.size());
+        for (std::uint8_t number : numbers) verdicts.push_back(static_cast<Verdict>(number));
+        return verdicts;
+    }
     void push(const KeyRangeRef& range) {
         archcaraway_range pushed{};
         pushed.begin = bytesOf(range.begin);

@@ -72,6 +72,16 @@ int archcaraway_set_resolve(archcaraway_set *set, const uint8_t *frame, size_t l
                                           reply_length, &set->at);
 }
 
+int archcaraway_set_try_resolve(archcaraway_set *set, const uint8_t *frame, size_t length,
+                                uint8_t *reply, size_t capacity, size_t *reply_length) {
+    if (reply_length == NULL) return ARCHCARAWAY_ARGUMENT;
+    *reply_length = 0;
+    if (set == NULL || set->at == NULL) return ARCHCARAWAY_ARGUMENT;
+    if (!is_span(frame, length) || !is_span(reply, capacity)) return ARCHCARAWAY_ARGUMENT;
+    return archcaraway_export_set_try_resolve(*set, readable(frame), length, writable(reply),
+                                              capacity, reply_length, &set->at);
+}
+
 uint64_t archcaraway_set_boundaries(const archcaraway_set *set) {
     void *at = NULL; /* is given the pointer that the handle has */
     if (set == NULL || set->at == NULL) return 0;

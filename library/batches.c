@@ -147,13 +147,26 @@ void archcaraway_batch_free(archcaraway_batch *batch) {
     batch->at = NULL;
 }
 
-int archcaraway_set_judge_batch(archcaraway_set *set, int64_t version, archcaraway_batch *batch,
-                                uint8_t *verdicts, size_t capacity) {
+/* An export that judges the transactions of a batch. */
+typedef int32_t Judge(archcaraway_set set, archcaraway_batch batch, int64_t version,
+                      uint8_t *verdicts, size_t capacity, void **set_at, void **batch_at);
+
+static int judge_batch(Judge *judge, archcaraway_set *set, int64_t version,
+                       archcaraway_batch *batch, uint8_t *verdicts, size_t capacity) {
     if (set == NULL || set->at == NULL || is_none(batch)) return ARCHCARAWAY_ARGUMENT;
     if (capacity > PTRDIFF_MAX || (verdicts == NULL && capacity != 0)) return ARCHCARAWAY_ARGUMENT;
-    return archcaraway_export_set_judge(*set, *batch, version,
-                                        verdicts != NULL ? verdicts : archcaraway_no_bytes(),
-                                        capacity, &set->at, &batch->at);
+    return judge(*set, *batch, version, verdicts != NULL ? verdicts : archcaraway_no_bytes(),
+                 capacity, &set->at, &batch->at);
+}
+
+int archcaraway_set_judge_batch(archcaraway_set *set, int64_t version, archcaraway_batch *batch,
+                                uint8_t *verdicts, size_t capacity) {
+    return judge_batch(archcaraway_export_set_judge, set, version, batch, verdicts, capacity);
+}
+
+int archcaraway_set_try_judge_batch(archcaraway_set *set, int64_t version,
+                                    archcaraway_batch *batch, uint8_t *verdicts, size_t capacity) {
+    return judge_batch(archcaraway_export_set_try_judge, set, version, batch, verdicts, capacity);
 }
 
 int archcaraway_core_admit_batch(archcaraway_core *core, uint32_t proxy, archcaraway_batch *batch,
@@ -176,8 +189,8 @@ static int add_all(archcaraway_batch *batch, const archcaraway_txn *txns, size_t
     return ARCHCARAWAY_OK;
 }
 
-int archcaraway_set_judge(archcaraway_set *set, int64_t version, const archcaraway_txn *txns,
-                          size_t count, uint8_t *verdicts, size_t *bad) {
+static int judge_txns(Judge *judge, archcaraway_set *set, int64_t version,
+                      const archcaraway_txn *txns, size_t count, uint8_t *verdicts, size_t *bad) {
     archcaraway_batch batch = ARCHCARAWAY_NONE;
     size_t first_bad = count;
     int status;
@@ -188,9 +201,19 @@ int archcaraway_set_judge(archcaraway_set *set, int64_t version, const archcaraw
     if (archcaraway_export_batch_new(&batch.at) != ARCHCARAWAY_OK) return ARCHCARAWAY_FRAME_MEMORY;
     status = add_all(&batch, txns, count, &first_bad);
     if (status == ARCHCARAWAY_OK) {
-        status = archcaraway_set_judge_batch(set, version, &batch, verdicts, count);
+        status = judge_batch(judge, set, version, &batch, verdicts, count);
     }
     archcaraway_batch_free(&batch);
     if (bad != NULL) *bad = first_bad;
     return status;
+}
+
+int archcaraway_set_judge(archcaraway_set *set, int64_t version, const archcaraway_txn *txns,
+                          size_t count, uint8_t *verdicts, size_t *bad) {
+    return judge_txns(archcaraway_export_set_judge, set, version, txns, count, verdicts, bad);
+}
+
+int archcaraway_set_try_judge(archcaraway_set *set, int64_t version, const archcaraway_txn *txns,
+                              size_t count, uint8_t *verdicts, size_t *bad) {
+    return judge_txns(archcaraway_export_set_try_judge, set, version, txns, count, verdicts, bad);
 }

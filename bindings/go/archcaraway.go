@@ -102,14 +102,26 @@ func (s *Set) Close() {
 // reply.
 //
 // After an error that isn't a stop the set is as before.
-func (s *Set) Resolve(batch []byte) ([]byte, error) {
+func (s *Set) Resolve(batch []byte) ([]byte, error) { return s.resolve(batch, false) }
+
+// TryResolve judges a batch as Resolve does. But if the batch doesn't fit the limit, it returns
+// ArenaFull, and the set is as before: it hasn't stopped.
+func (s *Set) TryResolve(batch []byte) ([]byte, error) { return s.resolve(batch, true) }
+
+func (s *Set) resolve(batch []byte, refuse bool) ([]byte, error) {
 	s.mutex.Lock()
 	defer s.mutex.Unlock()
 	reply := make([]byte, 256)
 	for {
 		var length C.size_t
-		status := C.archcaraway_set_resolve(&s.handle, pointer(batch), C.size_t(len(batch)),
-			pointer(reply), C.size_t(len(reply)), &length)
+		var status C.int
+		if refuse {
+			status = C.archcaraway_set_try_resolve(&s.handle, pointer(batch), C.size_t(len(batch)),
+				pointer(reply), C.size_t(len(reply)), &length)
+		} else {
+			status = C.archcaraway_set_resolve(&s.handle, pointer(batch), C.size_t(len(batch)),
+				pointer(reply), C.size_t(len(reply)), &length)
+		}
 		if status != C.ARCHCARAWAY_BUFFER {
 			return reply[:length], check(status)
 		}

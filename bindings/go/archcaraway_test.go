@@ -175,6 +175,35 @@ func TestCoreOrdersBatches(t *testing.T) {
 	}
 }
 
+func TestRefusedBatch(t *testing.T) {
+	set, err := NewSet(Window, 3)
+	if err != nil {
+		t.Fatal(err)
+	}
+	defer set.Close()
+	write := func(version int64, key string) []byte {
+		writes := Transaction{Writes: []Range{Key([]byte(key))}}
+		return encoded(t, Batch{-1, version, -1, []Transaction{writes}})
+	}
+	for _, row := range []struct {
+		version int64
+		key     string
+		status  error
+	}{
+		{100, "k", nil}, {200, "m", ArenaFull}, {200, "m", ArenaFull}, {5_000_101, "m", nil},
+	} {
+		if _, err := set.TryResolve(write(row.version, row.key)); err != row.status {
+			t.Errorf("%v: %v", row, err)
+		}
+	}
+	if _, err := set.Resolve(write(5_000_102, "k")); err != ArenaFull {
+		t.Error(err)
+	}
+	if _, err := set.TryResolve(write(20_000_000, "k")); err != ArenaFull {
+		t.Error(err)
+	}
+}
+
 func TestStartAtAVersion(t *testing.T) {
 	set, err := NewSetAt(Window, Limit, 1000)
 	if err != nil {

@@ -175,6 +175,25 @@ static void starts() {
     DEMAND(core.next() == 1u && core.stats().version == 1001 && core.stats().owed == 1);
 }
 
+// What doesn't fit the limit is refused, and the set continues.
+static void tries() {
+    Set set(ARCHCARAWAY_WINDOW, 3);
+    std::vector<std::uint8_t> bytes;
+    BatchWriter writer;
+    writer.begin(-1, 100, -1);
+    writer.transaction(0);
+    writer.write("a");
+    DEMAND(set.tryResolve(writer.end(), bytes)->size() == 1);
+    Batch batch;
+    batch.add(transaction(0, {}, {KeyRangeRef::single("b")}));
+    DEMAND(batch.tryJudge(set, 200) == std::nullopt && set.stats().version == 100);
+    writer.begin(-1, 200, -1);
+    writer.transaction(0);
+    writer.write("b");
+    DEMAND(!set.tryResolve(writer.end(), bytes) && set.boundaries() == 3);
+    DEMAND(batch.tryJudge(set, 101 + ARCHCARAWAY_WINDOW)->size() == 1 && set.boundaries() == 3);
+}
+
 #if defined(__cpp_exceptions)
 template <typename Call>
 static int refusal(Call call) {
@@ -222,6 +241,7 @@ int main() {
     batches();
     shards();
     starts();
+    tries();
     refusals();
     std::puts("header: views, single keys, iterators, moves, batches, shards and refusals are as the header says");
 }

@@ -31,6 +31,8 @@ class ProcessorError(Error):
     """The processor lacks instructions that the library needs."""
 
 
+ARENA_FULL = 3
+
 _CLASSES: dict[int, type[Error]] = {number: FrameError for number in [*range(101, 116), 204]}
 _CLASSES |= {1: Stop, 2: Stop, 3: Stop, 201: VersionError, 202: ArgumentError, 205: ProcessorError}
 

@@ -10,7 +10,7 @@ from collections.abc import Iterable, Iterator
 from dataclasses import dataclass
 from typing import Any, Optional, TypeVar, Union
 
-from ._errors import Stop, check
+from ._errors import ARENA_FULL, Stop, check
 from ._library import LIBRARY, Handle, StatsRecord
 from ._values import Key, Reply, Transaction, Verdict, as_bytes, as_integer, decode
 from ._values import transaction_record
@@ -179,6 +179,19 @@ class ConflictSet(_Judge):
             verdicts = ctypes.create_string_buffer(len(batch))
             check(self._call("judge_batch", number, batch._handle, verdicts, len(batch)))
         return tuple(map(Verdict, verdicts.raw))
+
+    def try_resolve(self, batch: Key) -> Optional[Reply]:
+        """Like resolve, but returns None if the batch doesn't fit the limit.
+
+        Then the set is as before. A set that has met its limit in resolve always returns None.
+        """
+        frame = as_bytes(batch)
+        try:
+            return decode(self._fill("try_resolve", frame, len(frame), ()))
+        except Stop as refused:
+            if refused.status != ARENA_FULL:
+                raise
+            return None
 
     @property
     def boundaries(self) -> int:

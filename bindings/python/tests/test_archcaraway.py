@@ -80,6 +80,25 @@ def test_a_set_that_starts_at_a_version() -> None:
         conflicts.resolve(encode(7, []))
 
 
+def test_a_batch_that_does_not_fit_is_refused() -> None:
+    def write(version: int, key: bytes) -> bytes:
+        return encode(version, [Transaction(0, writes=[key])])
+
+    with ConflictSet(limit=3) as conflicts:
+        assert conflicts.try_resolve(write(100, b"k")) is not None
+        before = conflicts.stats
+        assert conflicts.try_resolve(write(200, b"m")) is None
+        assert conflicts.stats == before
+        reply = conflicts.try_resolve(encode(200, [Transaction(99, [b"k"])]))
+        assert reply is not None and reply.verdicts == (Verdict.CONFLICT,)
+        assert conflicts.try_resolve(write(5_000_101, b"m")) is not None
+        with pytest.raises(VersionError):
+            conflicts.try_resolve(write(5_000_101, b"m"))
+        with pytest.raises(Stop):
+            conflicts.resolve(write(5_000_102, b"n"))
+        assert conflicts.try_resolve(encode(20_000_000, [])) is None
+
+
 def test_a_core_that_starts_at_a_version() -> None:
     start = 10**9
     with Core(3, version=start) as core:

@@ -7,6 +7,7 @@
 // | `conflict::ConflictSet::new` | `least_window`, `most_window`, `least_limit`, `most_limit` | `check_set`: `NewError::Window`, `NewError::Limit` |
 // | `conflict::ConflictSet::new_at` | the same, and `least_version` | `check_set`, `check_version`: `NewError::Version` |
 // | `conflict::ConflictSet::resolve` | `rising`: the version is above that of the batch resolved last | `ResolveError::Version`, by the field `version` |
+// | `conflict::ConflictSet::try_resolve` | the same | the same |
 // | `conflict::ConflictSet::boundaries`, `limit`, `edge` | none | |
 
 use crate::batch::Batch;
@@ -92,6 +93,42 @@ impl ConflictSet {
     /// After [`ResolveError::Version`] the set is unchanged. A stop is final: every later call
     /// returns it.
     pub fn resolve(&mut self, batch: &Batch) -> Result<Reply, ResolveError> {
+        self.check(batch)?;
+        let resolved = self.set.resolve(batch.inner());
+        self.settle(batch, resolved)
+    }
+
+    /// Judges a batch as [`resolve`](ConflictSet::resolve) does, but refuses it if the set has no
+    /// room for its writes.
+    ///
+    /// After [`ResolveError::Full`] and [`ResolveError::Version`] the set is unchanged, and has not
+    /// stopped. Then resolve fewer transactions, or the batch at a later version, when boundaries
+    /// have left the window; or create a set at its version by [`new_at`](ConflictSet::new_at).
+    /// [`Stop::Memory`] is final, as there.
+    ///
+    /// If there is no room without a sweep, the call looks at every boundary.
+    ///
+    /// ```
+    /// use archcaraway::{BatchBuilder, ConflictSet, ResolveError, Txn};
+    ///
+    /// let mut set = ConflictSet::new(10, 3)?;
+    /// let two = Txn::at(0).write_key("a").write_key("c");
+    /// let batch = BatchBuilder::new(-1, 1).txn(two).build()?;
+    /// assert_eq!(set.try_resolve(&batch).unwrap_err(), ResolveError::Full);
+    /// let smaller = BatchBuilder::new(-1, 1).txn(Txn::at(0).write_key("a")).build()?;
+    /// assert!(set.try_resolve(&smaller).is_ok());
+    /// # Ok::<(), Box<dyn std::error::Error>>(())
+    /// ```
+    pub fn try_resolve(&mut self, batch: &Batch) -> Result<Reply, ResolveError> {
+        self.check(batch)?;
+        match self.set.try_resolve(batch.inner()) {
+            Err(SetStop::ArenaFull) => Err(ResolveError::Full),
+            resolved => self.settle(batch, resolved),
+        }
+    }
+
+    // Returns why the set doesn't take the batch, if it doesn't.
+    fn check(&self, batch: &Batch) -> Result<(), ResolveError> {
         if let Some(stop) = self.stop {
             return Err(ResolveError::Stop(stop));
         }
@@ -99,9 +136,18 @@ impl ConflictSet {
         if version <= last {
             return Err(ResolveError::Version { version, last });
         }
-        match self.set.resolve(batch.inner()) {
+        Ok(())
+    }
+
+    // Remembers what became of the batch.
+    fn settle(
+        &mut self,
+        batch: &Batch,
+        resolved: Result<keyspace::Reply, SetStop>,
+    ) -> Result<Reply, ResolveError> {
+        match resolved {
             Ok(reply) => {
-                self.version = version;
+                self.version = batch.version();
                 Ok(Reply::over(reply))
             }
             Err(stop) => {
@@ -158,6 +204,9 @@ pub enum ResolveError {
         /// The version of the batch resolved last.
         last: i64,
     },
+    /// The batch does not fit the limit, and [`ConflictSet::try_resolve`] has refused it: the set is
+    /// unchanged.
+    Full,
     /// The set has stopped.
     Stop(Stop),
 }
@@ -171,6 +220,7 @@ impl fmt::Display for ResolveError {
                     "version {version} is not above {last}, which was resolved last"
                 )
             }
+            ResolveError::Full => f.write_str("the batch needs more boundaries than the limit"),
             ResolveError::Stop(stop) => stop.fmt(f),
         }
     }

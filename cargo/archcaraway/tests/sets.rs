@@ -63,6 +63,37 @@ fn a_stop_is_final() {
     );
 }
 
+#[test]
+fn a_batch_that_does_not_fit_is_refused() {
+    let mut set = ConflictSet::new(WINDOW, 3).expect("the numbers are right");
+    let write = |version, key: &'static str| {
+        let batch = BatchBuilder::new(-1, version).txn(Txn::at(0).write_key(key));
+        batch.build().expect("it is within the limits")
+    };
+    assert!(set.try_resolve(&write(100, "k")).is_ok());
+    for _ in 0..2 {
+        assert_eq!(set.try_resolve(&write(200, "m")), Err(ResolveError::Full));
+        assert_eq!(
+            (set.version(), set.edge(), set.boundaries(), set.stop()),
+            (100, 0, 3, None)
+        );
+    }
+    // The set still remembers the write at 100, and takes a batch that needs no boundary.
+    let read = BatchBuilder::new(-1, 200).txn(Txn::at(99).read_key("k"));
+    let reply = set.try_resolve(&read.build().expect("it is within the limits"));
+    assert_eq!(
+        reply.expect("it fits").verdict(0),
+        Some(Verdict::Conflict)
+    );
+    // Later the window has moved, and the write at 100 makes room.
+    assert!(set.try_resolve(&write(101 + WINDOW, "m")).is_ok());
+    assert_eq!(set.boundaries(), 3);
+    // The same batch stops a set that resolves it.
+    let stopped = Err(ResolveError::Stop(Stop::ArenaFull));
+    assert_eq!(set.resolve(&write(102 + WINDOW, "k")), stopped);
+    assert_eq!(set.try_resolve(&write(103 + 2 * WINDOW, "k")), stopped);
+}
+
 type Keys = (Vec<u8>, Vec<u8>);
 
 struct Judged {

@@ -67,7 +67,7 @@ const _: () = {
 
 #[test]
 fn texts_of_errors() {
-    let errors: [(Box<dyn Error>, &str); 10] = [
+    let errors: [(Box<dyn Error>, &str); 11] = [
         (
             BuildError::Range {
                 txn: 3,
@@ -105,6 +105,10 @@ fn texts_of_errors() {
             "version 7 is not above 8, which was resolved last",
         ),
         (ResolveError::from(Stop::Memory).into(), "allocation failed"),
+        (
+            ResolveError::Full.into(),
+            "the batch needs more boundaries than the limit",
+        ),
         (
             CoreError::Proxy {
                 proxy: 2,

@@ -158,6 +158,45 @@ fn boundaries_and_stops_are_those_of_the_step_function() {
     });
 }
 
+/// With a small limit: a batch is refused exactly where the step function has no room after a sweep, and leaves no trace.
+#[test]
+fn refused_batches_leave_no_trace() {
+    run("refused_batches_leave_no_trace", count(1_000_000, 20_000), |random| {
+        let mut chain = Chain::drawn(random);
+        let limit = random.pick(&[1, 2, 3, 5, 9, 20, 60, 300]);
+        let mut set = set(chain.window, limit);
+        let mut scan = Scan::new(chain.window);
+        let mut steps = Steps::new(limit);
+        let mut txns = 0;
+        for _ in 0..batches(random).min(200) {
+            let batch = chain.next(random);
+            txns += 1 + batch.txns.len() as u64;
+            let (mut scanned, mut stepped) = (scan.clone(), steps.clone());
+            let expected = scanned.resolve(&batch);
+            let writes = united(scanned.written_at(batch.version).into_iter().cloned());
+            stepped.edge = scanned.edge(batch.version);
+            let fits = stepped.prepare(writes.len());
+            let before = (set.boundaries(), set.edge(), set.version());
+            match set.try_resolve(&batch.batch()) {
+                Ok(reply) => {
+                    assert!(fits, "{batch:?}");
+                    assert_eq!(PlainReply::of(&reply), expected, "{batch:?}");
+                    writes.iter().for_each(|write| stepped.write(write, batch.version));
+                    stepped.sweep(3 * writes.len() + 10);
+                    (scan, steps) = (scanned, stepped);
+                    assert_eq!(set.boundaries(), steps.boundaries.len());
+                }
+                Err(stop) => {
+                    assert_eq!(stop, SetStop::ArenaFull);
+                    assert!(!fits, "{batch:?}");
+                    assert_eq!((set.boundaries(), set.edge(), set.version()), before);
+                }
+            }
+        }
+        txns
+    });
+}
+
 fn stays_stopped(set: &mut ConflictSet, chain: &mut Chain, batch: &PlainBatch, random: &mut Random) {
     assert_eq!(set.resolve(&batch.batch()).err(), Some(SetStop::ArenaFull), "{batch:?}");
     let boundaries = set.boundaries();

@@ -9,3 +9,4 @@ pub mod ReadFrames
 pub mod Combining
 pub mod Clipping
 pub mod PointsRefused
+pub mod WhenFull

@@ -11,6 +11,7 @@ use Rattle.keyspace.specs.Writes.{Write}
 use Rattle.keyspace.specs.Judged.{Judged}
 use Rattle.stepmap.specs.Covers.{MapCovers}
 use Rattle.conflict.specs.declared.error.SetStop.{SetStop}
+use Rattle.conflict.specs.declared.when_full.WhenFull.{WhenFull}
 use Rattle.conflict.specs.ConflictSet.{SetState}
 use Rattle.resolver.specs.declared.stop.Stop.{Stop as StopValue}
 use Rattle.resolver.specs.Stop.{stop_at_set}
@@ -53,28 +54,28 @@ pub record AreVerdicts (set : SetState) (version : ℤ) (txns : List TxnFields) 
   pub answered : verdicts ≡ verdict_numbers reply.entries
   pub judged : (ws : List Write) → MapCovers set.map ws → Judged set.window ws batch reply
 
--- the set meets this stop at the batch of this version with these transactions
-pub record JudgeStops (old new : SetState) (version : ℤ) (txns : List TxnFields) (stop : StopValue) : Type 0 where
+-- the set meets this stop, or refuses for it, at the batch of this version with these transactions
+pub record JudgeStops (when_full : WhenFull) (old new : SetState) (version : ℤ) (txns : List TxnFields) (stop : StopValue) : Type 0 where
   pub batch : Batch
   pub asked : IsBatchOf (negsuc 0) version (negsuc 0) txns batch
   pub rising : old.resolved <ℤ version
   pub met : SetStop
   pub stop_is : stop ≡ stop_at_set met
-  pub at_batch : StopsAt old new batch met
+  pub at_batch : StopsAt when_full old new batch met
 
 -- Why a set doesn't judge transactions at a version, given room for so many verdicts, and what it is then: as before, unless it
--- meets a stop now.
-abbrev pub JudgeRefuses : SetState → SetState → ℤ → List TxnFields → ℕ → Refusal → Type 0
-JudgeRefuses old new version txns room (Stop stop) =
+-- meets a stop now. A set that refuses what doesn't fit its limit is as before then, too.
+abbrev pub JudgeRefuses : WhenFull → SetState → SetState → ℤ → List TxnFields → ℕ → Refusal → Type 0
+JudgeRefuses when_full old new version txns room (Stop stop) =
     ((met : SetStop) × (old.stop ≡ Some met) × (stop ≡ stop_at_set met) × (new ≡ old))
-    ⊎ ((old.stop ≡ None) × JudgeStops old new version txns stop)
-JudgeRefuses old new version txns room (Wire fault) = (old.stop ≡ None) × (fault ≡ wire.Memory) × (new ≡ old)
-JudgeRefuses old new version txns room Version =
+    ⊎ ((old.stop ≡ None) × JudgeStops when_full old new version txns stop)
+JudgeRefuses when_full old new version txns room (Wire fault) = (old.stop ≡ None) × (fault ≡ wire.Memory) × (new ≡ old)
+JudgeRefuses when_full old new version txns room Version =
     (old.stop ≡ None) × ((version <ℤ pos 0) ⊎ (version ≤ℤ old.resolved)) × (new ≡ old)
-JudgeRefuses old new version txns room (Buffer needed) =
+JudgeRefuses when_full old new version txns room (Buffer needed) =
     (old.stop ≡ None) × (needed ≡ length txns) × (room < needed) × (new ≡ old)
-JudgeRefuses old new version txns room Argument = ⊥
-JudgeRefuses old new version txns room Behind = ⊥
+JudgeRefuses when_full old new version txns room Argument = ⊥
+JudgeRefuses when_full old new version txns room Behind = ⊥
 
 -- Why a core doesn't take transactions from a proxy as the batch of these versions, and what it is then: as before, unless it meets
 -- a stop now.

@@ -7,6 +7,8 @@ use Rattle.keyspace.specs.Judged.{edge, Judged}
 use Rattle.stepmap.specs.Covers.{MapCovers}
 use Rattle.conflict.specs.declared.error.SetStop.{SetStop}
 use Rattle.conflict.specs.declared.error.SetStop.TheVariants.{Memory, ArenaFull}
+use Rattle.conflict.specs.declared.when_full.WhenFull.{WhenFull}
+use Rattle.conflict.specs.declared.when_full.WhenFull.TheVariants as when
 use Rattle.conflict.specs.ConflictSet.{SetState, Remembers, IsOverLimit, raised, HasRoomToWrite, HasNoRoomToWrite}
 use Rattle.resolver.specs.declared.stop.Stop.{Stop as StopValue}
 use Rattle.resolver.specs.Stop.{stop_at_set}
@@ -52,11 +54,17 @@ pub record IsReplied (set : SetState) (frame answer : List ℕ) : Type 0 where
   pub answered : SpellsReply answer reply
   pub judged : (ws : List Write) → MapCovers set.map ws → Judged set.window ws batch reply
 
--- The set meets this stop at the batch. It is `ArenaFull` only if what the batch commits can't be written within the limit: the
+-- What a set is that doesn't resolve a batch for this reason: it has stopped, or it is as before.
+abbrev pub MetNow : WhenFull → SetState → SetState → SetStop → Type 0
+MetNow when.Stop old new met = new.stop ≡ Some met
+MetNow when.Refuse old new Memory = new.stop ≡ Some Memory
+MetNow when.Refuse old new ArenaFull = new ≡ old
+
+-- The set meets this stop at the batch, or refuses the batch for it. It is `ArenaFull` only if what the batch commits can't be written within the limit: the
 -- live writes, these included, have too many boundaries, and a whole round of the sweep makes too little room. It is `Memory`
 -- before such a round, or if there is room.
-pub record StopsAt (old new : SetState) (batch : Batch) (met : SetStop) : Type 0 where
-  pub met_now : new.stop ≡ Some met
+pub record StopsAt (when_full : WhenFull) (old new : SetState) (batch : Batch) (met : SetStop) : Type 0 where
+  pub met_now : MetNow when_full old new met
   pub window : new.window ≡ old.window
   pub limit : new.map.limit ≡ old.map.limit
   pub full :
@@ -70,30 +78,31 @@ pub record StopsAt (old new : SetState) (batch : Batch) (met : SetStop) : Type 0
       (new.map.boundaries ≡ old.map.boundaries)
       ⊎ HasRoomToWrite (raised (edge old.window batch) old.map) (committed batch.txns reply.entries)
 
--- The set meets this stop at the batch of the frame, which is above that resolved last and whose reply would have fitted.
-pub record StopsNow (old new : SetState) (frame : List ℕ) (capacity : ℕ) (stop : StopValue) : Type 0 where
+-- The set meets this stop, or refuses for it, at the batch of the frame, which is above that resolved last and whose reply would have fitted.
+pub record StopsNow (when_full : WhenFull) (old new : SetState) (frame : List ℕ) (capacity : ℕ) (stop : StopValue) : Type 0 where
   pub batch : Batch
   pub asked : IsFrame frame batch
   pub rising : old.resolved <ℤ batch.version
   pub fits : most_reply_length batch ≤ capacity
   pub met : SetStop
   pub stop_is : stop ≡ stop_at_set met
-  pub at_batch : StopsAt old new batch met
+  pub at_batch : StopsAt when_full old new batch met
 
--- Why a set refuses a frame, given so many bytes for the reply, and what it is then: as before, unless it meets a stop now.
-abbrev pub SetRefuses : SetState → SetState → List ℕ → ℕ → Refusal → Type 0
-SetRefuses old new frame capacity (Stop stop) =
+-- Why a set refuses a frame, given so many bytes for the reply, and what it is then: as before, unless it meets a stop now. A set
+-- that refuses what doesn't fit its limit is as before then, too.
+abbrev pub SetRefuses : WhenFull → SetState → SetState → List ℕ → ℕ → Refusal → Type 0
+SetRefuses when_full old new frame capacity (Stop stop) =
     ((met : SetStop) × (old.stop ≡ Some met) × (stop ≡ stop_at_set met) × (new ≡ old))
-    ⊎ ((old.stop ≡ None) × StopsNow old new frame capacity stop)
-SetRefuses old new frame capacity (Wire fault) = (old.stop ≡ None) × IsNoFrame frame (Wire fault) × (new ≡ old)
-SetRefuses old new frame capacity Behind = (old.stop ≡ None) × IsNoFrame frame Behind × (new ≡ old)
-SetRefuses old new frame capacity Version =
+    ⊎ ((old.stop ≡ None) × StopsNow when_full old new frame capacity stop)
+SetRefuses when_full old new frame capacity (Wire fault) = (old.stop ≡ None) × IsNoFrame frame (Wire fault) × (new ≡ old)
+SetRefuses when_full old new frame capacity Behind = (old.stop ≡ None) × IsNoFrame frame Behind × (new ≡ old)
+SetRefuses when_full old new frame capacity Version =
     (old.stop ≡ None) × ((batch : Batch) × IsFrame frame batch × (batch.version ≤ℤ old.resolved)) × (new ≡ old)
-SetRefuses old new frame capacity (Buffer needed) =
+SetRefuses when_full old new frame capacity (Buffer needed) =
     (old.stop ≡ None)
     × ((batch : Batch) × IsFrame frame batch × (needed ≡ most_reply_length batch) × (capacity < needed))
     × (new ≡ old)
-SetRefuses old new frame capacity Argument = ⊥
+SetRefuses when_full old new frame capacity Argument = ⊥
 
 -- the set stops, and refuses by that stop
 abbrev pub Stops : SetState → Refusal → Type 0

@@ -13,6 +13,7 @@ use crate::batch_handle::BatchHandle;
 use crate::core_handle::CoreHandle;
 use crate::refusal::OK;
 use crate::set_handle::SetHandle;
+use conflict::WhenFull;
 
 /// Judges the transactions of a batch at a version, and writes the numbers of their verdicts.
 #[unsafe(no_mangle)]
@@ -27,13 +28,42 @@ pub extern "C" fn archcaraway_export_set_judge(
     ensures judged { result ≡ pos 0
         → AreVerdicts set.value version batch.value (take (length batch.value) verdicts.new) }
     ensures refused { result ≢ pos 0 → (refusal : Refusal) × (result ≡ refusal_status refusal)
-        × ((after : SetState) × JudgeRefuses set.value after version batch.value
-        (length verdicts.old) refusal) }
+        × ((after : SetState) × JudgeRefuses WhenFull.Stop set.value after version
+        batch.value (length verdicts.old) refusal) }
     ensures stopped { IfSome set.value.stop (λ stop. result ≡ stop_status (stop_at_set stop)) }
 {
     let mut set = set.into_box();
     let batch = batch.into_box();
-    let judged = set.judge(&batch, version, verdicts);
+    let judged = set.judge(&batch, version, verdicts, WhenFull::Stop);
+    *set_at = Box::into_raw(set).cast();
+    *batch_at = Box::into_raw(batch).cast();
+    match judged {
+        Ok(()) => OK,
+        Err(refusal) => refusal.status(),
+    }
+}
+
+/// Judges the transactions of a batch, as `archcaraway_export_set_judge` does, but refuses them if
+/// they don't fit the limit: the set is as before then.
+#[unsafe(no_mangle)]
+pub extern "C" fn archcaraway_export_set_try_judge(
+    set: SetHandle,
+    batch: BatchHandle,
+    version: i64,
+    verdicts: &mut [u8],
+    set_at: &mut *mut u8,
+    batch_at: &mut *mut u8,
+) -> i32
+    ensures judged { result ≡ pos 0
+        → AreVerdicts set.value version batch.value (take (length batch.value) verdicts.new) }
+    ensures refused { result ≢ pos 0 → (refusal : Refusal) × (result ≡ refusal_status refusal)
+        × ((after : SetState) × JudgeRefuses WhenFull.Refuse set.value after version
+        batch.value (length verdicts.old) refusal) }
+    ensures stopped { IfSome set.value.stop (λ stop. result ≡ stop_status (stop_at_set stop)) }
+{
+    let mut set = set.into_box();
+    let batch = batch.into_box();
+    let judged = set.judge(&batch, version, verdicts, WhenFull::Refuse);
     *set_at = Box::into_raw(set).cast();
     *batch_at = Box::into_raw(batch).cast();
     match judged {

@@ -12,6 +12,7 @@ ghost use Rattle.archcaraway_c.specs.declared.refusal.Refusal.{Refusal};
 use crate::refusal::{OK, Refusal};
 use crate::set_handle::SetHandle;
 use crate::set_object::SetObject;
+use conflict::WhenFull;
 use resolver::Stop;
 use std::alloc::Global;
 
@@ -52,11 +53,45 @@ pub extern "C" fn archcaraway_export_set_resolve(
         → IsReplied set.value frame.now (take answer_length.new answer.new) }
     ensures refused { result ≢ pos 0 → (refusal : Refusal) × (result ≡ refusal_status refusal)
         × (answer_length.new ≡ bytes_needed refusal)
-        × ((after : SetState) × SetRefuses set.value after frame.now (length answer.old) refusal) }
+        × ((after : SetState) × SetRefuses WhenFull.Stop set.value after frame.now
+        (length answer.old) refusal) }
     ensures stopped { IfSome set.value.stop (λ stop. result ≡ stop_status (stop_at_set stop)) }
 {
     let mut set = set.into_box();
-    let resolved = set.resolve(frame, answer);
+    let resolved = set.resolve(frame, answer, WhenFull::Stop);
+    *at = Box::into_raw(set).cast();
+    match resolved {
+        Ok(length) => {
+            *answer_length = length;
+            OK
+        }
+        Err(refusal) => {
+            *answer_length = refusal.needed();
+            refusal.status()
+        }
+    }
+}
+
+/// Resolves the batch of a frame, as `archcaraway_export_set_resolve` does, but refuses it if it
+/// doesn't fit the limit: the set is as before then.
+#[unsafe(no_mangle)]
+pub extern "C" fn archcaraway_export_set_try_resolve(
+    set: SetHandle,
+    frame: &[u8],
+    answer: &mut [u8],
+    answer_length: &mut usize,
+    at: &mut *mut u8,
+) -> i32
+    ensures replied { result ≡ pos 0
+        → IsReplied set.value frame.now (take answer_length.new answer.new) }
+    ensures refused { result ≢ pos 0 → (refusal : Refusal) × (result ≡ refusal_status refusal)
+        × (answer_length.new ≡ bytes_needed refusal)
+        × ((after : SetState) × SetRefuses WhenFull.Refuse set.value after frame.now
+        (length answer.old) refusal) }
+    ensures stopped { IfSome set.value.stop (λ stop. result ≡ stop_status (stop_at_set stop)) }
+{
+    let mut set = set.into_box();
+    let resolved = set.resolve(frame, answer, WhenFull::Refuse);
     *at = Box::into_raw(set).cast();
     match resolved {
         Ok(length) => {

@@ -4,7 +4,7 @@ ghost use Rattle.std.specs.Prelude.{◌≡◌, ◌≤◌, ◌⊎◌, ◌↔◌, 
 ghost use Rattle.std.specs.Prelude.{Some, IsTrue, IfOk, IfErr, IfSome};
 ghost use Rattle.keyspace.specs.Writes.{Write};
 ghost use Rattle.conflict.specs.declared.error.SetStop.{SetStop as SetStopValue};
-ghost use Rattle.conflict.specs.ConflictSet.{new_set, Remembers};
+ghost use Rattle.conflict.specs.ConflictSet.{new_set, stop_after, Remembers};
 ghost use Rattle.resolver.specs.Stop.{stop_at_set};
 ghost use Rattle.archcaraway_c.specs.BatchFrame.{IsFrame, IsNoFrame};
 ghost use Rattle.archcaraway_c.specs.Bound.{most_reply_length};
@@ -19,7 +19,7 @@ use crate::bound::most_reply_length;
 use crate::numbers::are_set_numbers;
 use crate::refusal::Refusal;
 use crate::reply_frame::put_frame;
-use conflict::{ConflictSet, SetStop};
+use conflict::{ConflictSet, SetStop, WhenFull};
 use keyspace::Batch;
 use resolver::Stop;
 use std::alloc::Global;
@@ -78,14 +78,21 @@ impl SetObject {
     /// frame: `Wire`, `Behind`. The version of the batch isn't above that of the batch resolved
     /// last: `Version`. The buffer is shorter than the longest reply to the batch: `Buffer`. Then
     /// the batch is resolved, or the set stops for good: with `ArenaFull` only if what the batch
-    /// commits can't be written within the limit. After any refusal but a stop that is met now, the
-    /// set is as before.
-    pub fn resolve(&mut self, frame: &[u8], answer: &mut [u8]) -> Result<usize, Refusal>
+    /// commits can't be written within the limit. If `when_full` is `Refuse`, it doesn't stop for
+    /// that, and returns the same. After any refusal but a stop that is met now, the set is as
+    /// before.
+    pub fn resolve(
+        &mut self,
+        frame: &[u8],
+        answer: &mut [u8],
+        when_full: WhenFull,
+    ) -> Result<usize, Refusal>
         ensures resolved { IfOk result
             (λ count. Resolves self.old self.new frame.now (take count answer.new)) }
         ensures within { IfOk result (λ count. count ≤ length answer.new) }
         ensures refused { IfErr result
-            (λ refusal. SetRefuses self.old self.new frame.now (length answer.old) refusal) }
+            (λ refusal. SetRefuses when_full self.old self.new frame.now (length answer.old)
+            refusal) }
         ensures kept { IfErr result (λ refusal. (self.new ≡ self.old) ⊎ Stops self.new refusal) }
         ensures stopped { IfSome self.old.stop
             (λ stop. (result ≡ Err (Refusal.Stop (stop_at_set stop)))
@@ -105,7 +112,7 @@ impl SetObject {
         if answer.len() < most {
             return Err(Refusal::Buffer(most));
         }
-        match self.reply(&batch) {
+        match self.reply(&batch, when_full) {
             Ok(reply) => Ok(put_frame(&reply, answer)),
             Err(refusal) => Err(refusal),
         }
@@ -143,23 +150,23 @@ impl SetObject {
         batch.version <= self.resolved
     }
 
-    // Resolves a batch and returns the frame of its reply, or stops.
-    fn reply(&mut self, batch: &Batch) -> Result<Vec<u8>, Refusal>
+    // Resolves a batch and returns the frame of its reply, or stops, or refuses it.
+    fn reply(&mut self, batch: &Batch, when_full: WhenFull) -> Result<Vec<u8>, Refusal>
         requires goes_on { self.old.stop ≡ None }
         requires rising { self.old.resolved <ℤ batch.now.version }
         ensures replies { IfOk result (λ reply. Replies self.old self.new batch.now reply.items) }
         ensures short { IfOk result (λ reply. length reply.items ≤ most_reply_length batch.now) }
         ensures stops { IfErr result (λ refusal. (met : SetStopValue)
             × (refusal ≡ Refusal.Stop (stop_at_set met))
-            × StopsAt self.old self.new batch.now met) }
+            × StopsAt when_full self.old self.new batch.now met) }
     {
-        match reply_to(self.alloc, &mut self.set, batch) {
+        match reply_to(self.alloc, &mut self.set, batch, when_full) {
             Ok(reply) => {
                 self.resolved = batch.version;
                 Ok(reply)
             }
             Err(stop) => {
-                self.stop = Some(stop);
+                self.stop = when_full.stop_for(stop);
                 Err(Refusal::Stop(Stop::from(stop)))
             }
         }
@@ -167,17 +174,24 @@ impl SetObject {
 }
 
 // Resolves a batch, and returns the frame of its reply.
-fn reply_to(alloc: Global, set: &mut ConflictSet, batch: &Batch) -> Result<Vec<u8>, SetStop>
+fn reply_to(
+    alloc: Global,
+    set: &mut ConflictSet,
+    batch: &Batch,
+    when_full: WhenFull,
+) -> Result<Vec<u8>, SetStop>
     requires goes_on { set.old.stop ≡ None }
     requires rising { set.old.resolved <ℤ batch.now.version }
     requires remembers { (ws : List Write) × Remembers set.old ws }
     ensures replies { IfOk result (λ reply. Replies set.old set.new batch.now reply.items) }
     ensures short { IfOk result (λ reply. length reply.items ≤ most_reply_length batch.now) }
-    ensures stops { IfErr result (λ stop. StopsAt set.old (record set.new { stop = Some stop })
-        batch.now stop) }
+    ensures stops { IfErr result (λ stop. StopsAt when_full set.old
+        (record set.new { stop = stop_after when_full stop }) batch.now stop) }
+    ensures refused { when_full ≡ WhenFull.Refuse → result ≡ Err SetStop.ArenaFull
+        → set.new ≡ set.old }
     ensures remembers { (ws : List Write) × Remembers set.new ws }
 {
-    let reply = match set.resolve(batch) {
+    let reply = match set.resolve_when(batch, when_full) {
         Ok(reply) => reply,
         Err(stop) => return Err(stop),
     };

@@ -25,3 +25,4 @@ pub mod Edges
 pub mod UnknownHistory
 pub mod Paced
 pub mod Starting
+pub mod Stopping

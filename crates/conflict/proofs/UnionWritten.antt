@@ -15,7 +15,7 @@ use Rattle.conflict.specs.declared.union.Span.{Span}
 use Rattle.conflict.specs.Union.{AreSpanned}
 use Rattle.stepmap.specs.declared.error.StepError.{StepError}
 use Rattle.stepmap.specs.declared.error.StepError.TheVariants as step
-use Rattle.conflict.specs.declared.error.SetStop.TheVariants.{ArenaFull}
+use Rattle.conflict.specs.declared.error.SetStop.TheVariants.{Memory, ArenaFull}
 use Rattle.conflict.specs.ConflictSet.{stop_of, IsOverLimit}
 use Rattle.conflict.proofs.Spanned.{begins_same, ends_same, spanned_count}
 
@@ -83,6 +83,15 @@ module _ (ranges : List Range) (spans : List Span) (written : List Range) (one :
 pub full_of : (e : StepError) → ArenaFull ≡ stop_of e → e ≡ step.Full
 full_of step.Full same = refl
 full_of step.Memory same = cc
+
+-- and for memory where its step map is refused some
+pub memory_of : (e : StepError) → Memory ≡ stop_of e → e ≡ step.Memory
+memory_of step.Memory same = refl
+memory_of step.Full same = cc
+
+pub memory_not_full : (e : StepError) → e ≡ step.Memory → ¬ (e ≡ step.Full)
+memory_not_full step.Memory is full = absurd (cc)
+memory_not_full step.Full is full = absurd (cc)
 
 pub of_err : {T E : Type 0} (P : E → Type 0) {r : Result T E} {e : E} → r ≡ Err e → IsErrAnd r P → P e
 of_err {T} {E} P {r} {e} is said = subst (λ (x : Result T E). IsErrAnd x P) is said

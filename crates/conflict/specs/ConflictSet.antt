@@ -15,6 +15,7 @@ use Rattle.std.specs.Prelude.{
   List,
   length,
   Option,
+  Some,
   None,
   IsSomeAnd,
 }
@@ -35,11 +36,19 @@ use Rattle.stepmap.specs.declared.error.StepError.TheVariants as step
 use Rattle.conflict.specs.declared.conflict_set.TheConstants.{MAX_WINDOW}
 use Rattle.conflict.specs.declared.error.SetStop.{SetStop}
 use Rattle.conflict.specs.declared.error.SetStop.TheVariants.{Memory, ArenaFull}
+use Rattle.conflict.specs.declared.when_full.WhenFull.{WhenFull}
+use Rattle.conflict.specs.declared.when_full.WhenFull.TheVariants.{Stop, Refuse}
 
 -- why a set stops where its step map refuses
 abbrev pub stop_of : StepError → SetStop
 stop_of step.Memory = Memory
 stop_of step.Full = ArenaFull
+
+-- why a set stops, if it does, where it doesn't resolve a batch for this reason
+abbrev pub stop_after : WhenFull → SetStop → Option SetStop
+stop_after Stop stop = Some stop
+stop_after Refuse Memory = Some Memory
+stop_after Refuse ArenaFull = None
 
 -- a conflict set
 pub record SetState : Type 0 where

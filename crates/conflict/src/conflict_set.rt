@@ -1,30 +1,20 @@
-//! The conflict set: a batch is judged, its committed writes are written, and the sweep continues.
+//! The conflict set: the committed writes that it remembers, and how it starts.
 
-ghost use Rattle.std.specs.Prelude.{◌≡◌, ◌<◌, ◌≤◌, ◌↔◌, ◌≤ℤ◌, ◌<ℤ◌, ◌-ℤ◌, pos, negsuc, ◌++◌, List};
-ghost use Rattle.std.specs.Prelude.{[], length};
-ghost use Rattle.std.specs.Prelude.{None, Some, Err};
-ghost use Rattle.std.specs.Prelude.{IfOk, IfErr, OnOk, OnErr, IfSome, ◌⊎◌};
+ghost use Rattle.std.specs.Prelude.{◌≡◌, ◌<◌, ◌≤◌, ◌↔◌, ◌≤ℤ◌, ◌-ℤ◌, pos, negsuc, [], length};
+ghost use Rattle.std.specs.Prelude.{None, Err, IfOk, IfErr};
 ghost use Rattle.std.specs.Int.{int_max};
-ghost use Rattle.keyspace.specs.declared.reply.Entry.{Entry};
-ghost use Rattle.keyspace.specs.Writes.{Write, at_version, committed, writes_of};
-ghost use Rattle.keyspace.specs.Judge.{judge_txns};
-ghost use Rattle.keyspace.specs.Judged.{edge, Judged};
-ghost use Rattle.stepmap.specs.Boundary.{AreUpTo};
+ghost use Rattle.keyspace.specs.Judged.{edge};
 ghost use Rattle.stepmap.specs.declared.step_map.TheConstants.{MAX_LIMIT};
-ghost use Rattle.stepmap.specs.Covers.{MapCovers};
-ghost use Rattle.stepmap.specs.Rooted.{Rooted};
-ghost use Rattle.conflict.specs.ConflictSet.{new_set, Remembers, IsSwept, IsOverLimit};
-ghost use Rattle.conflict.specs.ConflictSet.{IsOverLimitUnited};
-ghost use Rattle.conflict.specs.ConflictSet.{raised, HasRoomToWrite, HasNoRoomToWrite};
-ghost use Rattle.conflict.specs.Pace.{IsPaced};
+ghost use Rattle.conflict.specs.ConflictSet.{new_set, Remembers};
 ghost use Rattle.conflict.specs.Unknown.{unknown_until};
 
+mod one_batch;
+mod resolving;
+
 use crate::error::SetStop;
-use crate::judging::judge_batch;
 use crate::scratch::Scratch;
 use crate::unknown::write_every_key;
-use crate::writing::write_batch;
-use keyspace::{Batch, Reply, Sequence};
+use keyspace::Batch;
 use std::alloc::Global;
 use std::marker::Model;
 use stepmap::StepMap;
@@ -128,84 +118,6 @@ impl ConflictSet {
         })
     }
 
-    /// Judges a batch after all writes that the set remembers, and remembers what the batch
-    /// commits.
-    ///
-    /// An error is final: every later call returns the same one. The set still remembers what it
-    /// remembered before. `ArenaFull` says that the boundaries of the writes within the window,
-    /// those of this batch included, exceed the limit.
-    pub fn resolve(&mut self, batch: &Batch) -> Result<Reply, SetStop>
-        requires rising { self.old.resolved <ℤ batch.now.version }
-        ensures judged { IfOk result (λ reply. (ws : List Write) → MapCovers self.old.map ws
-            → Judged self.old.window ws batch.now reply) }
-        ensures covers { IfOk result (λ reply. (ws : List Write) → MapCovers self.old.map ws
-            → MapCovers self.new.map (ws ++ writes_of batch.now reply)) }
-        ensures edge { OnOk result (self.new.map.edge ≡ edge self.old.window batch.now) }
-        ensures rooted { IfOk result (λ reply. (ws : List Write) → Rooted self.old.map ws
-            → Rooted self.new.map (ws ++ writes_of batch.now reply)) }
-        ensures swept { IfOk result (λ reply. (ws : List Write) → Rooted self.old.map ws
-            → IsSwept (edge self.old.window batch.now) self.old.map self.new.map
-            (ws ++ writes_of batch.now reply)
-            (committed batch.now.txns reply.entries)) }
-        ensures paced { IfOk result (λ reply. IsPaced (edge self.old.window batch.now)
-            batch.now.version
-            self.old.map self.new.map (committed batch.now.txns reply.entries)) }
-        ensures resolved { OnOk result (self.new.resolved ≡ batch.now.version) }
-        ensures unresolved { OnErr result (self.new.resolved ≡ self.old.resolved) }
-        ensures window { self.new.window ≡ self.old.window }
-        ensures limit { self.new.map.limit ≡ self.old.map.limit }
-        ensures goes_on { OnOk result ((self.old.stop ≡ None) × (self.new.stop ≡ None)) }
-        ensures stops { IfErr result (λ stop. self.new.stop ≡ Some stop) }
-        ensures stopped { IfSome self.old.stop (λ stop. (result ≡ Err stop)
-            × (self.new ≡ self.old)) }
-        ensures kept { IfErr result (λ _. (ws : List Write) → Remembers self.old ws
-            → Remembers self.new ws) }
-        ensures full { self.old.stop ≡ None → result ≡ Err SetStop.ArenaFull
-            → (ws : List Write) (reply : Reply)
-            → Remembers self.old ws → Judged self.old.window ws batch.now reply
-            → IsOverLimit self.old.map.limit (edge self.old.window batch.now)
-            (ws ++ writes_of batch.now reply) }
-        ensures full_united { self.old.stop ≡ None → result ≡ Err SetStop.ArenaFull
-            → (ws : List Write) (reply : Reply)
-            → Remembers self.old ws → Judged self.old.window ws batch.now reply
-            → IsOverLimitUnited self.old.map.limit (edge self.old.window batch.now) ws
-            (committed batch.now.txns reply.entries) }
-
-        // What the batch commits fits within the limit where it is resolved, and doesn't where the
-        // set is full. A stop for memory comes before a complete round is swept, or it fits then.
-        ensures room { IfOk result (λ reply. HasRoomToWrite
-            (raised (edge self.old.window batch.now) self.old.map)
-            (committed batch.now.txns reply.entries)) }
-        ensures no_room { self.old.stop ≡ None → result ≡ Err SetStop.ArenaFull
-            → (ws : List Write) (reply : Reply)
-            → Remembers self.old ws → Judged self.old.window ws batch.now reply
-            → HasNoRoomToWrite (raised (edge self.old.window batch.now) self.old.map)
-            (committed batch.now.txns reply.entries) }
-        ensures memory { self.old.stop ≡ None → result ≡ Err SetStop.Memory
-            → (ws : List Write) (reply : Reply)
-            → Remembers self.old ws → Judged self.old.window ws batch.now reply
-            → (self.new.map.boundaries ≡ self.old.map.boundaries)
-            ⊎ HasRoomToWrite (raised (edge self.old.window batch.now) self.old.map)
-            (committed batch.now.txns reply.entries) }
-    {
-        if let Some(stop) = self.stop {
-            return Err(stop);
-        }
-        keyspace::laws::one_reply();
-        stepmap::laws::writing();
-        let edge = edge_of(self.window, batch);
-        match resolve_at(self.alloc, &mut self.map, &mut self.scratch, edge, batch) {
-            Ok(reply) => {
-                self.resolved = batch.version;
-                Ok(reply)
-            }
-            Err(stop) => {
-                self.stop = Some(stop);
-                Err(stop)
-            }
-        }
-    }
-
     /// Returns the number of boundaries, that at the empty key included. It never exceeds the
     /// limit.
     pub fn boundaries(&self) -> usize
@@ -254,67 +166,4 @@ fn edge_at(window: i64, version: i64) -> i64
     ensures edge { result ≡ int_max (version -ℤ window) (pos 0) }
 {
     (version - window).max(0)
-}
-
-// Judges a batch, raises the edge to this one, writes what the batch commits, and sweeps on.
-fn resolve_at(
-    alloc: Global,
-    steps: &mut StepMap,
-    scratch: &mut Scratch,
-    edge: i64,
-    batch: &Batch,
-) -> Result<Reply, SetStop>
-    requires raised { steps.old.edge ≤ℤ edge }
-    requires late { edge ≤ℤ batch.now.version }
-    requires newest { AreUpTo batch.now.version steps.old.boundaries }
-    ensures version { IfOk result (λ reply. reply.version ≡ batch.now.version) }
-    ensures judged { IfOk result (λ reply. (ws : List Write) → MapCovers steps.old ws
-        → reply.entries ≡ judge_txns edge ws [] batch.now.txns) }
-    ensures covers { IfOk result (λ reply. (ws : List Write) → MapCovers steps.old ws
-        → MapCovers steps.new (ws ++ writes_of batch.now reply)) }
-    ensures rooted { IfOk result (λ reply. (ws : List Write) → Rooted steps.old ws
-        → Rooted steps.new (ws ++ writes_of batch.now reply)) }
-    ensures swept { IfOk result (λ reply. (ws : List Write) → Rooted steps.old ws
-        → IsSwept edge steps.old steps.new (ws ++ writes_of batch.now reply)
-        (committed batch.now.txns reply.entries)) }
-    ensures paced { IfOk result (λ reply. IsPaced edge batch.now.version steps.old steps.new
-        (committed batch.now.txns reply.entries)) }
-    ensures edge { OnOk result (steps.new.edge ≡ edge) }
-    ensures newest { OnOk result (AreUpTo batch.now.version steps.new.boundaries) }
-    ensures limit { steps.new.limit ≡ steps.old.limit }
-    ensures still_covers { OnErr result ((ws : List Write) → MapCovers steps.old ws
-        → MapCovers steps.new ws) }
-    ensures still_rooted { OnErr result ((ws : List Write) → Rooted steps.old ws
-        → Rooted steps.new ws) }
-    ensures full { result ≡ Err SetStop.ArenaFull → (ws : List Write) (entries : List Entry)
-        → MapCovers steps.old ws → Rooted steps.old ws
-        → entries ≡ judge_txns edge ws [] batch.now.txns
-        → IsOverLimit steps.old.limit edge
-        (ws ++ at_version batch.now.version (committed batch.now.txns entries)) }
-    ensures full_united { result ≡ Err SetStop.ArenaFull → (ws : List Write) (entries : List Entry)
-        → MapCovers steps.old ws → Rooted steps.old ws
-        → entries ≡ judge_txns edge ws [] batch.now.txns
-        → IsOverLimitUnited steps.old.limit edge ws (committed batch.now.txns entries) }
-    ensures room { IfOk result (λ reply. HasRoomToWrite (raised edge steps.old)
-        (committed batch.now.txns reply.entries)) }
-    ensures no_room { result ≡ Err SetStop.ArenaFull → (ws : List Write) (entries : List Entry)
-        → MapCovers steps.old ws → entries ≡ judge_txns edge ws [] batch.now.txns
-        → HasNoRoomToWrite (raised edge steps.old) (committed batch.now.txns entries) }
-    ensures memory { result ≡ Err SetStop.Memory → (ws : List Write) (entries : List Entry)
-        → MapCovers steps.old ws → entries ≡ judge_txns edge ws [] batch.now.txns
-        → (steps.new.boundaries ≡ steps.old.boundaries)
-        ⊎ HasRoomToWrite (raised edge steps.old) (committed batch.now.txns entries) }
-{
-    let entries = judge_batch(
-        alloc,
-        steps,
-        &mut scratch.asking,
-        &mut scratch.gaps,
-        edge,
-        batch,
-    )?;
-    steps.raise(edge);
-    let count = write_batch(steps, scratch, batch, &entries)?;
-    steps.sweep(3 * count + 10);
-    Ok(Reply::new(batch.version, Sequence::new(entries)))
 }

@@ -1,7 +1,8 @@
 //! Verdicts and reports of a batch, over the step map that remembers committed writes.
 //!
 //! [`ConflictSet::resolve`] judges a batch after all writes that the set remembers, and remembers
-//! what the batch commits. First the history is asked, for as many read ranges of each transaction
+//! what the batch commits. [`ConflictSet::try_resolve`] refuses a batch that doesn't fit the limit,
+//! where `resolve` stops for good. First the history is asked, for as many read ranges of each transaction
 //! as `asking` lists, and `history` judges each transaction by the answers alone. Those that are
 //! left `in_batch` judges in order: a batch knows which gaps between its keys each of its ranges
 //! covers, and `gaps` keeps those that earlier transactions wrote. What the batch commits is marked
@@ -26,7 +27,9 @@ mod read_name;
 mod scratch;
 mod union;
 mod unknown;
+mod when_full;
 mod writing;
 
 pub use conflict_set::{ConflictSet, MAX_WINDOW};
 pub use error::SetStop;
+pub use when_full::WhenFull;

@@ -2,7 +2,7 @@
 //! `ConflictBatch::mergeWriteConflictRanges` of FoundationDB 7.1.
 
 ghost use Rattle.std.specs.Prelude.{◌≡◌, ◌+◌, ◌*◌, ◌<◌, ◌≤◌, ◌≤ℤ◌, ◌⊎◌, List, ◌++◌, length, map};
-ghost use Rattle.std.specs.Prelude.{OnOk, OnErr, IfOk, MatchOption, Err, Some, slice_get};
+ghost use Rattle.std.specs.Prelude.{OnOk, OnErr, IfOk, MatchOption, Err, Some, IsTrue, slice_get};
 ghost use Rattle.keys.specs.declared.range.Range.{Range};
 ghost use Rattle.keyspace.specs.BatchRanges.{ranges_in};
 ghost use Rattle.keyspace.specs.Writes.{Write, at_version, committed};
@@ -11,6 +11,8 @@ ghost use Rattle.stepmap.specs.StepMap as map_of;
 ghost use Rattle.stepmap.specs.Boundary.{AreUpTo};
 ghost use Rattle.stepmap.specs.Writing.{AreApart};
 ghost use Rattle.stepmap.specs.Sweeping.{rest};
+ghost use Rattle.stepmap.specs.Counting.{live_count};
+ghost use Rattle.stepmap.specs.Limit.{HasRoomFor, made_room};
 ghost use Rattle.stepmap.specs.Covers.{MapCovers};
 ghost use Rattle.stepmap.specs.Rooted.{Rooted};
 ghost use Rattle.stepmap.specs.Rooted as rooted_by;
@@ -19,38 +21,43 @@ ghost use Rattle.stepmap.specs.Laws.{IsWriting};
 ghost use Rattle.conflict.specs.declared.union.Span as span_type;
 ghost use Rattle.conflict.specs.Union.{Spans, AreSpanned};
 ghost use Rattle.conflict.specs.ConflictSet.{IsOverLimit, IsOverLimitUnited, HasRoomToWrite};
-ghost use Rattle.conflict.specs.ConflictSet.{HasNoRoomToWrite};
+ghost use Rattle.conflict.specs.ConflictSet.{HasNoRoomToWrite, raised};
 ghost use Rattle.conflict.specs.Pace.{after_writes, with_written};
 
 use crate::error::SetStop;
 use crate::marking::mark_written;
 use crate::scratch::Scratch;
 use crate::union::Span;
+use crate::when_full::WhenFull;
 use keys::{HashedRange, RangeList, RangeRef};
 use keyspace::{Batch, Entry, Txns};
 use std::alloc::AllocError;
 use stepmap::{KeyLengths, StepMap, laws};
 
-/// Writes what the batch commits, at its version, and returns the number of the ranges that it is
-/// united to. The entries are those of its transactions, in order.
+/// Raises the edge to this one, writes what the batch commits at its version, and returns the number
+/// of the ranges that it is united to. The entries are those of its transactions, in order.
 ///
-/// An error leaves the function as it was at and above the edge.
+/// An error leaves the function as it was at and above the edge. If the batch is refused since it
+/// doesn't fit the limit, nothing changes.
 pub fn write_batch(
     steps: &mut StepMap,
     scratch: &mut Scratch,
+    edge: i64,
+    when_full: WhenFull,
     batch: &Batch,
     entries: &[Entry],
 ) -> Result<usize, SetStop>
     requires entries { length entries.now ≡ length batch.now.txns }
     requires newest { AreUpTo batch.now.version steps.old.boundaries }
-    requires late { steps.old.edge ≤ℤ batch.now.version }
+    requires raised { steps.old.edge ≤ℤ edge }
+    requires late { edge ≤ℤ batch.now.version }
     ensures newest { OnOk result (AreUpTo batch.now.version steps.new.boundaries) }
-    ensures edge { steps.new.edge ≡ steps.old.edge }
+    ensures edge { OnOk result (steps.new.edge ≡ edge) }
     ensures limit { steps.new.limit ≡ steps.old.limit }
     ensures few { IfOk result (λ count. 2 * count ≤ MAX_LIMIT) }
     ensures united { IfOk result (λ count. (united : List Range)
         × Unites united (committed batch.now.txns entries.now) × (length united ≡ count)
-        × (steps.new ≡ with_written united batch.now.version steps.old)) }
+        × (steps.new ≡ with_written united batch.now.version (raised edge steps.old))) }
     ensures covers { OnOk result ((ws : List Write) → MapCovers steps.old ws
         → MapCovers steps.new (ws ++ at_version batch.now.version
         (committed batch.now.txns entries.now))) }
@@ -59,23 +66,25 @@ pub fn write_batch(
         (committed batch.now.txns entries.now))) }
     ensures swept { IfOk result (λ count. (ws : List Write) → Rooted steps.old ws
         → rooted_by.Ends steps.new.boundaries
-        (ws ++ at_version batch.now.version (committed batch.now.txns entries.now)) steps.old.edge
+        (ws ++ at_version batch.now.version (committed batch.now.txns entries.now)) edge
         ⊎ ((steps.new.round ≡ steps.old.round) × (rest steps.new ≤ rest steps.old + 2 * count))) }
     ensures still_covers { OnErr result ((ws : List Write) → MapCovers steps.old ws
         → MapCovers steps.new ws) }
     ensures still_rooted { OnErr result ((ws : List Write) → Rooted steps.old ws
         → Rooted steps.new ws) }
     ensures full { result ≡ Err SetStop.ArenaFull → (ws : List Write) → Rooted steps.old ws
-        → IsOverLimit steps.old.limit steps.old.edge
+        → IsOverLimit steps.old.limit edge
         (ws ++ at_version batch.now.version (committed batch.now.txns entries.now)) }
     ensures full_united { result ≡ Err SetStop.ArenaFull → (ws : List Write) → Rooted steps.old ws
-        → IsOverLimitUnited steps.old.limit steps.old.edge ws
-        (committed batch.now.txns entries.now) }
-    ensures room { OnOk result (HasRoomToWrite steps.old (committed batch.now.txns entries.now)) }
+        → IsOverLimitUnited steps.old.limit edge ws (committed batch.now.txns entries.now) }
+    ensures refused { when_full ≡ WhenFull.Refuse → result ≡ Err SetStop.ArenaFull
+        → steps.new ≡ steps.old }
+    ensures room { OnOk result (HasRoomToWrite (raised edge steps.old)
+        (committed batch.now.txns entries.now)) }
     ensures no_room { result ≡ Err SetStop.ArenaFull
-        → HasNoRoomToWrite steps.old (committed batch.now.txns entries.now) }
+        → HasNoRoomToWrite (raised edge steps.old) (committed batch.now.txns entries.now) }
     ensures memory { result ≡ Err SetStop.Memory → (steps.new.boundaries ≡ steps.old.boundaries)
-        ⊎ HasRoomToWrite steps.old (committed batch.now.txns entries.now) }
+        ⊎ HasRoomToWrite (raised edge steps.old) (committed batch.now.txns entries.now) }
 {
     stepmap::laws::writing();
     stepmap::laws::counts();
@@ -89,10 +98,31 @@ pub fn write_batch(
     )?;
     let spans = scratch.union.spans();
     gather_lengths(&mut scratch.lengths, &ranges, spans)?;
+    if is_refused(steps, spans.len(), edge, when_full) {
+        return Err(SetStop::ArenaFull);
+    }
+    steps.raise(edge);
     steps.prepare(&scratch.lengths)?;
     note_keys(steps, &batch.txns, spans, batch.version);
     write_prepared(steps, &batch.txns, spans, batch.version);
     Ok(spans.len())
+}
+
+// Returns whether so many ranges are refused: they don't fit the limit, and the set doesn't stop
+// for that.
+fn is_refused(steps: &StepMap, ranges: usize, edge: i64, when_full: WhenFull) -> bool
+    requires raised { steps.now.edge ≤ℤ edge }
+    ensures full { IsTrue result
+        → ¬ HasRoomFor ranges (made_room ranges (raised edge steps.now)) }
+    ensures bound { IsTrue result → (ws : List Write) → Rooted steps.now ws
+        → steps.now.limit < 1 + 2 * (live_count edge ws + ranges) }
+    ensures fits { when_full ≡ WhenFull.Refuse → ¬ IsTrue result
+        → HasRoomFor ranges (made_room ranges (raised edge steps.now)) }
+{
+    match when_full {
+        WhenFull::Stop => false,
+        WhenFull::Refuse => !steps.can_make_room(ranges, edge),
+    }
 }
 
 // Replaces the lengths by those of the keys of the united ranges.

@@ -100,6 +100,57 @@ fn limit_one_stop(rt: HostRuntime) -> Result<(), Fail> {
     )
 }
 
+// Resolves the batches one after another, where one that doesn't fit the limit is refused, and
+// writes a line for each.
+fn push_tries(
+    alloc: Global,
+    set: &mut Chained,
+    lines: &mut String,
+    batches: &[&str],
+) -> Result<(), Unmade> {
+    for text in batches {
+        let line = match set.try_resolve(&batch(alloc, text)?)? {
+            Ok(reply) => show_reply(alloc, &reply)?,
+            Err(stop) => format!(in alloc; "{stop}")?,
+        };
+        lines.push_str(line.as_str())?;
+        lines.push('\n')?;
+    }
+    Ok(())
+}
+
+// The lines of batches that are tried by a set of limit 3, and then of some that it resolves.
+fn tries(alloc: Global, tried: &[&str], resolved: &[&str]) -> Result<String, Unmade> {
+    let mut set = Chained::new(alloc, WINDOW, 3)?;
+    let mut lines = String::new(alloc);
+    push_tries(alloc, &mut set, &mut lines, tried)?;
+    push_outcomes(alloc, &mut set, &mut lines, resolved)?;
+    push_tries(alloc, &mut set, &mut lines, &["9000002>90000000"])?;
+    Ok(lines)
+}
+
+// What is refused at 200 isn't remembered, and the write at 100 is. At 9,000,000 it has left the
+// window. The batch that was refused stops a set that resolves it.
+#[test]
+fn limit_three_refused(rt: HostRuntime) -> Result<(), Fail> {
+    let tried = [
+        "-1>0",
+        "0>100: W[a,b)",
+        "100>200: W[c,d)",
+        "100>200: W[a,b) W[c,d)",
+        "100>300: R[a,b) @99; R[c,d) @0; R[a,b) @100",
+        "300>9000000: W[c,d)",
+        "9000000>9000001: R[c,d) @8999999; R[a,b) @8999999",
+        "9000001>9000002: W[e,f)",
+    ];
+    let lines = "0 empty\n100 committed\n2 ArenaFull\n2 ArenaFull\n\
+300 conflict committed committed\n9000000 committed\n9000001 conflict committed\n2 ArenaFull\n\
+2 ArenaFull\n2 ArenaFull\n";
+    let found = tries(rt.alloc(), &tried, &["9000001>9000002: W[e,f)"])?;
+    assert_eq!(rt; found.as_str(), lines);
+    Ok(())
+}
+
 // A transaction that reads and writes the key of this byte.
 fn of_one_key(alloc: Global, byte: u8) -> Result<Txn, Unmade> {
     let mut reads = Vec::new(alloc);

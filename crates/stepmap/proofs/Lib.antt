@@ -21,6 +21,7 @@ pub mod Changes
 pub mod Rounds
 pub mod FewBoundaries
 pub mod Preparing
+pub mod RoomTold
 pub mod Telling
 pub mod UnitedWrites
 pub mod WritingInTurn

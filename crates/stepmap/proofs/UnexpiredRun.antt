@@ -92,7 +92,7 @@ last_of_versions keys (x ∷ xs) (v ∷ front) before last e =
 
 module _ {H : Type 0} (keys : Arena H) where
   -- items are swept of expired items as their boundaries are
-  boundaries_unexpired : (edge before : ℤ) (xs : List Item)
+  pub boundaries_unexpired : (edge before : ℤ) (xs : List Item)
       → boundaries_of keys (unexpired_items edge before xs) ≡ unexpired edge before (boundaries_of keys xs)
   boundaries_unexpired edge before [] = refl
   boundaries_unexpired edge before (x ∷ xs) =

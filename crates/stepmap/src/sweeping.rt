@@ -7,6 +7,7 @@ ghost use Rattle.keys.specs.Key.{IsKey};
 ghost use Rattle.keys.specs.declared.key.TheConstants.{MAX_KEY_LENGTH};
 ghost use Rattle.stepmap.specs.Boundary.{AreBoundaries, last_version};
 ghost use Rattle.stepmap.specs.Stored.{spare_in, first_key, bytes_at};
+ghost use Rattle.stepmap.specs.Limit.{unexpired_all};
 ghost use Rattle.stepmap.specs.Sweeping.{left_from, passed_to, swept, unexpired};
 
 use crate::boundaries::Boundaries;
@@ -46,6 +47,15 @@ impl<const N: usize> Boundaries<N> {
             before = looked.last;
             left -= looked.count;
         }
+    }
+
+    // Returns how many boundaries a sweep of all of them would leave at this edge. It looks at each
+    // of them, and takes no memory.
+    pub fn count_unexpired(&self, edge: i64) -> usize
+        ensures count { result ≡ length (unexpired_all edge self.now.boundaries) }
+    {
+        // The first boundary stays, as if it came after a version that isn't below the edge.
+        self.tree.count_unexpired(edge, edge)
     }
 
     // Moves the cursor to the first boundary that is left, or empties it if there is none. Returns

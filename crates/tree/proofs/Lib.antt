@@ -45,6 +45,7 @@ pub mod Rooting
 pub mod RunWritten
 pub mod Sharing
 pub mod Splicing
+pub mod StillCounted
 pub mod Stepping
 pub mod Storing
 pub mod Telling

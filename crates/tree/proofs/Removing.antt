@@ -18,7 +18,7 @@ expired_or_kept edge before (x ∷ xs) =
     grind (arith, expired_or_kept edge x.version xs, cases_Bool (int_lt before edge && int_lt x.version edge))
 
 -- the entries from an index on
-from_index : (es : List Entry) (index : ℕ) (e : Entry) → index < length es → e ≡ get_or es index e
+pub from_index : (es : List Entry) (index : ℕ) (e : Entry) → index < length es → e ≡ get_or es index e
     → drop index es ≡ e ∷ drop (index + 1) es
 from_index es index e inside is = rw is (drop_more es index e inside)
 

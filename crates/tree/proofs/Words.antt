@@ -8,6 +8,8 @@ pub use Rattle.tree.specs.declared.node.Node.{Node}
 pub use Rattle.tree.specs.declared.node.TheConstants.{PADDING}
 pub use Rattle.tree.specs.declared.overwrite.Written.{Written}
 pub use Rattle.tree.specs.declared.overwrite.Written.TheVariants.{Partly, Whole}
+pub use Rattle.tree.specs.Counted.{IsCounted, last_version, items_from}
+pub use Rattle.tree.specs.declared.unexpired.Unexpired.{Unexpired}
 pub use Rattle.tree.specs.Expire.{RemovesExpired, GivesUnexpired}
 pub use Rattle.tree.specs.Finding.{CanFind, CanStep, IsStep, IsLowerBound}
 pub use Rattle.tree.specs.Heads.{KeyBytes, IsCommonPrefix, IsCommonPrefixAt, Begins, head_behind, head_at, KeyHeads, AreHeads, IsBelowInOrder, IsCommonPrefixLen, HasPrefix, IsTargetHead, IsKnown, IsHeadBeside, AllAreHeads}

@@ -10,6 +10,7 @@ pub mod Reached
 pub mod Question
 pub mod Children
 pub mod Tree
+pub mod Counted
 pub mod Rebalancing
 pub mod Walk
 pub mod Overwrite

@@ -22,6 +22,7 @@ mod remembered;
 mod root;
 mod run;
 mod tree;
+mod unexpired;
 mod walk;
 mod way;
 

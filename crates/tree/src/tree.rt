@@ -10,7 +10,7 @@ ghost use Rattle.tree.specs.Expire.{CanRemoveExpired, RemovesExpired};
 ghost use Rattle.tree.specs.Path.{IsPartitioned, items_below, behind, first_key, from_last};
 ghost use Rattle.tree.specs.Question.{Exceeds};
 ghost use Rattle.tree.specs.declared.question.TheConstants.{SIDE};
-ghost use Rattle.tree.specs.Tree.{CanSearchItems, IsLast, tree_heads, KnowItems};
+ghost use Rattle.tree.specs.Tree.{CanSearchItems, IsLast, tree_heads, KnowItems, unexpired};
 
 use crate::bound::Bound;
 use crate::entry::Entry;
@@ -22,6 +22,7 @@ use crate::question::{Question, SIDE};
 use crate::questions::{answer_each, descend_each, look_at_each};
 use crate::rebalance::least;
 use crate::root::{Root, change, last_and_next, overwrite};
+use crate::unexpired::{Unexpired, count_unexpired};
 use crate::walk::RaisedLeaf;
 use crate::way::Way;
 use arena::{Arena, ArenaError, Slot};
@@ -177,6 +178,22 @@ impl<const N: usize> Tree<N> {
     {
         let Root { slot, height } = self.root;
         greatest(&self.nodes, slot, height, Some(from), Some(to), None).unwrap()
+    }
+
+    /// Returns how many items a sweep of all of them would leave: all but those whose version and
+    /// predecessor's version are below `edge`. `before` is the version before the first one. It
+    /// reads every leaf, and takes no memory.
+    pub fn count_unexpired(&self, edge: i64, before: i64) -> usize
+        ensures count { result ≡ length (unexpired edge before self.now.items) }
+    {
+        // There are no more items than a number can count.
+        let _len = self.len;
+        let Root { slot, height } = self.root;
+        let none = Unexpired {
+            count: 0,
+            last: before,
+        };
+        count_unexpired(&self.nodes, slot, height, 0, edge, none).count
     }
 
     /// Replaces the items from one bound to another by an item. Adds a second one after it, with

@@ -11,6 +11,7 @@ ghost use Rattle.archcaraway_c.specs.Judging.{verdict_numbers};
 use super::SetObject;
 use crate::batch_object::BatchObject;
 use crate::refusal::Refusal;
+use conflict::WhenFull;
 use keyspace::{Batch, Entry, Verdict};
 use resolver::Stop;
 use wire::WireError;
@@ -22,18 +23,21 @@ impl SetObject {
     /// The first of these that holds decides. The set has stopped: that stop. The version is
     /// negative, or not above that resolved last: `Version`. There is no room for so many verdicts:
     /// `Buffer`. Memory is refused before the batch is judged: `Wire` of `Memory`. Then the batch
-    /// is judged, or the set stops for good. After any refusal but a stop that is met now, the set
-    /// is as before.
+    /// is judged, or the set stops for good; if `when_full` is `Refuse`, it doesn't stop for a batch
+    /// that doesn't fit the limit. After any refusal but a stop that is met now, the set is as
+    /// before.
     pub fn judge(
         &mut self,
         batch: &BatchObject,
         version: i64,
         verdicts: &mut [u8],
+        when_full: WhenFull,
     ) -> Result<(), Refusal>
         ensures judged { OnOk result (Judges self.old self.new version batch.now
             (take (length batch.now) verdicts.new)) }
         ensures refused { IfErr result (λ refusal.
-            JudgeRefuses self.old self.new version batch.now (length verdicts.old) refusal) }
+            JudgeRefuses when_full self.old self.new version batch.now (length verdicts.old)
+            refusal) }
         ensures stopped { IfSome self.old.stop
             (λ stop. (result ≡ Err (Refusal.Stop (stop_at_set stop)))
             × (self.new ≡ self.old)) }
@@ -50,7 +54,7 @@ impl SetObject {
         let Ok(batch) = batch.to_batch(-1, version, -1) else {
             return Err(Refusal::Wire(WireError::Memory));
         };
-        match self.judge_batch(&batch, verdicts) {
+        match self.judge_batch(&batch, verdicts, when_full) {
             Ok(()) => Ok(()),
             Err(refusal) => Err(refusal),
         }
@@ -64,8 +68,13 @@ impl SetObject {
         version < 0 || version <= self.resolved
     }
 
-    // Judges a batch, and writes the numbers of its verdicts; or stops.
-    fn judge_batch(&mut self, batch: &Batch, verdicts: &mut [u8]) -> Result<(), Refusal>
+    // Judges a batch, and writes the numbers of its verdicts; or stops, or refuses it.
+    fn judge_batch(
+        &mut self,
+        batch: &Batch,
+        verdicts: &mut [u8],
+        when_full: WhenFull,
+    ) -> Result<(), Refusal>
         requires goes_on { self.old.stop ≡ None }
         requires rising { self.old.resolved <ℤ batch.now.version }
         requires room { length batch.now.txns ≤ length verdicts.old }
@@ -73,16 +82,16 @@ impl SetObject {
             (take (length batch.now.txns) verdicts.new)) }
         ensures stops { IfErr result (λ refusal. (met : SetStopValue)
             × (refusal ≡ Refusal.Stop (stop_at_set met))
-            × StopsAt self.old self.new batch.now met) }
+            × StopsAt when_full self.old self.new batch.now met) }
     {
-        match self.set.resolve(batch) {
+        match self.set.resolve_when(batch, when_full) {
             Ok(reply) => {
                 self.resolved = batch.version;
                 put_verdicts(reply.entries.as_slice(), verdicts);
                 Ok(())
             }
             Err(stop) => {
-                self.stop = Some(stop);
+                self.stop = when_full.stop_for(stop);
                 Err(Refusal::Stop(Stop::from(stop)))
             }
         }

@@ -1,12 +1,15 @@
 //! The room for writes: a complete round is swept if there is none, and memory is taken.
 
-ghost use Rattle.std.specs.Prelude.{◌≡◌, ℕ, ◌+◌, ◌*◌, ◌<◌, ◌≤◌, nat_le, List, [], length, OnOk};
-ghost use Rattle.std.specs.Prelude.{OnErr};
+ghost use Rattle.std.specs.Prelude.{◌≡◌, ℕ, ◌+◌, ◌*◌, ◌<◌, ◌≤◌, ◌≤ℤ◌, ◌↔◌, nat_le, List, []};
+ghost use Rattle.std.specs.Prelude.{length, IsTrue, OnOk, OnErr};
 ghost use Rattle.arena.specs.Arena.{HasRoomFor as HasSlotsFor};
 ghost use Rattle.filter.specs.Filter.{bound};
+ghost use Rattle.keyspace.specs.Writes.{Write};
 ghost use Rattle.stepmap.specs.StepMap.{AreSteps};
 ghost use Rattle.stepmap.specs.Sweeping.{at_front};
-ghost use Rattle.stepmap.specs.Limit.{HasRoomFor, after_round, made_room};
+ghost use Rattle.stepmap.specs.Limit.{HasRoomFor, after_round, made_room, unexpired_all};
+ghost use Rattle.stepmap.specs.Rooted.{Rooted};
+ghost use Rattle.stepmap.specs.Counting.{live_count};
 ghost use Rattle.stepmap.specs.Stored.{spare_in, each_length};
 
 use super::{FAN_OUT, MAX_LIMIT, StepMap};
@@ -26,6 +29,32 @@ impl StepMap {
         ensures steps { AreSteps self.now }
     {
         ranges <= (self.limit - self.boundaries.len()) / 2
+    }
+
+    /// Returns whether `ranges` ranges could be written within the limit once the edge is raised to
+    /// this one, at the latest after a complete round of the sweep: whether [`StepMap::prepare`]
+    /// wouldn't return `Full` then. Nothing changes, and it takes no memory. If there isn't room
+    /// without a sweep, it looks at every boundary.
+    pub fn can_make_room(&self, ranges: usize, edge: i64) -> bool
+        requires late { self.now.edge ≤ℤ edge }
+        ensures room { IsTrue result
+            ↔ HasRoomFor ranges (made_room ranges (record self.now { edge = edge })) }
+        ensures bound { ¬ IsTrue result → (ws : List Write) → Rooted self.now ws
+            → self.now.limit < 1 + 2 * (live_count edge ws + ranges) }
+    {
+        if self.has_room_for(ranges) {
+            return true;
+        }
+        self.has_room_after_round(ranges, edge)
+    }
+
+    // Returns whether the boundaries that a complete round would leave at this edge, and two for
+    // each of `ranges` ranges, are within the limit.
+    fn has_room_after_round(&self, ranges: usize, edge: i64) -> bool
+        ensures room { result ≡ nat_le (length (unexpired_all edge self.now.boundaries)
+            + 2 * ranges) self.now.limit }
+    {
+        ranges <= (self.limit - self.boundaries.count_unexpired(edge)) / 2
     }
 
     // Returns whether there is room for `count` ranges. If there is none, it sweeps a complete

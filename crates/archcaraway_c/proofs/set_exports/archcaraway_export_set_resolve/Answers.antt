@@ -1,4 +1,5 @@
 use Rattle.std.proofs.Common.{rules, ◌∙◌, length, take, subst}
+use Rattle.conflict.specs.declared.when_full.WhenFull.TheVariants.{Stop}
 use Rattle.conflict.specs.ConflictSet.{SetState}
 use Rattle.archcaraway_c.specs.SetObject.{IsReplied, SetRefuses}
 use Rattle.archcaraway_c.proofs.set_exports.archcaraway_export_set_resolve.Goals as goal
@@ -24,7 +25,7 @@ returns-in-Err-clause-refused c = λ _.
       search rules,
       (
         c.resolve-resolved.new.self,
-        subst (λ (set : SetState). SetRefuses set c.resolve-resolved.new.self c.args.frame.now (length c.args.answer.now) refusal)
+        subst (λ (set : SetState). SetRefuses Stop set c.resolve-resolved.new.self c.args.frame.now (length c.args.answer.now) refusal)
             (c.deref_mut.ensures.value ∙ c.into_box-set.ensures) c.in-Err.ensures.refused,
       ),
     )

@@ -36,7 +36,7 @@ pub returns-clause-refused : goal.returns-clause-refused
 returns-clause-refused c =
     let at = goal.at.returns-clause-refused c in
     let s = c.in-Err.ensures.stops in
-    subst (λ (r : Refusal). JudgeRefuses c.args.self.now c.judge_batch.new.self c.args.version c.args.batch.now
+    subst (λ (r : Refusal). JudgeRefuses c.args.when_full c.args.self.now c.judge_batch.new.self c.args.version c.args.batch.now
     (length c.args.verdicts.now) r) (sym s.1)
     (inr (
       search rules,

@@ -1,9 +1,11 @@
-use Rattle.std.proofs.Common.{rules, ◌≡◌, ◌++◌, List, length, take, FitsSigned, w64, sym, ap, subst, ◌∙◌}
+use Rattle.std.proofs.Common.{rules, ◌≡◌, ◌++◌, List, Err, None, length, take, FitsSigned, w64, sym, ap, subst, ◌∙◌}
 use Rattle.std.proofs.lemmas.Int.{to_z-of_z}
 use Rattle.keyspace.specs.declared.reply.Entry.{Entry}
 use Rattle.keyspace.specs.Writes.{writes_of}
 use Rattle.conflict.specs.ConflictSet.{SetState}
 use Rattle.archcaraway_c.specs.Judging.{JudgesBatch, verdict_numbers}
+use Rattle.archcaraway_c.specs.SetObject.{StopsAt}
+use Rattle.archcaraway_c.proofs.WhenFull.{met_behind, parts_behind}
 use Rattle.archcaraway_c.proofs.set_object.SetObject.judge_batch.Goals as goal
 
 pub invariant_of-self : goal.invariant_of-self
@@ -35,7 +37,7 @@ returns-in-Ok-clause-judges c =
     let written : take (length reply.entries) verdicts ≡ verdict_numbers reply.entries =
     subst (λ (entries : List Entry). take (length entries) verdicts ≡ verdict_numbers entries) c.as_slice.ensures.items
     c.put_verdicts.ensures.written in
-    subst (λ (set : SetState). JudgesBatch set (record c.resolve.new.self { stop = c.self.inside.stop }) batch
+    subst (λ (set : SetState). JudgesBatch set (record c.resolve_when.new.self { stop = c.self.inside.stop }) batch
     (take (length batch.txns) verdicts)) c.self.view_is
     (record {
       reply = reply;
@@ -49,3 +51,36 @@ returns-in-Ok-clause-judges c =
         covers = c.in-Ok.ensures.covers;
       };
     })
+
+pub invariant_of-self-2 : goal.invariant_of-self-2
+invariant_of-self-2 c =
+    let none : c.self.inside.stop ≡ None = ap (λ (set : SetState). set.stop) c.self.view_is ∙ c.requires.goes_on in
+    let ws = c.self.invariant.remembers.0 in
+    parts_behind c.args.when_full c.in-Err.stop c.self.inside.set c.resolve_when.new.self _ c.self.inside.stop c.stop_for-self.result
+    c.self.invariant none c.stop_for-self.ensures.stop (λ refuse full. c.in-Err.ensures.refused refuse (ap Err full))
+    (ws, c.in-Err.ensures.kept ws c.self.invariant.remembers.1)
+
+pub returns-in-Err-clause-stops : goal.returns-in-Err-clause-stops
+returns-in-Err-clause-stops c =
+    let stop = c.in-Err.stop in
+    let w = c.args.when_full in
+    let none : c.self.inside.stop ≡ None = ap (λ (set : SetState). set.stop) c.self.view_is ∙ c.requires.goes_on in
+    let going = c.self.invariant.goes_on none in
+    let told = c.in-Err.ensures in (
+      stop,
+      search rules,
+      subst (λ (set : SetState). StopsAt w set (record c.resolve_when.new.self { stop = c.stop_for-self.result }) c.args.batch.now stop)
+          c.self.view_is
+          (record {
+            met_now = met_behind w stop c.self.inside.set c.resolve_when.new.self c.self.inside.stop c.stop_for-self.result none
+                c.stop_for-self.ensures.stop (λ refuse full. told.refused refuse (ap Err full));
+            window = told.window;
+            limit = told.limit;
+            full = λ is ws reply before judged.
+                told.full going (ap Err is) ws reply (record { covers = before.covers; rooted = before.rooted }) judged;
+            no_room = λ is ws reply before judged.
+                told.no_room going (ap Err is) ws reply (record { covers = before.covers; rooted = before.rooted }) judged;
+            memory = λ is ws reply before judged.
+                told.memory going (ap Err is) ws reply (record { covers = before.covers; rooted = before.rooted }) judged;
+          }),
+    )

@@ -1,6 +1,7 @@
-use Rattle.std.proofs.Common.{rules, Some, refl, ◌∙◌, ap, subst}
+use Rattle.std.proofs.Common.{rules, ◌≡◌, Err, None, refl, ◌∙◌, ap, subst}
 use Rattle.conflict.specs.ConflictSet.{SetState}
 use Rattle.archcaraway_c.specs.SetObject.{Replies, StopsAt}
+use Rattle.archcaraway_c.proofs.WhenFull.{met_behind, parts_behind}
 use Rattle.archcaraway_c.proofs.set_object.SetObject.reply.Goals as goal
 
 pub returns-in-Ok-clause-replies : goal.returns-in-Ok-clause-replies
@@ -24,13 +25,16 @@ returns-in-Ok-clause-replies c =
 pub returns-in-Err-clause-stops : goal.returns-in-Err-clause-stops
 returns-in-Err-clause-stops c =
     let stop = c.in-Err.stop in
+    let w = c.args.when_full in
+    let none : c.self.inside.stop ≡ None = ap (λ (set : SetState). set.stop) c.self.view_is ∙ c.requires.goes_on in
     let s = c.in-Err.ensures.stops in (
       stop,
       search rules,
-      subst (λ (set : SetState). StopsAt set (record c.reply_to.new.set { stop = Some stop }) c.args.batch.now stop)
+      subst (λ (set : SetState). StopsAt w set (record c.reply_to.new.set { stop = c.stop_for-self.result }) c.args.batch.now stop)
           c.self.view_is
           (record {
-            met_now = refl;
+            met_now = met_behind w stop c.self.inside.set c.reply_to.new.set c.self.inside.stop c.stop_for-self.result none
+                c.stop_for-self.ensures.stop (λ refuse full. c.in-Err.ensures.refused refuse (ap Err full));
             window = s.window;
             limit = s.limit;
             full = λ is ws reply before judged.
@@ -41,3 +45,10 @@ returns-in-Err-clause-stops c =
                 s.memory is ws reply (record { covers = before.covers; rooted = before.rooted }) judged;
           }),
     )
+
+pub invariant_of-self-2 : goal.invariant_of-self-2
+invariant_of-self-2 c =
+    let none : c.self.inside.stop ≡ None = ap (λ (set : SetState). set.stop) c.self.view_is ∙ c.requires.goes_on in
+    parts_behind c.args.when_full c.in-Err.stop c.self.inside.set c.reply_to.new.set _ c.self.inside.stop c.stop_for-self.result
+    c.self.invariant none c.stop_for-self.ensures.stop (λ refuse full. c.in-Err.ensures.refused refuse (ap Err full))
+    c.in-Err.ensures.remembers

@@ -1,11 +1,12 @@
-use Rattle.std.proofs.Common.{rules, w64, SFits, ◌≡◌, [], ◌++◌, ap, sym, subst, ◌∙◌}
-use Rattle.std.specs.Prelude.{◌≤ℤ◌, ◌<ℤ◌, ◌⊎◌}
+use Rattle.std.proofs.Common.{rules, w64, SFits, Err, None, ◌≡◌, [], ◌++◌, ap, ap₂, sym, subst, ◌∙◌}
+use Rattle.std.specs.Prelude.{◌≤ℤ◌, ◌<ℤ◌, ◌⊎◌, Option}
 use Rattle.std.proofs.lemmas.Int.{to_z-of_z}
 use Rattle.keyspace.specs.declared.reply.Reply.{Reply}
 use Rattle.keyspace.specs.Judged.{edge, Judged}
 use Rattle.keyspace.specs.Judge.{judge, judge_txns}
 use Rattle.keyspace.specs.Writes.{writes_of, committed}
 use Rattle.keyspace.proofs.callers.Judging.{reply_same}
+use Rattle.stepmap.specs.Boundary.{AreUpTo}
 use Rattle.stepmap.specs.Covers.{MapCovers}
 use Rattle.stepmap.specs.Rooted.{Rooted}
 use Rattle.stepmap.specs.StepMap.{Steps}
@@ -18,10 +19,14 @@ use Rattle.conflict.specs.ConflictSet.{
   raised,
   HasRoomToWrite,
   HasNoRoomToWrite,
+  stop_after,
 }
+use Rattle.conflict.specs.declared.error.SetStop.{SetStop}
+use Rattle.conflict.specs.declared.error.SetStop.TheVariants.{Memory, ArenaFull}
 use Rattle.conflict.specs.Pace.{IsPaced}
 use Rattle.conflict.proofs.Edges.{edge_rises, edge_below, edge_handed, at_most, from_least}
-use Rattle.conflict.proofs.conflict_set.ConflictSet.resolve.Goals as goal
+use Rattle.conflict.proofs.Stopping.{refused_goes_on, memory_stops, refused_if}
+use Rattle.conflict.proofs.conflict_set.ConflictSet.resolve_when.Goals as goal
 
 pub resolve_at-requires : goal.resolve_at-requires
 resolve_at-requires c =
@@ -235,3 +240,40 @@ returns-in-Err-clause-memory c = λ going memory ws reply remembers judged.
     ⊎ HasRoomToWrite (raised e c.self.inside.map) ranges) is
     (c.in-Err.ensures.memory memory ws reply.entries (subst (λ m. MapCovers m ws) (sym map) remembers.covers)
     (only ∙ ap (λ e. judge_txns e ws [] b.txns) (sym is))))
+
+pub returns-in-Err-clause-refused : goal.returns-in-Err-clause-refused
+returns-in-Err-clause-refused c = λ refuse full.
+    let is : c.in-Err.stop ≡ ArenaFull = cc full in
+    let steps = c.in-Err.ensures.refused refuse full in
+    let stop : c.stop_for-self.result ≡ c.self.inside.stop =
+    c.stop_for-self.ensures.stop ∙ refused_goes_on c.args.when_full c.in-Err.stop refuse is ∙ sym c.in_default.is in
+    ap₂ (λ (m : Steps) (stop : Option SetStop). record {
+      window = c.self.inside.window;
+      resolved = c.self.inside.resolved;
+      map = m;
+      stop = stop;
+    }) steps stop ∙ c.self.view_is
+
+pub returns-in-Err-clause-stops : goal.returns-in-Err-clause-stops
+returns-in-Err-clause-stops c = λ stops. c.stop_for-self.ensures.stop ∙ ap (λ w. stop_after w c.in-Err.stop) stops
+
+pub returns-in-Err-clause-memory_stops : goal.returns-in-Err-clause-memory_stops
+returns-in-Err-clause-memory_stops c = λ memory.
+    let is : c.in-Err.stop ≡ Memory = cc memory in
+    c.stop_for-self.ensures.stop ∙ memory_stops c.args.when_full c.in-Err.stop is
+
+pub invariant_of-self-2 : goal.invariant_of-self-2
+invariant_of-self-2 c =
+    let set = c.self.invariant in
+    -- a set that goes on has refused the batch
+    let same = λ (going : c.stop_for-self.result ≡ None).
+    let how = refused_if c.args.when_full c.in-Err.stop (sym c.stop_for-self.ensures.stop ∙ going) in
+    c.in-Err.ensures.refused how.0 (ap Err how.1) in
+    record {
+      least_window = set.least_window;
+      most_window = set.most_window;
+      resolved = set.resolved;
+      edge = λ going. ap (λ (m : Steps). m.edge) (same going) ∙ set.edge c.in_default.is;
+      newest = λ going. subst (λ (m : Steps). AreUpTo c.self.inside.resolved m.boundaries) (sym (same going))
+          (set.newest c.in_default.is);
+    }
