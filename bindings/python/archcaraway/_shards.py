@@ -5,7 +5,7 @@ from __future__ import annotations
 import ctypes
 import threading
 from collections.abc import Iterable
-from ctypes import POINTER, c_char_p, c_int, c_size_t
+from ctypes import c_size_t
 from typing import Any
 
 from ._errors import Error, check
@@ -13,19 +13,7 @@ from ._library import LIBRARY, Handle, KeyRecord
 from ._objects import _FrameWriter
 from ._values import Key, Reply, as_bytes, as_integer, decode
 
-
 _MEMORY = 111  # FRAME_MEMORY: no fault of a reply
-_KEY, _SIZE = (c_char_p, c_size_t), POINTER(c_size_t)
-_HANDLE = POINTER(Handle)  # archcaraway_split_points
-for _name, (_result, *_parameters) in {
-    "split_points_new": (c_int, POINTER(KeyRecord), c_size_t, _HANDLE, _SIZE),
-    "split_points_shards": (c_size_t, _HANDLE),
-    "split_points_free": (None, _HANDLE),
-    "clip": (c_int, _HANDLE, c_size_t, *_KEY, *_KEY, _SIZE),
-    "combine": (c_int, _HANDLE, *_KEY, *_KEY, *_KEY, _SIZE, _SIZE),
-}.items():
-    _function = getattr(LIBRARY, f"archcaraway_{_name}")
-    _function.restype, _function.argtypes = _result, _parameters
 
 
 class SplitPointsError(Error, ValueError):
@@ -59,11 +47,10 @@ class SplitPoints(_FrameWriter):
         self._handle = handle
 
     def _call(self, name: str, *arguments: Any) -> int:
-        plain = {"clip": LIBRARY.archcaraway_clip, "combine": LIBRARY.archcaraway_combine}
-        if name not in plain:
+        if name not in ("clip", "combine"):
             return super()._call(name, *arguments)
         with self._lock:
-            return int(plain[name](self._handle, *arguments))
+            return int(getattr(LIBRARY, f"archcaraway_{name}")(self._handle, *arguments))
 
     @property
     def shards(self) -> int:
