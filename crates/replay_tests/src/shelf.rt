@@ -34,35 +34,67 @@ pub struct Shelf {
     files: Vec<(&'static str, Vec<u8>)>,
 }
 
+// What a file in memory contains.
+#[derive(Clone, Copy)]
+enum Contents<'a> {
+    FirstRun,
+    // these batches
+    Batches(&'a [&'a str]),
+    // the empty batch of version 0, these batches, and then these bytes
+    Opened(&'a [&'a str], &'a [u8]),
+    // the first batch of the chain, behind 16 others
+    Late,
+    // the frames of these replies, and then these bytes
+    Replies(&'a [&'a str], &'a [u8]),
+}
+
+impl Contents<'_> {
+    fn bytes(self, alloc: Global) -> Result<Vec<u8>, Unmade> {
+        match self {
+            Contents::FirstRun => first_run(alloc),
+            Contents::Batches(batches) => file_of(alloc, batches, b""),
+            Contents::Opened(batches, rest) => opened(alloc, batches, rest),
+            Contents::Late => sharing::file_of(alloc, &[(20, 36), (0, 1)]),
+            Contents::Replies(replies, rest) => replies_of(alloc, replies, rest),
+        }
+    }
+}
+
+const CONFLICT: &[&str] = &["0>100: W[a,b)", "100>101: R[a,b) @99; R[a,b) @100"];
+
+// The files that the rows name.
+const FILES: [(&str, Contents<'static>); 14] = [
+    ("first", Contents::FirstRun),
+    ("second", Contents::Batches(&["100>200: R[a,b) @99"])),
+    ("third", Contents::Batches(&["200>300"])),
+    ("conflict", Contents::Opened(CONFLICT, b"")),
+    (
+        "writes",
+        Contents::Opened(&["0>100: W[a,b)", "100>200: W[c,d) @100"], b""),
+    ),
+    ("cut", Contents::Opened(&[], b"\0")),
+    ("late", Contents::Late),
+    (
+        "same",
+        Contents::Replies(&["100 committed", "0 empty"], b""),
+    ),
+    ("fewer", Contents::Replies(&["0 empty"], b"")),
+    (
+        "others",
+        Contents::Replies(&["50 empty", "0 tooold", "100 tooold"], b""),
+    ),
+    ("empty", Contents::Replies(&[], b"")),
+    ("conflicts", Contents::Replies(&["200 conflict"], b"")),
+    ("places", Contents::Replies(&["200 conflict:0,2"], b"")),
+    ("short", Contents::Replies(&["0 empty"], b"\0")),
+];
+
 impl Shelf {
     /// Makes the files that the rows name.
     pub fn new(alloc: Global) -> Result<Self, Unmade> {
-        let conflict = ["0>100: W[a,b)", "100>101: R[a,b) @99; R[a,b) @100"];
-        let writes = ["0>100: W[a,b)", "100>200: W[c,d) @100"];
         let mut files = Vec::new(alloc);
-        for (name, bytes) in [
-            ("first", first_run(alloc)?),
-            ("second", file_of(alloc, &["100>200: R[a,b) @99"], b"")?),
-            ("third", file_of(alloc, &["200>300"], b"")?),
-            ("conflict", opened(alloc, &conflict, b"")?),
-            ("writes", opened(alloc, &writes, b"")?),
-            ("cut", opened(alloc, &[], b"\0")?),
-            // the first batch of the chain, behind 16 others
-            ("late", sharing::file_of(alloc, &[(20, 36), (0, 1)])?),
-            (
-                "same",
-                replies_of(alloc, &["100 committed", "0 empty"], b"")?,
-            ),
-            ("fewer", replies_of(alloc, &["0 empty"], b"")?),
-            (
-                "others",
-                replies_of(alloc, &["50 empty", "0 tooold", "100 tooold"], b"")?,
-            ),
-            ("empty", replies_of(alloc, &[], b"")?),
-            ("conflicts", replies_of(alloc, &["200 conflict"], b"")?),
-            ("places", replies_of(alloc, &["200 conflict:0,2"], b"")?),
-            ("short", replies_of(alloc, &["0 empty"], b"\0")?),
-        ] {
+        for (name, contents) in FILES {
+            let bytes = contents.bytes(alloc)?;
             files.push((name, bytes)).map_err(AllocError::from)?;
         }
         Ok(Shelf { alloc, files })

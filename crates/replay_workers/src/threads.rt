@@ -117,14 +117,27 @@ fn make_tasks<S: Drop, G: Drop>(
             share,
             form,
         };
-        tasks.push_reserved(Task {
-            assignment,
-            client,
-            reader,
-            gatekeeper: Arc::try_clone(gatekeeper)?,
-        });
+        tasks.push_reserved(make_task(assignment, client, reader, gatekeeper)?);
     }
     Ok(tasks)
+}
+
+fn make_task<S: Drop, G: Drop>(
+    assignment: Assignment,
+    client: Client,
+    reader: S,
+    gatekeeper: &Arc<G, Global>,
+) -> Result<Task<S, G>, AllocError>
+    ensures assignment { IfOk result (λ task. task.assignment ≡ assignment) }
+    ensures client { IfOk result (λ task. task.client ≡ client) }
+    ensures reader { IfOk result (λ task. task.reader ≡ reader) }
+{
+    Ok(Task {
+        assignment,
+        client,
+        reader,
+        gatekeeper: Arc::try_clone(gatekeeper)?,
+    })
 }
 
 fn start<

@@ -1,5 +1,5 @@
 //! A conflict set that is given the batches of a chain.
-ghost use Rattle.std.specs.Prelude.{◌≡◌};
+ghost use Rattle.std.specs.Prelude.{◌≡◌, ◌≤◌, ◌≤ℤ◌, pos};
 
 use conflict::{ConflictSet, MAX_WINDOW, SetStop};
 use keyspace::{Batch, Reply};
@@ -17,10 +17,12 @@ pub struct Chained {
 
 impl Chained {
     /// Makes a set that has resolved nothing.
-    pub fn new(alloc: Global, window: i64, limit: usize) -> Result<Self, Unmade> {
-        if window < 1 || window > MAX_WINDOW || limit == 0 || limit > MAX_LIMIT {
-            return Err(Unmade::Beyond("set"));
-        }
+    pub fn new(alloc: Global, window: i64, limit: usize) -> Result<Self, Unmade>
+        requires least_window { pos 1 ≤ℤ window }
+        requires most_window { window ≤ℤ MAX_WINDOW }
+        requires least_limit { 1 ≤ limit }
+        requires most_limit { limit ≤ MAX_LIMIT }
+    {
         match ConflictSet::new(alloc, window, limit) {
             Ok(set) => Ok(Chained { set, resolved: -1 }),
             Err(_refused) => Err(Unmade::Memory),

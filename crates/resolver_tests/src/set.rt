@@ -33,22 +33,26 @@ fn push_outcomes(
     Ok(())
 }
 
-fn outcomes(alloc: Global, window: i64, limit: usize, batches: &[&str]) -> Result<String, Unmade> {
-    let mut set = Chained::new(alloc, window, limit)?;
+fn outcomes(
+    alloc: Global,
+    made: Result<Chained, Unmade>,
+    batches: &[&str],
+) -> Result<String, Unmade> {
+    let mut set = made?;
     let mut lines = String::new(alloc);
     push_outcomes(alloc, &mut set, &mut lines, batches)?;
     Ok(lines)
 }
 
-// Resolves the batches by a set of this window and limit, and compares the lines.
+// Resolves the batches by this set, and compares the lines.
 fn resolves(
     rt: &impl Abort,
     alloc: Global,
-    (window, limit): (i64, usize),
+    made: Result<Chained, Unmade>,
     batches: &[&str],
     lines: &str,
 ) -> Result<(), Fail> {
-    let found = outcomes(alloc, window, limit, batches)?;
+    let found = outcomes(alloc, made, batches)?;
     assert_eq!(rt; found.as_str(), lines);
     Ok(())
 }
@@ -57,7 +61,8 @@ fn resolves(
 fn own_and_later_writes_do_not_count(rt: HostRuntime) -> Result<(), Fail> {
     let batches = ["-1>0: R[a,c) W[b,c); R[c,d) W[a,d); R[c,d)"];
     let lines = "0 committed committed conflict\n";
-    resolves(&rt, rt.alloc(), (WINDOW, LIMIT), &batches, lines)
+    let set = Chained::new(rt.alloc(), WINDOW, LIMIT);
+    resolves(&rt, rt.alloc(), set, &batches, lines)
 }
 
 // At 105 the batch writes what those read that the history refuses, too. At 106 the history alone
@@ -71,33 +76,31 @@ fn refused_by_the_history_writes_nothing(rt: HostRuntime) -> Result<(), Fail> {
     ];
     let lines =
         "100 committed\n105 committed tooold conflict committed\n106 tooold conflict committed\n";
-    resolves(&rt, rt.alloc(), (10, LIMIT), &batches, lines)
+    let set = Chained::new(rt.alloc(), 10, LIMIT);
+    resolves(&rt, rt.alloc(), set, &batches, lines)
 }
 
 #[test]
 fn batch_place_skips_empty_range(rt: HostRuntime) -> Result<(), Fail> {
     let batches = ["-1>0: W[a,c) W[e,g); m R[c,e) R[b,b) R[f,h); R[c,e) R[b,b) W[b,b)"];
     let lines = "0 committed conflict:2 committed\n";
-    resolves(&rt, rt.alloc(), (WINDOW, LIMIT), &batches, lines)
+    let set = Chained::new(rt.alloc(), WINDOW, LIMIT);
+    resolves(&rt, rt.alloc(), set, &batches, lines)
 }
 
 #[test]
 fn limit_three_stop(rt: HostRuntime) -> Result<(), Fail> {
     let batches = ["-1>0", "0>100: W[a,b)", "100>200: W[c,d)", "100>9000000"];
     let lines = "0 empty\n100 committed\n2 ArenaFull\n2 ArenaFull\n";
-    resolves(&rt, rt.alloc(), (WINDOW, 3), &batches, lines)
+    let set = Chained::new(rt.alloc(), WINDOW, 3);
+    resolves(&rt, rt.alloc(), set, &batches, lines)
 }
 
 #[test]
 fn limit_one_stop(rt: HostRuntime) -> Result<(), Fail> {
     let batches = ["-1>0", "0>100: W[a,b)"];
-    resolves(
-        &rt,
-        rt.alloc(),
-        (WINDOW, 1),
-        &batches,
-        "0 empty\n2 ArenaFull\n",
-    )
+    let set = Chained::new(rt.alloc(), WINDOW, 1);
+    resolves(&rt, rt.alloc(), set, &batches, "0 empty\n2 ArenaFull\n")
 }
 
 // A transaction that reads and writes the key of this byte.

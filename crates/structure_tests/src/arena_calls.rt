@@ -11,7 +11,7 @@ pub fn bytes_of(alloc: Global, number: u32, length: usize) -> Result<Vec<u8>, Al
     let mut state = number.wrapping_mul(2_654_435_761);
     for _ in 0..length {
         state = state.wrapping_mul(1_664_525).wrapping_add(1_013_904_223);
-        bytes.push((state >> 24) as u8)?;
+        bytes.push(state.to_be_bytes()[0])?;
     }
     Ok(bytes)
 }
@@ -76,15 +76,17 @@ fn refusals_print_their_numbers(rt: HostRuntime) -> Result<(), Fail> {
     Ok(())
 }
 
+fn shown(alloc: Global, arena: &Arena<u32>) -> Result<String, Fail> {
+    Ok(format!(in alloc; "{arena:?}")?)
+}
+
 #[test]
 fn an_arena_prints_its_count(rt: HostRuntime) -> Result<(), Fail> {
     let mut arena: Arena<u32> = Arena::new(rt.alloc());
     arena.place(1, b"key")?;
-    let one = format!(in rt.alloc(); "{arena:?}")?;
-    assert_eq!(rt; one.as_str(), "Arena { live: 1 }");
+    assert_eq!(rt; shown(rt.alloc(), &arena)?.as_str(), "Arena { live: 1 }");
     // Of the same chunk.
     arena.place(2, b"another")?;
-    let two = format!(in rt.alloc(); "{arena:?}")?;
-    assert_eq!(rt; two.as_str(), "Arena { live: 2 }");
+    assert_eq!(rt; shown(rt.alloc(), &arena)?.as_str(), "Arena { live: 2 }");
     Ok(())
 }
