@@ -120,11 +120,13 @@ JOBS ?= $(shell nproc)
 check:
 	rt all check --jobs $(JOBS)
 
-# The first part of the full check (.ci/run): every proof from nothing, the must-fail edits, the tests and the programs.
+# The first part of the full check (.ci/run): every proof, the must-fail edits, the tests and the programs. CONTRIBUTING.md says which
+# toolchains take the proofs that an earlier run has kept.
 test:
 	rt ci
 
-# Tries the edits of edits/, which `make test` leaves out: all, or those of CRATES='NAME..'. Best after `make test`, whose proofs it takes.
+# Tries the edits of edits/, which `make test` leaves out: all, or those of CRATES='NAME..'. Best after `make test` or, where `rt ci` takes
+# no names, after `make check`: it takes the proofs that these have kept.
 more-edits:
 	.ci/more-edits $(CRATES)
 

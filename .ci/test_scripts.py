@@ -8,6 +8,7 @@ import sys
 import tempfile
 import types
 import unittest
+from unittest import mock
 
 import crate_list
 import gate_costs
@@ -237,6 +238,11 @@ rt: must-fail wire/last.edit: NOT TRIED: its check was killed
 rt: a line of something else
 4 passed, 2 failed (keys wire and the crates below alone: not the gate)
 """
+# What `rt ci keys` prints where `rt ci` takes no names.
+USAGE = """\
+usage: rt new FOLDER [start|start_io]   makes a crate from a template
+       rt check|verdict|lib|run|test [NAME] [rattle's flags] [-- the program's arguments]
+"""
 
 
 class MoreEdits(unittest.TestCase):
@@ -278,6 +284,55 @@ class MoreEdits(unittest.TestCase):
                 more_edits.paths_to_copy(crates),
                 ["crates.txt", "HANDLES", "crates/keys/src", "crates/wire/specs", "crates/wire/src"],
             )
+
+    def test_kept_paths(self) -> None:
+        with tempfile.TemporaryDirectory() as folder:
+            crates = pathlib.Path(folder)
+            for part in ("keys/out/rlib", "keys/out/incremental", "keys/out/c", "wire/out/rlib"):
+                (crates / part).mkdir(parents=True)
+            self.assertEqual(
+                more_edits.kept_paths(crates, ["wire", "lost", "keys"]),
+                ["crates/keys/out/incremental", "crates/keys/out/rlib", "crates/wire/out/rlib"],
+            )
+
+    def test_begun(self) -> None:
+        self.assertTrue(more_edits.has_begun(SAID))
+        self.assertTrue(more_edits.has_begun("rt: crates.txt names no crate\n0 passed, 1 failed\n"))
+        self.assertTrue(more_edits.has_begun(SAID.splitlines()[2]))
+        self.assertFalse(more_edits.has_begun(USAGE))
+        self.assertFalse(more_edits.has_begun(""))
+
+    def tried(self, *answers: tuple[int, str]) -> tuple[list[str], list[str], tuple[int, str]]:
+        """Tries the edits of `wire` with these answers of `rt`.
+
+        Returns the commands, the paths of kept work that were copied, and the result.
+        """
+        commands: list[str] = []
+        copied: list[str] = []
+        waiting = list(answers)
+
+        def run_rt(words: list[str], _: pathlib.Path) -> tuple[int, str]:
+            commands.append(" ".join(words))
+            return waiting.pop(0)
+
+        listed = crate_list.parse_crates("keys:\nhex:\nwire: keys json\n")
+        with (
+            mock.patch.object(more_edits, "run_rt", run_rt),
+            mock.patch.object(more_edits, "make_copy"),
+            mock.patch.object(more_edits, "kept_paths", lambda _, names: sorted(names)),
+            mock.patch.object(more_edits, "copy_paths", lambda paths, _: copied.extend(paths)),
+        ):
+            found = more_edits.try_edits(["wire"], listed)
+        return commands, copied, found
+
+    def test_ci_with_names(self) -> None:
+        found = self.tried((1, SAID))
+        self.assertEqual(found, (["ci wire"], [], (1, SAID)))
+
+    def test_ci_without_names(self) -> None:
+        said = "rt: must-fail wire/form.edit: refused, as it must be\n"
+        found = self.tried((2, USAGE), (0, said))
+        self.assertEqual(found, (["ci wire", "must-fail wire"], ["keys"], (0, said)))
 
     def test_edit_without_result(self) -> None:
         edits = ["keys/lost", "keys/tie"]
