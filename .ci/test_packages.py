@@ -1,4 +1,4 @@
-"""The packages for Python and Go stay small: at most 400 lines of code each, without tests."""
+"""What a reader of the library for C meets stays small: packages, C++ headers, examples, the first page."""
 from __future__ import annotations
 
 import ast
@@ -8,6 +8,7 @@ import unittest
 
 TOP = pathlib.Path(__file__).resolve().parent.parent
 MOST = 400
+SPLIT_POINTS = 100  # lines of code in the file for split points, which come on top
 
 
 def python_lines(text: str) -> int:
@@ -31,12 +32,38 @@ class Packages(unittest.TestCase):
         self.assertEqual(go_lines('// Text.\npackage p\n\n/*\n// C.\n#include <x.h>\n*/\nimport "C"\n'), 3)
 
     def test_python(self) -> None:
-        files = (TOP / "bindings/python/archcaraway").glob("*.py")
-        self.assertLessEqual(sum(python_lines(file.read_text()) for file in files), MOST)
+        lines = {file.name: python_lines(file.read_text()) for file in (TOP / "bindings/python/archcaraway").glob("*.py")}
+        self.assertLessEqual(lines.pop("_shards.py"), SPLIT_POINTS)
+        self.assertLessEqual(sum(lines.values()), MOST)
 
     def test_go(self) -> None:
         files = [file for file in (TOP / "bindings/go").glob("*.go") if not file.name.endswith("_test.go")]
-        self.assertLessEqual(sum(go_lines(file.read_text()) for file in files), MOST)
+        lines = {file.name: go_lines(file.read_text()) for file in files}
+        self.assertLessEqual(lines.pop("shards.go"), SPLIT_POINTS)
+        self.assertLessEqual(sum(lines.values()), MOST)
+
+
+class Files(unittest.TestCase):
+    """Complete lines of files, with comments."""
+
+    def assert_few(self, *paths: str, most: int = MOST) -> None:
+        lines = [line for path in paths for line in (TOP / path).read_text().splitlines()]
+        self.assertLessEqual(len(lines), most, paths)
+
+    def test_headers(self) -> None:
+        for path in ("archcaraway.hpp", "archcaraway_frames.hpp", "archcaraway_shards.hpp"):
+            self.assert_few(f"include/{path}")
+
+    def test_replays(self) -> None:
+        for path in ("examples/c/replay.c", "examples/cpp/replay.cpp", "examples/python/replay.py",
+                     "bindings/go/cmd/replay/main.go", "cargo/archcaraway/examples/replay.rs"):
+            self.assert_few(path)
+
+    def test_cluster(self) -> None:
+        self.assert_few("examples/cluster/resolver.c", "examples/cluster/proxy.py")
+
+    def test_page(self) -> None:
+        self.assert_few("docs/EMBEDDING.md", most=199)
 
 
 if __name__ == "__main__":

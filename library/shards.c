@@ -26,13 +26,20 @@ static const uint8_t *readable(const uint8_t *bytes) {
 
 static uint8_t *writable(uint8_t *bytes) { return bytes != NULL ? bytes : archcaraway_no_bytes(); }
 
-/* Tests the keys, and adds up their bytes. */
+/* Whether there are bytes behind the pointer of each key. */
+static bool are_keys(const archcaraway_bytes *keys, size_t count) {
+    size_t i;
+    if (keys == NULL && count != 0) return false;
+    for (i = 0; i < count; i++) {
+        if (keys[i].bytes == NULL && keys[i].length != 0) return false;
+    }
+    return true;
+}
+
+/* Tests the lengths of the keys, and adds them up. */
 static int measure(const archcaraway_bytes *keys, size_t count, size_t *lengths, size_t *bytes,
                    size_t *bad) {
     size_t i;
-    for (i = 0; i < count; i++) {
-        if (keys[i].bytes == NULL && keys[i].length != 0) return ARCHCARAWAY_ARGUMENT;
-    }
     for (i = 0; i < count; i++) {
         if (keys[i].length > ARCHCARAWAY_MAX_KEY) {
             *bad = i;
@@ -52,7 +59,7 @@ int archcaraway_split_points_new(const archcaraway_bytes *keys, size_t count,
     if (bad != NULL) *bad = count;
     if (points == NULL) return ARCHCARAWAY_ARGUMENT;
     points->at = NULL;
-    if (keys == NULL && count != 0) return ARCHCARAWAY_ARGUMENT;
+    if (!are_keys(keys, count)) return ARCHCARAWAY_ARGUMENT;
     if (!processor_fits()) return ARCHCARAWAY_PROCESSOR;
     if (count > ARCHCARAWAY_MAX_SPLIT_POINTS) return ARCHCARAWAY_POINTS_TOO_MANY;
     status = measure(keys, count, lengths, &bytes, &index);

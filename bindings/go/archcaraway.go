@@ -68,6 +68,19 @@ func pointer(bytes []byte) *C.uint8_t {
 	return (*C.uint8_t)(unsafe.Pointer(&bytes[0]))
 }
 
+// Calls a function that writes a frame, again if the buffer is too small, and returns the frame.
+func fill(call func(buffer *C.uint8_t, size C.size_t, length *C.size_t) C.int) ([]byte, C.int) {
+	frame := make([]byte, 256)
+	for {
+		var length C.size_t
+		status := call(pointer(frame), C.size_t(len(frame)), &length)
+		if status != C.ARCHCARAWAY_BUFFER {
+			return frame[:length], status
+		}
+		frame = make([]byte, length)
+	}
+}
+
 // Set is the committed writes of one chain of batches. Goroutines may share it: their calls wait
 // for each other.
 type Set struct {
@@ -102,31 +115,24 @@ func (s *Set) Close() {
 // reply.
 //
 // After an error that isn't a stop the set is as before.
-func (s *Set) Resolve(batch []byte) ([]byte, error) { return s.resolve(batch, false) }
+func (s *Set) Resolve(batch []byte) ([]byte, error) {
+	defer lock(&s.mutex)()
+	reply, status := fill(func(buffer *C.uint8_t, size C.size_t, length *C.size_t) C.int {
+		return C.archcaraway_set_resolve(&s.handle, pointer(batch), C.size_t(len(batch)), buffer,
+			size, length)
+	})
+	return reply, check(status)
+}
 
 // TryResolve judges a batch as Resolve does. But if the batch doesn't fit the limit, it returns
 // ArenaFull, and the set is as before: it hasn't stopped.
-func (s *Set) TryResolve(batch []byte) ([]byte, error) { return s.resolve(batch, true) }
-
-func (s *Set) resolve(batch []byte, refuse bool) ([]byte, error) {
-	s.mutex.Lock()
-	defer s.mutex.Unlock()
-	reply := make([]byte, 256)
-	for {
-		var length C.size_t
-		var status C.int
-		if refuse {
-			status = C.archcaraway_set_try_resolve(&s.handle, pointer(batch), C.size_t(len(batch)),
-				pointer(reply), C.size_t(len(reply)), &length)
-		} else {
-			status = C.archcaraway_set_resolve(&s.handle, pointer(batch), C.size_t(len(batch)),
-				pointer(reply), C.size_t(len(reply)), &length)
-		}
-		if status != C.ARCHCARAWAY_BUFFER {
-			return reply[:length], check(status)
-		}
-		reply = make([]byte, length)
-	}
+func (s *Set) TryResolve(batch []byte) ([]byte, error) {
+	defer lock(&s.mutex)()
+	reply, status := fill(func(buffer *C.uint8_t, size C.size_t, length *C.size_t) C.int {
+		return C.archcaraway_set_try_resolve(&s.handle, pointer(batch), C.size_t(len(batch)),
+			buffer, size, length)
+	})
+	return reply, check(status)
 }
 
 // Boundaries returns the number of boundaries that the set keeps; 0 if it is closed.
@@ -222,18 +228,13 @@ func (c *Core) Finish() error {
 // Give returns the oldest answer owed to a proxy. It continues after a stop.
 func (c *Core) Give(proxy uint32) (Answer, error) {
 	defer lock(&c.mutex)()
-	frame := make([]byte, 256)
-	for {
-		var length C.size_t
-		var kind C.int
-		var version C.int64_t
-		status := C.archcaraway_core_give(&c.handle, C.uint32_t(proxy), pointer(frame),
-			C.size_t(len(frame)), &length, &kind, &version)
-		if status != C.ARCHCARAWAY_BUFFER {
-			return Answer{Kind(kind), int64(version), frame[:length]}, check(status)
-		}
-		frame = make([]byte, length)
-	}
+	var kind C.int
+	var version C.int64_t
+	frame, status := fill(func(buffer *C.uint8_t, size C.size_t, length *C.size_t) C.int {
+		return C.archcaraway_core_give(&c.handle, C.uint32_t(proxy), buffer, size, length, &kind,
+			&version)
+	})
+	return Answer{Kind(kind), int64(version), frame}, check(status)
 }
 
 // Owed returns the number of answers owed to all proxies; 0 if the core is closed.

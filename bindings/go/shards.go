@@ -70,49 +70,35 @@ func NewSplitPoints(keys [][]byte) (*SplitPoints, error) {
 
 // Close frees the split points. Later calls return Argument; closing them again does nothing.
 func (p *SplitPoints) Close() {
-	p.mutex.Lock()
-	defer p.mutex.Unlock()
+	defer lock(&p.mutex)()
 	C.archcaraway_split_points_free(&p.handle)
 }
 
 // Shards returns the number of shards; 0 if the split points are closed.
 func (p *SplitPoints) Shards() int {
-	p.mutex.Lock()
-	defer p.mutex.Unlock()
+	defer lock(&p.mutex)()
 	return int(C.archcaraway_split_points_shards(&p.handle))
 }
 
 // Clip returns the frame of the batch of a shard.
 func (p *SplitPoints) Clip(shard int, batch []byte) ([]byte, error) {
-	p.mutex.Lock()
-	defer p.mutex.Unlock()
-	clip := make([]byte, len(batch)+256)
-	for {
-		var length C.size_t
-		status := C.archcaraway_clip(&p.handle, C.size_t(shard), pointer(batch),
-			C.size_t(len(batch)), pointer(clip), C.size_t(len(clip)), &length)
-		if status != C.ARCHCARAWAY_BUFFER {
-			return clip[:length], check(status)
-		}
-		clip = make([]byte, length)
-	}
+	defer lock(&p.mutex)()
+	clip, status := fill(func(buffer *C.uint8_t, size C.size_t, length *C.size_t) C.int {
+		return C.archcaraway_clip(&p.handle, C.size_t(shard), pointer(batch), C.size_t(len(batch)),
+			buffer, size, length)
+	})
+	return clip, check(status)
 }
 
 // Combine returns the frame of the reply of all shards, given theirs, in order, and the frame of
 // the batch as it was before it was clipped.
 func (p *SplitPoints) Combine(batch []byte, replies [][]byte) ([]byte, error) {
-	p.mutex.Lock()
-	defer p.mutex.Unlock()
+	defer lock(&p.mutex)()
 	stream := bytes.Join(replies, nil)
-	reply := make([]byte, 256)
-	for {
-		var length, bad C.size_t
-		status := C.archcaraway_combine(&p.handle, pointer(batch), C.size_t(len(batch)),
-			pointer(stream), C.size_t(len(stream)), pointer(reply), C.size_t(len(reply)), &length,
-			&bad)
-		if status != C.ARCHCARAWAY_BUFFER {
-			return reply[:length], checkShard(status, bad)
-		}
-		reply = make([]byte, length)
-	}
+	var bad C.size_t
+	reply, status := fill(func(buffer *C.uint8_t, size C.size_t, length *C.size_t) C.int {
+		return C.archcaraway_combine(&p.handle, pointer(batch), C.size_t(len(batch)),
+			pointer(stream), C.size_t(len(stream)), buffer, size, length, &bad)
+	})
+	return reply, checkShard(status, bad)
 }

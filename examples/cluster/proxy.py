@@ -12,7 +12,6 @@ import select
 import socket
 import struct
 import time
-from typing import NamedTuple
 
 from archcaraway import Kind, Reply, SplitPoints, Verdict
 
@@ -22,20 +21,23 @@ PATIENCE = 30  # seconds until a resolver that is gone must be replaced
 VERSION, RECEIVED = slice(13, 21), slice(21, 29)  # in the frame of a batch
 
 
-class Answer(NamedTuple):
-    kind: Kind
-    version: int
-    frame: bytes
+def take_message(stream: bytearray) -> bytes:
+    """Takes the message at the front of a stream, with its length; none if it isn't complete."""
+    end = 4 + int.from_bytes(stream[:4], "big")
+    if len(stream) < end:
+        return b""
+    message = bytes(stream[:end])
+    del stream[:end]
+    return message
 
 
 class Link:
     """The connection to the resolver of a shard, over which a lost connection loses nothing."""
 
     def __init__(self, proxy: int, port: int) -> None:
-        self.proxy, self.port = proxy, port
+        self.proxy, self.port, self.ended = proxy, port, False
         self.unanswered: dict[int, bytes] = {}  # by version, in the order of sending
         self.received = -1  # the answers up to this version have come
-        self.ended = False
         self.socket = socket.socket()
         self.connect()
 
@@ -55,8 +57,7 @@ class Link:
         self.socket.setblocking(False)
         self.incoming = bytearray()
         self.outgoing = bytearray(struct.pack(">I", self.proxy))
-        for frame in self.unanswered.values():
-            self.outgoing += frame
+        self.outgoing += b"".join(self.unanswered.values())
         if self.ended:
             self.end()
 
@@ -85,8 +86,8 @@ class Link:
         except OSError:
             self.connect()
 
-    def read(self) -> list[Answer]:
-        """Returns the answers that have come."""
+    def read(self) -> list[tuple[int, Kind, bytes]]:
+        """Returns the answers that have come: version, kind and frame."""
         try:
             data = self.socket.recv(1 << 16)
         except BlockingIOError:
@@ -96,23 +97,15 @@ class Link:
         if not data:
             self.connect()
         self.incoming += data
-        answers: list[Answer] = []
-        while len(self.incoming) >= 4:
-            end = 4 + struct.unpack_from(">I", self.incoming)[0]
-            if len(self.incoming) < end:
-                break
-            kind, version = struct.unpack_from(">Bq", self.incoming, 4)
-            answers.append(Answer(Kind(kind), version, bytes(self.incoming[13:end])))
-            del self.incoming[:end]
-        return [answer for answer in answers if self.is_awaited(answer.version)]
-
-    def is_awaited(self, version: int) -> bool:
-        """A batch that was sent twice is answered twice. The second answer counts for nothing."""
-        is_oldest = version == next(iter(self.unanswered), None)
-        awaited = self.unanswered.pop(version, None) is not None
-        if is_oldest:
-            self.received = version
-        return awaited
+        answers = []
+        while message := take_message(self.incoming):
+            kind, version = struct.unpack_from(">Bq", message, 4)
+            if version == next(iter(self.unanswered), None):
+                self.received = version
+            # A batch that was sent twice is answered twice. The second answer counts for nothing.
+            if self.unanswered.pop(version, None) is not None:
+                answers.append((version, Kind(kind), message[13:]))
+        return answers
 
 
 def reply_text(reply: Reply) -> str:
@@ -127,36 +120,31 @@ class Proxy:
     def __init__(self, number: int, points: SplitPoints, ports: list[int], drop: int) -> None:
         self.number, self.points, self.drop, self.answered = number, points, drop, 0
         self.links = [Link(number, port) for port in ports]
-        self.pending: dict[int, tuple[bytes, dict[int, Answer]]] = {}  # frame, answers by shard
+        self.pending: dict[int, tuple[bytes, dict[int, tuple[Kind, bytes]]]] = {}  # by version
         self.input = bytearray()
 
     def take(self) -> None:
         """Sends the batches that have come, up to the window."""
-        while len(self.pending) < WINDOW and len(self.input) >= 4:
-            end = 4 + struct.unpack_from(">I", self.input)[0]
-            if len(self.input) < end:
-                break
-            frame = bytes(self.input[:end])
-            del self.input[:end]
+        while len(self.pending) < WINDOW and (frame := take_message(self.input)):
             version = int.from_bytes(frame[VERSION], "big", signed=True)
             self.pending[version] = frame, {}
             for shard, link in enumerate(self.links):
                 link.send(version, self.points.clip(shard, frame))
 
-    def note(self, shard: int, answer: Answer) -> None:
+    def note(self, shard: int, version: int, kind: Kind, reply: bytes) -> None:
         """No shard's verdict counts if another shard has none."""
-        frame, answers = self.pending[answer.version]
-        answers[shard] = answer
+        frame, answers = self.pending[version]
+        answers[shard] = kind, reply
         if len(answers) < len(self.links):
             return
-        del self.pending[answer.version]
-        kinds = {each.kind for each in answers.values()}
+        del self.pending[version]
+        kinds = {kind for kind, _ in answers.values()}
         if kinds == {Kind.REPLY}:
-            replies = [answers[number].frame for number in range(len(self.links))]
+            replies = [answers[number][1] for number in range(len(self.links))]
             text = reply_text(self.points.combine(frame, replies))
         else:
             text = "never" if Kind.NEVER in kinds else "held"
-        print(self.number, answer.version, text, flush=True)
+        print(self.number, version, text, flush=True)
 
     def run(self) -> None:
         """Ends once all batches of the input are answered."""
@@ -165,10 +153,10 @@ class Proxy:
             readers = {link.socket.fileno(): shard for shard, link in enumerate(self.links)}
             writers = {link.socket.fileno(): link for link in self.links if link.outgoing}
             standard = [0] if is_open and len(self.pending) < WINDOW else []
-            ready = select.select([*readers, *standard], writers, [])
-            for descriptor in ready[1]:
+            readable, writable, _ = select.select([*readers, *standard], writers, [])
+            for descriptor in writable:
                 writers[descriptor].write()
-            for descriptor in ready[0]:
+            for descriptor in readable:
                 if descriptor != 0:
                     self.receive(readers[descriptor])
                     continue
@@ -184,7 +172,7 @@ class Proxy:
 
     def receive(self, shard: int) -> None:
         for answer in self.links[shard].read():
-            self.note(shard, answer)
+            self.note(shard, *answer)
             self.answered += 1
             if self.drop and self.answered % self.drop == 0:
                 self.links[shard].connect()  # loses what is on its way in both directions

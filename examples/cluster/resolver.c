@@ -3,6 +3,7 @@
 #include <archcaraway_frames.h>
 
 #include <arpa/inet.h>
+#include <err.h>
 #include <errno.h>
 #include <netinet/tcp.h>
 #include <poll.h>
@@ -17,10 +18,7 @@ enum { CONNECTIONS = 2 * ARCHCARAWAY_MAX_PROXIES, UNKNOWN = -1, HEAD = 13 };
 /* A connection with more unsent bytes than this gets no more answers, and isn't read. */
 static const size_t QUEUE = 1 << 20;
 
-typedef struct {
-    uint8_t *bytes;
-    size_t length, capacity;
-} Buffer;
+typedef struct { uint8_t *bytes; size_t length, capacity; } Buffer;
 
 typedef struct {
     int socket; /* or 0 */
@@ -34,16 +32,11 @@ static uint32_t proxies;
 static uint64_t ended, all; /* a bit per proxy that sends no more, and for all of them */
 static int64_t newest[ARCHCARAWAY_MAX_PROXIES]; /* the greatest version that each has sent */
 
-static void fail(const char *what) {
-    fprintf(stderr, "resolver: %s\n", what);
-    exit(1);
-}
-
 static void reserve(Buffer *buffer, size_t more) {
     if (buffer->length + more <= buffer->capacity) return;
     buffer->capacity = 2 * (buffer->length + more);
     buffer->bytes = realloc(buffer->bytes, buffer->capacity);
-    if (buffer->bytes == NULL) fail("memory");
+    if (buffer->bytes == NULL) err(1, NULL);
 }
 
 static void drop_front(Buffer *buffer, size_t count) {
@@ -71,7 +64,7 @@ static int greet(Connection *connection) {
 
 static void end(int proxy) {
     ended |= UINT64_C(1) << proxy;
-    if (ended == all && archcaraway_core_finish(&core) != ARCHCARAWAY_OK) fail("stop");
+    if (ended == all && archcaraway_core_finish(&core) != ARCHCARAWAY_OK) errx(1, "stop");
 }
 
 /* A batch that is sent again while it is held would be held twice. A proxy's versions rise. */
@@ -80,35 +73,34 @@ static int is_held(int proxy, const uint8_t *frame, size_t length) {
     if (length < 21) return 0;
     int64_t previous = (int64_t)archcaraway_number(frame + 5, 8);
     int64_t version = (int64_t)archcaraway_number(frame + 13, 8);
-    int again = version <= newest[proxy];
     archcaraway_core_stats(&core, &stats);
-    if (!again) newest[proxy] = version;
-    return again && previous > stats.version && ended != all;
+    if (version <= newest[proxy]) return previous > stats.version && ended != all;
+    newest[proxy] = version;
+    return 0;
 }
 
 /* Takes the frames that have come. Returns 0 if the connection is of no use. */
 static int take(Connection *connection) {
     Buffer *in = &connection->in;
     size_t at = 0;
+    if (connection->proxy == UNKNOWN) {
+        if (in->length < 4) return 1;
+        if (!greet(connection)) return 0;
+        at = 4;
+    }
     while (in->length - at >= 4) {
-        size_t length = archcaraway_number(in->bytes + at, 4);
-        if (connection->proxy == UNKNOWN) {
-            if (!greet(connection)) return 0;
-            at += 4;
-            continue;
-        }
-        if (length + 4 > ARCHCARAWAY_MAX_FRAME) return 0;
-        if (length == 0) {
+        const uint8_t *frame = in->bytes + at;
+        size_t length = archcaraway_number(frame, 4) + 4;
+        if (length > ARCHCARAWAY_MAX_FRAME) return 0;
+        if (in->length - at < length) break;
+        if (length == 4) {
             end(connection->proxy);
-        } else if (in->length - at < length + 4) {
-            break;
-        } else if (!is_held(connection->proxy, in->bytes + at, length + 4)) {
-            uint32_t proxy = (uint32_t)connection->proxy;
-            int status = archcaraway_core_admit(&core, proxy, in->bytes + at, length + 4);
-            if (archcaraway_core_stop(&core) != 0) fail(archcaraway_status_text(status));
+        } else if (!is_held(connection->proxy, frame, length)) {
+            int status = archcaraway_core_admit(&core, (uint32_t)connection->proxy, frame, length);
+            if (archcaraway_core_stop(&core) != 0) errx(1, "%s", archcaraway_status_text(status));
             if (status != ARCHCARAWAY_OK) return 0; /* nothing was taken */
         }
-        at += length + 4;
+        at += length;
     }
     drop_front(in, at);
     return 1;
@@ -142,13 +134,13 @@ static void answer(Connection *connection) {
         int64_t version;
         reserve(out, HEAD + room);
         uint8_t *at = out->bytes + out->length;
-        int status = archcaraway_core_give(&core, (uint32_t)connection->proxy, at + HEAD, room, &length,
-                                           &kind, &version);
+        int status = archcaraway_core_give(&core, (uint32_t)connection->proxy, at + HEAD, room,
+                                           &length, &kind, &version);
         if (status == ARCHCARAWAY_BUFFER) {
             room = length;
             continue;
         }
-        if (status != ARCHCARAWAY_OK) fail(archcaraway_status_text(status));
+        if (status != ARCHCARAWAY_OK) errx(1, "%s", archcaraway_status_text(status));
         if (kind == ARCHCARAWAY_NOTHING) return;
         archcaraway_spell(at, HEAD - 4 + length, 4);
         at[4] = (uint8_t)kind;
@@ -159,16 +151,14 @@ static void answer(Connection *connection) {
 
 static void welcome(int listener) {
     int one = 1, socket = accept(listener, NULL, NULL);
-    Connection *free_one = connections;
     if (socket < 0) return;
-    while (free_one < connections + CONNECTIONS && free_one->socket != 0) free_one++;
-    if (free_one == connections + CONNECTIONS) {
-        close(socket);
+    setsockopt(socket, IPPROTO_TCP, TCP_NODELAY, &one, sizeof one);
+    for (int i = 0; i < CONNECTIONS; i++) {
+        if (connections[i].socket != 0) continue;
+        connections[i] = (Connection){.socket = socket, .proxy = UNKNOWN};
         return;
     }
-    setsockopt(socket, IPPROTO_TCP, TCP_NODELAY, &one, sizeof one);
-    free_one->socket = socket;
-    free_one->proxy = UNKNOWN;
+    close(socket);
 }
 
 static int listen_on(const char *port) {
@@ -177,8 +167,8 @@ static int listen_on(const char *port) {
     int one = 1, listener = socket(AF_INET, SOCK_STREAM, 0);
     address.sin_addr.s_addr = htonl(INADDR_LOOPBACK);
     setsockopt(listener, SOL_SOCKET, SO_REUSEADDR, &one, sizeof one);
-    if (bind(listener, (struct sockaddr *)&address, sizeof address) != 0) fail("can't bind the port");
-    if (listen(listener, CONNECTIONS) != 0) fail("can't listen");
+    if (bind(listener, (struct sockaddr *)&address, sizeof address) != 0) err(1, "port %s", port);
+    if (listen(listener, CONNECTIONS) != 0) err(1, "listen");
     getsockname(listener, (struct sockaddr *)&address, &length);
     printf("%d\n", ntohs(address.sin_port));
     fflush(stdout);
@@ -195,25 +185,25 @@ static void turn(int listener) {
         polled[i + 1].events = (short)((connection->out.length < QUEUE ? POLLIN : 0) |
                                        (connection->out.length > 0 ? POLLOUT : 0));
     }
-    if (poll(polled, CONNECTIONS + 1, -1) < 0 && errno != EINTR) fail("can't poll");
+    if (poll(polled, CONNECTIONS + 1, -1) < 0 && errno != EINTR) err(1, "poll");
     for (int i = 0; i < CONNECTIONS; i++) {
         Connection *connection = &connections[i];
         int of_use = 1;
         /* Another connection of the same proxy may have closed this one meanwhile. */
         if (connection->socket == 0 || connection->socket != polled[i + 1].fd) continue;
         if (polled[i + 1].revents & POLLOUT) of_use = deliver(connection);
-        if (of_use && polled[i + 1].revents & (POLLIN | POLLHUP | POLLERR)) of_use = receive(connection);
+        if (of_use && polled[i + 1].revents & ~POLLOUT) of_use = receive(connection);
         if (!of_use) close_connection(connection);
     }
     if (polled[0].revents & POLLIN) welcome(listener);
 }
 
 int main(int count, char **words) {
-    if (count < 3) fail("PORT PROXIES [VERSION]");
+    if (count < 3) errx(1, "PORT PROXIES [VERSION]");
     proxies = (uint32_t)atoi(words[2]);
     int status = archcaraway_core_new_at(proxies, ARCHCARAWAY_WINDOW, ARCHCARAWAY_LIMIT,
                                          count > 3 ? atoll(words[3]) : -1, &core);
-    if (status != ARCHCARAWAY_OK) fail(archcaraway_status_text(status));
+    if (status != ARCHCARAWAY_OK) errx(1, "%s", archcaraway_status_text(status));
     all = UINT64_MAX >> (64 - proxies);
     memset(newest, 0xff, sizeof newest); /* -1 */
     for (int listener = listen_on(words[1]);;) turn(listener);

@@ -8,48 +8,8 @@
 #include <stdlib.h>
 
 #include "archcaraway_shards.h"
-#include "chains.h"
-
-void *__real_malloc(size_t size);
-void *__real_realloc(void *at, size_t size);
-void __real_free(void *at);
-
-// Calls of the library are counted, and what it holds, and one call is refused.
-static bool inside;
-static size_t calls, refuse_at;
-static long held;
-
-static bool is_refused(void) { return inside && ++calls == refuse_at; }
-
-void *__wrap_malloc(size_t size) {
-    if (is_refused()) return NULL;
-    void *at = __real_malloc(size);
-    if (inside && at != NULL) held++;
-    return at;
-}
-
-void *__wrap_realloc(void *old, size_t size) {
-    if (is_refused()) return NULL;
-    void *at = __real_realloc(old, size);
-    if (inside && old == NULL && at != NULL) held++;
-    return at;
-}
-
-void __wrap_free(void *at) {
-    if (inside && at != NULL) held--;
-    __real_free(at);
-}
-
-// Counts from here on to `leave`, which hands the status on.
-static void enter(void) { inside = true; }
-
-static int leave(int status) {
-    inside = false;
-    return status;
-}
-
-// Makes a call of the library.
-#define LIBRARY(call) (enter(), leave(call))
+#include "refusing.h"
+#include "values.h"
 
 static size_t stops, again;
 
@@ -174,14 +134,66 @@ static int run_set(const Chain *chain, Text *replies) {
     return status;
 }
 
-static size_t refuse_set(const Chain *chain) {
+// More transactions than a new batch has room for.
+enum { MANY = 150 };
+
+// Adds a transaction again until it isn't refused.
+static void add(archcaraway_batch *batch, const archcaraway_txn *txn) {
+    const size_t room = archcaraway_batch_room(batch);
+    while (is_again(LIBRARY(archcaraway_batch_add(batch, txn)))) DEMAND(archcaraway_batch_room(batch) == room);
+    DEMAND(archcaraway_batch_room(batch) == room - 1);
+}
+
+// Appends a batch to an empty one, again until that isn't refused.
+static void append(archcaraway_batch *batch, archcaraway_batch *other) {
+    const size_t room = archcaraway_batch_room(batch);
+    while (is_again(LIBRARY(archcaraway_batch_append(batch, other)))) DEMAND(archcaraway_batch_room(batch) == room);
+    DEMAND(archcaraway_batch_room(batch) == archcaraway_batch_room(other));
+}
+
+// Judges the batches of the chain without frames, each appended to another, and puts the verdicts one behind the other. The first
+// batch has each of its transactions many times.
+static int run_batches(const Chain *chain, Text *said) {
+    static uint8_t verdicts[ARCHCARAWAY_MAX_TRANSACTIONS];
+    archcaraway_set set = ARCHCARAWAY_NONE;
+    archcaraway_batch one = ARCHCARAWAY_NONE, other = ARCHCARAWAY_NONE;
+    calls = 0;
+    int status = LIBRARY(archcaraway_set_new(chain->window, chain->limit, &set));
+    if (status == ARCHCARAWAY_OK) status = LIBRARY(archcaraway_batch_new(&one));
+    if (status == ARCHCARAWAY_OK) status = LIBRARY(archcaraway_batch_new(&other));
+    DEMAND(status == ARCHCARAWAY_OK || (status == ARCHCARAWAY_MEMORY && other.at == NULL));
+    for (size_t i = 0; i < chain->length && status == ARCHCARAWAY_OK; i++) {
+        const Batch *batch = &chain->chain[i];
+        Values values = values_of(batch);
+        const size_t count = batch->count == 0 ? 0 : batch->count + (i == 0 ? MANY : 0);
+        archcaraway_batch_clear(&one);
+        archcaraway_batch_clear(&other);
+        for (size_t k = 0; k < count; k++) add(&one, &values.txns[k % batch->count]);
+        append(&other, &one);
+        while (is_again(status = LIBRARY(archcaraway_set_judge_batch(&set, batch->version, &other, verdicts, count)))) {
+        }
+        DEMAND(status >= ARCHCARAWAY_OK && status <= ARCHCARAWAY_ARENA_FULL);
+        for (size_t k = 0; status == ARCHCARAWAY_OK && k < count; k++) put(said, verdicts[k], 1);
+        free_values(&values);
+    }
+    enter();
+    archcaraway_set_free(&set);
+    archcaraway_batch_free(&one);
+    archcaraway_batch_free(&other);
+    leave(0);
+    DEMAND(held == 0);
+    return status;
+}
+
+// Refuses each allocation of a run in turn. What is said then is a beginning of all.
+static size_t refuse(int (*run)(const Chain *, Text *), const Chain *chain) {
     Text all = {NULL, 0, 0};
     refuse_at = 0;
-    int stop = run_set(chain, &all);
+    int stop = run(chain, &all);
     size_t number = calls;
     for (refuse_at = 1; refuse_at <= number; refuse_at++) {
         Text some = {NULL, 0, 0};
-        int met = run_set(chain, &some);
+        int met = run(chain, &some);
         DEMAND(met == stop || met == ARCHCARAWAY_MEMORY);
         stops += met != stop;
         DEMAND(some.length <= all.length && (some.length == 0 || memcmp(some.bytes, all.bytes, some.length) == 0));
@@ -248,7 +260,8 @@ int main(int count, char **words) {
         Chain chain = random_chain(&random);
         if (chain.length < 60) {
             refused += refuse_core(&chain);
-            refused += refuse_set(&chain);
+            refused += refuse(run_set, &chain);
+            refused += refuse(run_batches, &chain);
             refused += refuse_shards(&chain.chain[chain.length - 1]);
         }
         free_chain(&chain);

@@ -187,6 +187,7 @@ static void bad_points(void) {
     DEMAND(archcaraway_split_points_new(keys, 3, &points, &bad) == ARCHCARAWAY_FRAME_KEY_LENGTH && bad == 1);
     keys[1] = (archcaraway_bytes){NULL, 1};
     DEMAND(archcaraway_split_points_new(keys, 3, &points, &bad) == ARCHCARAWAY_ARGUMENT && bad == 3);
+    DEMAND(archcaraway_split_points_new(keys, 64, &points, &bad) == ARCHCARAWAY_ARGUMENT && bad == 64);
     keys[0] = (archcaraway_bytes){NULL, 0};
     DEMAND(archcaraway_split_points_new(keys, 1, &points, &bad) == ARCHCARAWAY_POINTS_NOT_RISING && bad == 0);
     DEMAND(archcaraway_split_points_new(NULL, 1, &points, NULL) == ARCHCARAWAY_ARGUMENT);

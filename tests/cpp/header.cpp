@@ -1,4 +1,4 @@
-// The C++ header: views, single keys, iterators, moves and refusals. Also compiled with -fno-exceptions, where refusals are left out.
+// The C++ headers: views, single keys, iterators, moves and refusals. Also compiled with -fno-exceptions, where refusals are left out.
 #include <algorithm>
 #include <cstdio>
 #include <cstdlib>
@@ -6,6 +6,7 @@
 #include <type_traits>
 
 #include "archcaraway.hpp"
+#include "archcaraway_shards.hpp"
 
 #define DEMAND(holds)                                                                                                  \
     do {                                                                                                               \

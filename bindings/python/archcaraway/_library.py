@@ -1,4 +1,4 @@
-"""The functions of archcaraway.h and archcaraway_frames.h, by ctypes."""
+"""The functions of archcaraway.h, archcaraway_frames.h and archcaraway_shards.h, by ctypes."""
 
 from __future__ import annotations
 
@@ -8,7 +8,7 @@ from ctypes import c_uint32, c_uint64, c_void_p
 from pathlib import Path
 
 
-class Handle(Structure):  # archcaraway_set, archcaraway_core and archcaraway_batch
+class Handle(Structure):  # archcaraway_set, _core, _batch and _split_points
     _fields_ = [("at", c_void_p)]
 
 
@@ -81,6 +81,11 @@ _FUNCTIONS = {
     "batch_free": (None, _HANDLE),
     "set_judge_batch": (c_int, _HANDLE, c_int64, _HANDLE, c_char_p, c_size_t),
     "core_admit_batch": (c_int, _HANDLE, c_uint32, _HANDLE, c_int64, c_int64, c_int64),
+    "split_points_new": (c_int, POINTER(KeyRecord), c_size_t, _HANDLE, POINTER(c_size_t)),
+    "split_points_shards": (c_size_t, _HANDLE),
+    "split_points_free": (None, _HANDLE),
+    "clip": (c_int, _HANDLE, c_size_t, *_KEY, *_BUFFER),
+    "combine": (c_int, _HANDLE, *_KEY, *_KEY, *_BUFFER, POINTER(c_size_t)),
     "writer_new": (Writer, c_void_p, c_void_p),
     "writer_free": (None, _WRITER),
     "batch_begin": (c_int, _WRITER, c_int64, c_int64, c_int64),

@@ -72,6 +72,24 @@ class _Owner:
         raise TypeError(f"a {type(self).__name__} can't be copied or pickled")
 
 
+class _FrameWriter(_Owner):
+    """An object that writes frames."""
+
+    _buffer = ctypes.create_string_buffer(0)
+
+    def _fill(self, name: str, *arguments: Any) -> bytes:
+        """Calls a function that writes a frame. The last argument is what follows its buffer."""
+        *before, after = arguments
+        length, status = ctypes.c_size_t(4096), _BUFFER
+        with self._lock:
+            while status == _BUFFER:
+                if length.value > len(self._buffer):
+                    self._buffer = ctypes.create_string_buffer(length.value)
+                status = self._call(name, *before, self._buffer, len(self._buffer), length, *after)
+            check(status)
+            return ctypes.string_at(self._buffer, length.value)
+
+
 @contextlib.contextmanager
 def _both(one: _Owner, other: _Owner) -> Iterator[None]:
     """Takes the locks of both, in the same order in every thread."""
@@ -125,22 +143,8 @@ class Batch(_Owner):
             return _MAX_TRANSACTIONS - self.room if self._is_open() else 0
 
 
-class _Judge(_Owner):
-    """A set or a core: it has numbers, and writes frames."""
-
-    _buffer = ctypes.create_string_buffer(0)
-
-    def _fill(self, name: str, *arguments: Any) -> bytes:
-        """Calls a function that writes a frame. The last argument is what follows its buffer."""
-        *before, after = arguments
-        length, status = ctypes.c_size_t(4096), _BUFFER
-        with self._lock:
-            while status == _BUFFER:
-                if length.value > len(self._buffer):
-                    self._buffer = ctypes.create_string_buffer(length.value)
-                status = self._call(name, *before, self._buffer, len(self._buffer), length, *after)
-            check(status)
-            return ctypes.string_at(self._buffer, length.value)
+class _Judge(_FrameWriter):
+    """A set or a core: it has numbers."""
 
     @property
     def stats(self) -> Stats:

@@ -5,31 +5,15 @@ from __future__ import annotations
 import ctypes
 import threading
 from collections.abc import Iterable
-from ctypes import POINTER, Structure, c_char_p, c_int, c_size_t
+from ctypes import c_size_t
 from typing import Any
 
 from ._errors import Error, check
-from ._library import LIBRARY, Handle
-from ._objects import _Owner
+from ._library import LIBRARY, Handle, KeyRecord
+from ._objects import _FrameWriter
 from ._values import Key, Reply, as_bytes, as_integer, decode
 
-
-class _Bytes(Structure):  # archcaraway_bytes
-    _fields_ = [("bytes", c_char_p), ("length", c_size_t)]
-
-
 _MEMORY = 111  # FRAME_MEMORY: no fault of a reply
-_KEY, _SIZE = (c_char_p, c_size_t), POINTER(c_size_t)
-_HANDLE = POINTER(Handle)  # archcaraway_split_points
-for _name, (_result, *_parameters) in {
-    "split_points_new": (c_int, POINTER(_Bytes), c_size_t, _HANDLE, _SIZE),
-    "split_points_shards": (c_size_t, _HANDLE),
-    "split_points_free": (None, _HANDLE),
-    "clip": (c_int, _HANDLE, c_size_t, *_KEY, *_KEY, _SIZE),
-    "combine": (c_int, _HANDLE, *_KEY, *_KEY, *_KEY, _SIZE, _SIZE),
-}.items():
-    _function = getattr(LIBRARY, f"archcaraway_{_name}")
-    _function.restype, _function.argtypes = _result, _parameters
 
 
 class SplitPointsError(Error, ValueError):
@@ -45,16 +29,15 @@ class ReplyError(Error):
     shard: int
 
 
-class SplitPoints(_Owner):
+class SplitPoints(_FrameWriter):
     """Keys that split all keys into shards with a resolver each: at most 63, strictly rising."""
 
     _kind = "split_points"
 
     def __init__(self, keys: Iterable[Key]) -> None:
         self._lock = threading.RLock()
-        self._buffer = ctypes.create_string_buffer(4096)
         owned, bad, handle = [as_bytes(key) for key in keys], c_size_t(), Handle()
-        array = (_Bytes * len(owned))(*((key, len(key)) for key in owned))
+        array = (KeyRecord * len(owned))(*((key, len(key)) for key in owned))
         status = LIBRARY.archcaraway_split_points_new(array, len(owned), handle, bad)
         if status in (108, 301, 302):
             error = SplitPointsError(status)
@@ -64,11 +47,10 @@ class SplitPoints(_Owner):
         self._handle = handle
 
     def _call(self, name: str, *arguments: Any) -> int:
-        plain = {"clip": LIBRARY.archcaraway_clip, "combine": LIBRARY.archcaraway_combine}
-        if name not in plain:
+        if name not in ("clip", "combine"):
             return super()._call(name, *arguments)
         with self._lock:
-            return int(plain[name](self._handle, *arguments))
+            return int(getattr(LIBRARY, f"archcaraway_{name}")(self._handle, *arguments))
 
     @property
     def shards(self) -> int:

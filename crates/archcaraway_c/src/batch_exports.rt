@@ -19,7 +19,10 @@ use std::alloc::Global;
 pub extern "C" fn archcaraway_export_batch_new(alloc: Global, at: &mut *mut u8) -> i32
     ensures made { (result ≡ pos 0) ⊎ (result ≡ pos 1) }
 {
-    match Box::new(alloc, BatchObject::new(alloc)) {
+    let Ok(batch) = BatchObject::new(alloc) else {
+        return Refusal::Stop(Stop::Memory).status();
+    };
+    match Box::new(alloc, batch) {
         Ok(batch) => {
             *at = Box::into_raw(batch).cast();
             OK

@@ -40,14 +40,12 @@ impl Model for BatchObject {
 }
 
 impl BatchObject {
-    /// Creates a batch of no transaction, without taking memory.
-    pub fn new(alloc: Global) -> Self
-        ensures none { result ≡ [] }
+    /// Creates a batch of no transaction, or returns an error if memory is refused.
+    pub fn new(alloc: Global) -> Result<Self, AllocError>
+        ensures none { IfOk result (λ batch. batch ≡ []) }
     {
-        BatchObject {
-            alloc,
-            tables: BatchTables::new(alloc),
-        }
+        let tables = BatchTables::new(alloc)?;
+        Ok(BatchObject { alloc, tables })
     }
 
     /// Adds a transaction behind the others. Its read ranges and its write ranges lie among the

@@ -2,7 +2,7 @@
 //! buffer.
 
 ghost use Rattle.std.specs.Prelude.{◌≡◌, ◌+◌, ◌-◌, ◌<◌, ◌≤◌, ◌≤ℤ◌, ◌^◌, [], ◌∷◌, ◌++◌, ℕ, pos};
-ghost use Rattle.std.specs.Prelude.{length, vec_len, map, take, All, OnOk, OnErr};
+ghost use Rattle.std.specs.Prelude.{length, vec_len, map, take, All, OnOk, OnErr, IfOk};
 ghost use Rattle.keyspace.specs.Tables.{txns_told, AreTables, AreRows};
 ghost use Rattle.keyspace.specs.declared.batch.TheConstants.{MAX_TXNS};
 ghost use Rattle.keyspace.specs.declared.txn.TheConstants.{MAX_RANGES};
@@ -13,6 +13,11 @@ use crate::key_span::KeySpan;
 use crate::moving::{push_rows, push_spans};
 use keyspace::{Row, Span};
 use std::alloc::{AllocError, Global};
+
+// A batch of this size grows no table while transactions are added.
+const SMALL_BYTES: usize = 8_192;
+const SMALL_RANGES: usize = 512;
+const SMALL_TXNS: usize = 128;
 
 /// What the transactions of a batch are kept as.
 #[derive(Debug, Drop)]
@@ -26,17 +31,18 @@ pub struct BatchTables {
 }
 
 impl BatchTables {
-    /// Creates tables of no transaction, without taking memory.
-    pub fn new(alloc: Global) -> Self
-        ensures buffer { result.buffer.items ≡ [] }
-        ensures spans { result.spans.items ≡ [] }
-        ensures rows { result.rows.items ≡ [] }
+    /// Creates tables of no transaction, with room for those of a small batch, or returns an error
+    /// if memory is refused.
+    pub fn new(alloc: Global) -> Result<Self, AllocError>
+        ensures buffer { IfOk result (λ tables. tables.buffer.items ≡ []) }
+        ensures spans { IfOk result (λ tables. tables.spans.items ≡ []) }
+        ensures rows { IfOk result (λ tables. tables.rows.items ≡ []) }
     {
-        BatchTables {
-            buffer: Vec::new(alloc),
-            spans: Vec::new(alloc),
-            rows: Vec::new(alloc),
-        }
+        Ok(BatchTables {
+            buffer: Vec::with_capacity(alloc, SMALL_BYTES)?,
+            spans: Vec::with_capacity(alloc, SMALL_RANGES)?,
+            rows: Vec::with_capacity(alloc, SMALL_TXNS)?,
+        })
     }
 
     /// Copies a transaction behind the others. If memory is refused, or the keys would have more
