@@ -115,21 +115,22 @@ func (s *Set) Close() {
 // reply.
 //
 // After an error that isn't a stop the set is as before.
-func (s *Set) Resolve(batch []byte) ([]byte, error) { return s.resolve(batch, false) }
+func (s *Set) Resolve(batch []byte) ([]byte, error) {
+	defer lock(&s.mutex)()
+	reply, status := fill(func(buffer *C.uint8_t, size C.size_t, length *C.size_t) C.int {
+		return C.archcaraway_set_resolve(&s.handle, pointer(batch), C.size_t(len(batch)), buffer,
+			size, length)
+	})
+	return reply, check(status)
+}
 
 // TryResolve judges a batch as Resolve does. But if the batch doesn't fit the limit, it returns
 // ArenaFull, and the set is as before: it hasn't stopped.
-func (s *Set) TryResolve(batch []byte) ([]byte, error) { return s.resolve(batch, true) }
-
-func (s *Set) resolve(batch []byte, refuse bool) ([]byte, error) {
+func (s *Set) TryResolve(batch []byte) ([]byte, error) {
 	defer lock(&s.mutex)()
 	reply, status := fill(func(buffer *C.uint8_t, size C.size_t, length *C.size_t) C.int {
-		if refuse {
-			return C.archcaraway_set_try_resolve(&s.handle, pointer(batch), C.size_t(len(batch)),
-				buffer, size, length)
-		}
-		return C.archcaraway_set_resolve(&s.handle, pointer(batch), C.size_t(len(batch)), buffer,
-			size, length)
+		return C.archcaraway_set_try_resolve(&s.handle, pointer(batch), C.size_t(len(batch)),
+			buffer, size, length)
 	})
 	return reply, check(status)
 }

@@ -8,6 +8,7 @@
 #include <stdlib.h>
 
 #include "chains.h"
+#include "values.h"
 
 typedef struct {
     const Batch *batch;
@@ -47,33 +48,16 @@ static archcaraway_set set_behind(const Chain *chain, const History *history) {
     return set;
 }
 
-static archcaraway_bytes bytes_of(Bytes key) {
-    archcaraway_bytes bytes = {key.length == 0 ? NULL : key.bytes, key.length};
-    return bytes;
-}
-
 // Judges the same batch without a frame.
 static int by_values(archcaraway_set *set, const Batch *batch, uint8_t *verdicts, bool as_batch) {
-    archcaraway_txn txns[64];
-    archcaraway_range *ranges[64];
-    archcaraway_batch values = ARCHCARAWAY_NONE;
-    int status;
-    DEMAND(batch->count <= 64 && archcaraway_batch_new(&values) == ARCHCARAWAY_OK);
-    for (unsigned i = 0; i < batch->count; i++) {
-        const Transaction *t = &batch->transactions[i];
-        ranges[i] = demand_memory((t->reads + t->writes + 1) * sizeof *ranges[i]);
-        for (unsigned k = 0; k < t->reads + t->writes; k++) {
-            archcaraway_range range = {bytes_of(t->ranges[k].begin), bytes_of(t->ranges[k].end), false};
-            ranges[i][k] = range;
-        }
-        archcaraway_txn txn = {t->snapshot, ranges[i], t->reads, ranges[i] + t->reads, t->writes, t->report};
-        txns[i] = txn;
-        DEMAND(archcaraway_batch_add(&values, &txn) == ARCHCARAWAY_OK);
-    }
-    status = as_batch ? archcaraway_set_try_judge_batch(set, batch->version, &values, verdicts, batch->count)
-                      : archcaraway_set_try_judge(set, batch->version, txns, batch->count, verdicts, NULL);
-    for (unsigned i = 0; i < batch->count; i++) free(ranges[i]);
-    archcaraway_batch_free(&values);
+    archcaraway_batch made = ARCHCARAWAY_NONE;
+    Values values = values_of(batch);
+    DEMAND(archcaraway_batch_new(&made) == ARCHCARAWAY_OK);
+    for (unsigned i = 0; i < batch->count; i++) DEMAND(archcaraway_batch_add(&made, &values.txns[i]) == ARCHCARAWAY_OK);
+    const int status = as_batch ? archcaraway_set_try_judge_batch(set, batch->version, &made, verdicts, batch->count)
+                                : archcaraway_set_try_judge(set, batch->version, values.txns, batch->count, verdicts, NULL);
+    archcaraway_batch_free(&made);
+    free_values(&values);
     return status;
 }
 

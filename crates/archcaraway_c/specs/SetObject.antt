@@ -60,9 +60,9 @@ MetNow when.Stop old new met = new.stop ≡ Some met
 MetNow when.Refuse old new Memory = new.stop ≡ Some Memory
 MetNow when.Refuse old new ArenaFull = new ≡ old
 
--- The set meets this stop at the batch, or refuses the batch for it. It is `ArenaFull` only if what the batch commits can't be written within the limit: the
--- live writes, these included, have too many boundaries, and a whole round of the sweep makes too little room. It is `Memory`
--- before such a round, or if there is room.
+-- The set meets this stop at the batch, or refuses the batch for it. It is `ArenaFull` only if what the batch commits can't be
+-- written within the limit: the live writes, these included, have too many boundaries, and a whole round of the sweep makes too
+-- little room. It is `Memory` before such a round, or if there is room.
 pub record StopsAt (when_full : WhenFull) (old new : SetState) (batch : Batch) (met : SetStop) : Type 0 where
   pub met_now : MetNow when_full old new met
   pub window : new.window ≡ old.window
@@ -78,7 +78,8 @@ pub record StopsAt (when_full : WhenFull) (old new : SetState) (batch : Batch) (
       (new.map.boundaries ≡ old.map.boundaries)
       ⊎ HasRoomToWrite (raised (edge old.window batch) old.map) (committed batch.txns reply.entries)
 
--- The set meets this stop, or refuses for it, at the batch of the frame, which is above that resolved last and whose reply would have fitted.
+-- The set meets this stop, or refuses for it, at the batch of the frame, which is above that resolved last and whose reply would
+-- have fitted.
 pub record StopsNow (when_full : WhenFull) (old new : SetState) (frame : List ℕ) (capacity : ℕ) (stop : StopValue) : Type 0 where
   pub batch : Batch
   pub asked : IsFrame frame batch

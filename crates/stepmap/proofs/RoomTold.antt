@@ -1,5 +1,5 @@
 -- Whether room can be made with a later edge: what is counted says it.
-use Rattle.std.proofs.Common.{◌≡◌, ℕ, ◌+◌, ◌*◌, ◌≤◌, ◌<◌, Bool, true, false, List, [], ◌∷◌, length, refl, sym, ◌∙◌, ap, inl, inr, arith}
+use Rattle.std.proofs.Common.{◌≡◌, ℕ, ◌+◌, ◌*◌, ◌≤◌, ◌<◌, Bool, true, false, List, [], ◌∷◌, length, refl, sym, ◌∙◌, inl, inr, arith}
 use Rattle.std.specs.Prelude.{ℤ, ◌≤ℤ◌, ◌↔◌, int_lt, nat_le, IsTrue}
 use Rattle.std.proofs.lemmas.Int.{ints}
 use Rattle.keys.proofs.callers.Booleans.{true_or_false}

@@ -1,8 +1,8 @@
 -- Items that are counted part by part: what was counted, and what is still to be counted.
-use Rattle.std.proofs.Common.{◌≡◌, ◌≢◌, ℕ, zero, suc, ◌+◌, ◌*◌, ◌-◌, ◌≤◌, ◌<◌, ℤ, int_lt, ◌&&◌, List, [], ◌∷◌, ◌++◌, length, drop, get_or, flat_map, map, All, refl, sym, subst, ◌∙◌, ap, arith, length-append}
+use Rattle.std.proofs.Common.{◌≡◌, ◌≢◌, ℕ, zero, suc, ◌+◌, ◌*◌, ◌-◌, ◌≤◌, ◌<◌, ℤ, int_lt, ◌&&◌, List, [], ◌∷◌, ◌++◌, length, drop, get_or, All, refl, sym, subst, ◌∙◌, ap, arith, length-append}
 use Rattle.std.proofs.lemmas.Bool.{cases_Bool}
 use Rattle.std.proofs.lemmas.List.{drop_more}
-use Rattle.tree.proofs.Words.{Arena, Node, Entry, Item, Unexpired, item_of, items_in, entries_at, IsChild, IsSubtree, IsCounted, last_version, items_from, unexpired}
+use Rattle.tree.proofs.Words.{Arena, Node, Entry, Item, Unexpired, items_in, entries_at, IsChild, IsSubtree, IsCounted, last_version, items_from, unexpired}
 use Rattle.tree.proofs.Removing.{from_index}
 
 -- those that stay of two parts

@@ -1,7 +1,7 @@
 use Rattle.std.proofs.Common.{rules, w64, ◌≡◌, ℕ, ◌+◌, ◌-◌, ◌*◌, ◌<◌, ◌≤◌, ◌^◌, ◌++◌, List, drop, length, sym, ap, ap₂, subst, ◌∙◌, arith, get_or}
 use Rattle.std.proofs.lemmas.Int.{to_z-of_z}
 use Rattle.std.proofs.lemmas.List.{length-append}
-use Rattle.tree.proofs.Words.{Entry, Item, IsCounted, items_in, items_from, entries_at, least_of}
+use Rattle.tree.proofs.Words.{Entry, Item, IsCounted, items_from, entries_at, least_of}
 use Rattle.tree.proofs.Placing.{entries_from_header}
 use Rattle.tree.proofs.StillCounted.{both_counted, fewer_counted, items_of_root, next_items, children_are, steps_down}
 use Rattle.tree.proofs.unexpired.+count_unexpired.Given.{Over}

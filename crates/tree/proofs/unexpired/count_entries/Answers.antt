@@ -1,4 +1,4 @@
-use Rattle.std.proofs.Common.{rules, w64, ◌∷◌, ◌+◌, [], length, map, drop, arith}
+use Rattle.std.proofs.Common.{rules, w64, ◌∷◌, ◌+◌, [], map, drop, arith}
 use Rattle.std.proofs.lemmas.Int.{to_z-of_z}
 use Rattle.std.proofs.lemmas.List.{drop_all, length-map, length-drop}
 use Rattle.tree.proofs.Words.{item_of}

@@ -52,12 +52,12 @@ returns-in-Ok-clause-judges c =
       };
     })
 
-pub invariant_of-self-2 : goal.invariant_of-self-2
-invariant_of-self-2 c =
+pub invariant_of-self-in-Err : goal.invariant_of-self-in-Err
+invariant_of-self-in-Err c =
     let none : c.self.inside.stop ≡ None = ap (λ (set : SetState). set.stop) c.self.view_is ∙ c.requires.goes_on in
     let ws = c.self.invariant.remembers.0 in
-    parts_behind c.args.when_full c.in-Err.stop c.self.inside.set c.resolve_when.new.self _ c.self.inside.stop c.stop_for-self.result
-    c.self.invariant none c.stop_for-self.ensures.stop (λ refuse full. c.in-Err.ensures.refused refuse (ap Err full))
+    parts_behind c.args.when_full c.in-Err.stop c.self.inside.set c.resolve_when.new.self _ c.self.inside.stop c.stop_for-self-inside.result
+    c.self.invariant none c.stop_for-self-inside.ensures.stop (λ refuse full. c.in-Err.ensures.refused refuse (ap Err full))
     (ws, c.in-Err.ensures.kept ws c.self.invariant.remembers.1)
 
 pub returns-in-Err-clause-stops : goal.returns-in-Err-clause-stops
@@ -69,11 +69,11 @@ returns-in-Err-clause-stops c =
     let told = c.in-Err.ensures in (
       stop,
       search rules,
-      subst (λ (set : SetState). StopsAt w set (record c.resolve_when.new.self { stop = c.stop_for-self.result }) c.args.batch.now stop)
+      subst (λ (set : SetState). StopsAt w set (record c.resolve_when.new.self { stop = c.stop_for-self-inside.result }) c.args.batch.now stop)
           c.self.view_is
           (record {
-            met_now = met_behind w stop c.self.inside.set c.resolve_when.new.self c.self.inside.stop c.stop_for-self.result none
-                c.stop_for-self.ensures.stop (λ refuse full. told.refused refuse (ap Err full));
+            met_now = met_behind w stop c.self.inside.set c.resolve_when.new.self c.self.inside.stop c.stop_for-self-inside.result none
+                c.stop_for-self-inside.ensures.stop (λ refuse full. told.refused refuse (ap Err full));
             window = told.window;
             limit = told.limit;
             full = λ is ws reply before judged.

@@ -30,11 +30,11 @@ returns-in-Err-clause-stops c =
     let s = c.in-Err.ensures.stops in (
       stop,
       search rules,
-      subst (λ (set : SetState). StopsAt w set (record c.reply_to.new.set { stop = c.stop_for-self.result }) c.args.batch.now stop)
+      subst (λ (set : SetState). StopsAt w set (record c.reply_to.new.set { stop = c.stop_for-self-inside.result }) c.args.batch.now stop)
           c.self.view_is
           (record {
-            met_now = met_behind w stop c.self.inside.set c.reply_to.new.set c.self.inside.stop c.stop_for-self.result none
-                c.stop_for-self.ensures.stop (λ refuse full. c.in-Err.ensures.refused refuse (ap Err full));
+            met_now = met_behind w stop c.self.inside.set c.reply_to.new.set c.self.inside.stop c.stop_for-self-inside.result none
+                c.stop_for-self-inside.ensures.stop (λ refuse full. c.in-Err.ensures.refused refuse (ap Err full));
             window = s.window;
             limit = s.limit;
             full = λ is ws reply before judged.
@@ -46,9 +46,9 @@ returns-in-Err-clause-stops c =
           }),
     )
 
-pub invariant_of-self-2 : goal.invariant_of-self-2
-invariant_of-self-2 c =
+pub invariant_of-self-in-Err : goal.invariant_of-self-in-Err
+invariant_of-self-in-Err c =
     let none : c.self.inside.stop ≡ None = ap (λ (set : SetState). set.stop) c.self.view_is ∙ c.requires.goes_on in
-    parts_behind c.args.when_full c.in-Err.stop c.self.inside.set c.reply_to.new.set _ c.self.inside.stop c.stop_for-self.result
-    c.self.invariant none c.stop_for-self.ensures.stop (λ refuse full. c.in-Err.ensures.refused refuse (ap Err full))
+    parts_behind c.args.when_full c.in-Err.stop c.self.inside.set c.reply_to.new.set _ c.self.inside.stop c.stop_for-self-inside.result
+    c.self.invariant none c.stop_for-self-inside.ensures.stop (λ refuse full. c.in-Err.ensures.refused refuse (ap Err full))
     c.in-Err.ensures.remembers

@@ -245,8 +245,8 @@ pub returns-in-Err-clause-refused : goal.returns-in-Err-clause-refused
 returns-in-Err-clause-refused c = λ refuse full.
     let is : c.in-Err.stop ≡ ArenaFull = cc full in
     let steps = c.in-Err.ensures.refused refuse full in
-    let stop : c.stop_for-self.result ≡ c.self.inside.stop =
-    c.stop_for-self.ensures.stop ∙ refused_goes_on c.args.when_full c.in-Err.stop refuse is ∙ sym c.in_default.is in
+    let stop : c.stop_for-self-inside.result ≡ c.self.inside.stop =
+    c.stop_for-self-inside.ensures.stop ∙ refused_goes_on c.args.when_full c.in-Err.stop refuse is ∙ sym c.in_default.is in
     ap₂ (λ (m : Steps) (stop : Option SetStop). record {
       window = c.self.inside.window;
       resolved = c.self.inside.resolved;
@@ -255,19 +255,19 @@ returns-in-Err-clause-refused c = λ refuse full.
     }) steps stop ∙ c.self.view_is
 
 pub returns-in-Err-clause-stops : goal.returns-in-Err-clause-stops
-returns-in-Err-clause-stops c = λ stops. c.stop_for-self.ensures.stop ∙ ap (λ w. stop_after w c.in-Err.stop) stops
+returns-in-Err-clause-stops c = λ stops. c.stop_for-self-inside.ensures.stop ∙ ap (λ w. stop_after w c.in-Err.stop) stops
 
 pub returns-in-Err-clause-memory_stops : goal.returns-in-Err-clause-memory_stops
 returns-in-Err-clause-memory_stops c = λ memory.
     let is : c.in-Err.stop ≡ Memory = cc memory in
-    c.stop_for-self.ensures.stop ∙ memory_stops c.args.when_full c.in-Err.stop is
+    c.stop_for-self-inside.ensures.stop ∙ memory_stops c.args.when_full c.in-Err.stop is
 
-pub invariant_of-self-2 : goal.invariant_of-self-2
-invariant_of-self-2 c =
+pub invariant_of-self-in-Err : goal.invariant_of-self-in-Err
+invariant_of-self-in-Err c =
     let set = c.self.invariant in
     -- a set that goes on has refused the batch
-    let same = λ (going : c.stop_for-self.result ≡ None).
-    let how = refused_if c.args.when_full c.in-Err.stop (sym c.stop_for-self.ensures.stop ∙ going) in
+    let same = λ (going : c.stop_for-self-inside.result ≡ None).
+    let how = refused_if c.args.when_full c.in-Err.stop (sym c.stop_for-self-inside.ensures.stop ∙ going) in
     c.in-Err.ensures.refused how.0 (ap Err how.1) in
     record {
       least_window = set.least_window;

@@ -1,7 +1,7 @@
 use Rattle.std.proofs.Common.{Err, w64, ◌≡◌, ◌≤◌, ◌+◌, ◌*◌, ◌⊎◌, List, [], ◌++◌, length, ap, sym, subst, ◌∙◌}
 use Rattle.std.proofs.lemmas.Int.{to_z-of_z}
 use Rattle.keyspace.specs.Judge.{judge_txns}
-use Rattle.keyspace.specs.Writes.{Write, at_version, committed, writes_of}
+use Rattle.keyspace.specs.Writes.{at_version, committed, writes_of}
 use Rattle.stepmap.specs.Covers.{MapCovers}
 use Rattle.stepmap.specs.Rooted.{Ends, Rooted}
 use Rattle.stepmap.specs.Sweeping.{rest, after_sweep}
