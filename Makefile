@@ -153,7 +153,7 @@ figures:
 figures-test:
 	.ci/figures
 
-# Behind `make test` or `make replay`, compares the manual page with what the program prints of its options and version.
+# Behind `make test`, compares the manual pages with what the programs print of their options and versions.
 manual-page:
 	.ci/manual-page
 
