@@ -1,5 +1,5 @@
 -- What a set is that doesn't resolve a batch: it has stopped, or it has refused the batch.
-use Rattle.std.proofs.Common.{◌≡◌, ◌⊎◌, inl, inr, refl, sym, ◌∙◌, ap, ap₂, subst}
+use Rattle.std.proofs.Common.{◌≡◌, ◌⊎◌, inl, inr, refl, sym, ◌∙◌, ap, ap₂}
 use Rattle.std.specs.Prelude.{ℤ, Option, Some, None, List}
 use Rattle.keyspace.specs.Writes.{Write}
 use Rattle.conflict.specs.declared.error.SetStop.{SetStop}

@@ -16,7 +16,9 @@ use std::alloc::{AllocError, Global};
 
 // A batch of this size grows no table while transactions are added.
 const SMALL_BYTES: usize = 8_192;
+
 const SMALL_RANGES: usize = 512;
+
 const SMALL_TXNS: usize = 128;
 
 /// What the transactions of a batch are kept as.

@@ -1,10 +1,9 @@
-use Rattle.std.proofs.Common.{◌≡◌, ◌<◌, ◌+◌, ◌∙◌, ◌++◌, ◌∷◌, ℕ, List, [], length, map, take, refl, sym, ap, subst, append_assoc, append-nil, length-append, rules, arith}
+use Rattle.std.proofs.Common.{◌≡◌, ◌<◌, ◌∙◌, ◌++◌, ◌∷◌, ℕ, List, [], length, map, take, refl, sym, ap, subst, append_assoc, append-nil, length-append, rules, arith}
 use Rattle.std.specs.Vec.Iter.{into_iter_items}
 use Rattle.std.proofs.lemmas.List.{take-append-drop, map_push, length-map}
 use Rattle.std.proofs.lemmas.Grind.{common_steps}
 use Rattle.keyspace.specs.declared.reply.Reply.{Reply as ReplyValue}
 use Rattle.shards.specs.declared.shard_reply.ShardReply.{ShardReply}
-use Rattle.archcaraway_c.specs.declared.refusal.Refusal.TheVariants as refused
 use Rattle.archcaraway_c.specs.ShardFrames.{AreRead}
 use Rattle.archcaraway_c.proofs.Combining.{front_refused}
 use Rattle.archcaraway_c.proofs.ReadFrames.{read_more}

@@ -1,4 +1,4 @@
-use Rattle.std.proofs.Common.{rules, ◌≡◌, Err, None, refl, ◌∙◌, ap, subst}
+use Rattle.std.proofs.Common.{rules, ◌≡◌, Err, None, ◌∙◌, ap, subst}
 use Rattle.conflict.specs.ConflictSet.{SetState}
 use Rattle.archcaraway_c.specs.SetObject.{Replies, StopsAt}
 use Rattle.archcaraway_c.proofs.WhenFull.{met_behind, parts_behind}
