@@ -13,8 +13,7 @@ use Rattle.explanations.specs.Written.{Written, all_written}
 -- that batch wrote it, or an earlier batch did, above the snapshot.
 abbrev pub explains : ℤ → ℕ → ℤ → Range → Written → Bool
 explains version j snapshot range w =
-    ranges_meet range w.range
-    && (if int_eq w.version version then nat_lt w.txn j else int_lt snapshot w.version)
+    (if int_eq w.version version then nat_lt w.txn j else int_lt snapshot w.version) && ranges_meet range w.range
 
 -- the writes that explain it, oldest first; none if there is no such range
 abbrev pub explaining_range : List Written → ℤ → ℕ → ℤ → Option Range → List Written

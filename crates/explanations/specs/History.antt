@@ -1,7 +1,6 @@
 -- What a history keeps of a chain. This project's own.
-use Rattle.std.specs.Prelude.{◌≡◌, ℕ, ℤ, ◌≤ℤ◌, List, [], ◌∷◌, ◌++◌, length, min, All}
+use Rattle.std.specs.Prelude.{◌≡◌, ℤ, pos, ◌≤ℤ◌, List, ◌++◌, All}
 use Rattle.keyspace.specs.Processed.{Processed}
-use Rattle.explanations.specs.Written.{Written}
 
 pub record HistoryState : Type 0 where
   -- how far back a transaction may read, in versions
@@ -11,14 +10,17 @@ pub record HistoryState : Type 0 where
   -- the batches that may explain a conflict, oldest first
   pub kept : List Processed
 
--- of these batches the history keeps the last ones; those that it dropped are at or below the edge
-pub record Keeps (ps : List Processed) (h : HistoryState) : Type 0 where
-  pub dropped : List Processed
-  pub all : ps ≡ dropped ++ h.kept
-  pub below : All (λ p. p.batch.version ≤ℤ h.edge) dropped
+-- what holds of each history
+pub record IsHistory (h : HistoryState) : Type 0 where
+  pub least_window : pos 1 ≤ℤ h.window
+  pub natural : pos 0 ≤ℤ h.edge
 
--- what is said of the writes that explain a read range: the newest, and how many more there are, as far as the type counts
-pub record IsExplained (ws : List Written) (most : ℕ) (newest : Written) (further : ℕ) : Type 0 where
-  pub others : List Written
-  pub last : ws ≡ others ++ newest ∷ []
-  pub count : further ≡ min (length others) most
+-- of these batches the last ones are kept; those that were dropped are at or below the edge
+pub record DropsUpTo (edge : ℤ) (ps kept : List Processed) : Type 0 where
+  pub dropped : List Processed
+  pub all : ps ≡ dropped ++ kept
+  pub below : All (λ p. p.batch.version ≤ℤ edge) dropped
+
+-- the history keeps the last of these batches
+abbrev pub Keeps : List Processed → HistoryState → Type 0
+Keeps ps h = DropsUpTo h.edge ps h.kept

@@ -1,12 +1,13 @@
 //! The batches that may still explain a conflict.
 
-ghost use Rattle.std.specs.Prelude.{◌≡◌, ◌++◌, ◌∷◌, [], List, pos, Some, OnOk, OnErr};
+ghost use Rattle.std.specs.Prelude.{◌≡◌, ◌++◌, ◌∷◌, ◌≤◌, ◌≤ℤ◌, [], List, pos, Some, OnOk, OnErr};
 ghost use Rattle.std.specs.Int.{int_max};
+ghost use Rattle.std.specs.VecDeque.{deque_capacity, deque_len};
 ghost use Rattle.keyspace.specs.Processed.{Processed};
 ghost use Rattle.keyspace.specs.Judged.{edge};
-ghost use Rattle.explanations.specs.Explains.{explaining_newest};
+ghost use Rattle.explanations.specs.Explains.{explaining_newest, newest_of};
 ghost use Rattle.explanations.specs.Found.{IsFound};
-ghost use Rattle.explanations.specs.History.{Keeps};
+ghost use Rattle.explanations.specs.History.{DropsUpTo, Keeps};
 
 use crate::explanation::Explanation;
 use crate::processed::ProcessedBatch;
@@ -28,17 +29,21 @@ pub struct History {
 }
 
 impl Model for History {
-    ghost use Rattle.explanations.specs.History.{HistoryState};
+    ghost use Rattle.explanations.specs.History.{HistoryState, IsHistory};
 
     ghost Value = { HistoryState };
 
     ghost view = { λ h. record { window = h.window; edge = h.edge; kept = h.kept.items } };
+
+    ghost invariant = { λ h. IsHistory
+        (record { window = h.window; edge = h.edge; kept = h.kept.items }) };
 }
 
 impl History {
     /// Creates a history of no batches, without taking memory. `window` is how far back a
     /// transaction may read, in versions.
     pub fn new(alloc: Global, window: i64) -> Self
+        requires least_window { pos 1 ≤ℤ window }
         ensures window { result.window ≡ window }
         ensures edge { result.edge ≡ pos 0 }
         ensures empty { result.kept ≡ [] }
@@ -51,21 +56,20 @@ impl History {
     }
 
     /// Adds the batch that was processed last, and drops those that explain nothing any more. If
-    /// memory is refused, the batch isn't added.
+    /// memory is refused, the history stays as it was.
     pub fn push(&mut self, processed: ProcessedBatch) -> Result<(), AllocError>
         ensures keeps { OnOk result ((ps : List Processed) → Keeps ps self.old
             → Keeps (ps ++ processed ∷ []) self.new) }
         ensures edge { OnOk result
             (self.new.edge ≡ int_max self.old.edge (edge self.old.window processed.batch)) }
         ensures window { self.new.window ≡ self.old.window }
-        ensures refused { OnErr result ((ps : List Processed) → Keeps ps self.old
-            → Keeps ps self.new) }
+        ensures newest { OnOk result (newest_of self.new.kept ≡ Some processed.batch) }
+        ensures unchanged { OnErr result (self.new ≡ self.old) }
     {
-        let edge = processed.batch().version.saturating_sub(self.window).max(self.edge);
         self.kept.reserve(1)?;
-        self.edge = edge;
-        self.drop_old();
-        let _ = self.kept.push_back(processed);
+        self.edge = (processed.batch().version - self.window).max(self.edge);
+        drop_old(&mut self.kept, self.edge);
+        self.kept.push_back_reserved(processed);
         Ok(())
     }
 
@@ -94,20 +98,18 @@ impl History {
         };
         search(&question, &self.kept)
     }
+}
 
-    // Drops the batches at or below the edge, up to the first that isn't.
-    fn drop_old(&mut self)
-        ensures keeps { (ps : List Processed) → Keeps ps self.old → Keeps ps self.new }
-        ensures window { self.new.window ≡ self.old.window }
-        ensures edge { self.new.edge ≡ self.old.edge }
-    {
-        for _ in 0..self.kept.len() {
-            match self.kept.front() {
-                Some(processed) if processed.batch().version <= self.edge => {
-                    self.kept.pop_front();
-                }
-                _ => return,
-            }
+// Drops the batches at or below the edge, up to the first that isn't.
+fn drop_old(kept: &mut VecDeque<ProcessedBatch>, edge: i64)
+    ensures drops { DropsUpTo edge kept.old.items kept.new.items }
+    ensures fewer { deque_len kept.new ≤ deque_len kept.old }
+    ensures capacity { deque_capacity kept.new ≡ deque_capacity kept.old }
+{
+    while let Some(processed) = kept.front() {
+        if processed.batch().version > edge {
+            break;
         }
+        kept.pop_front();
     }
 }

@@ -1,9 +1,9 @@
 //! What an explanation is asked for.
 
-ghost use Rattle.std.specs.Prelude.{◌≡◌, false, filter, []};
+ghost use Rattle.std.specs.Prelude.{◌≡◌, ◌||◌, int_lt};
+ghost use Rattle.std.specs.Ordering.{int_eq};
+ghost use Rattle.keys.specs.Key.{is_before};
 ghost use Rattle.keys.specs.Range.{ranges_meet};
-ghost use Rattle.keyspace.specs.Processed.{Processed};
-ghost use Rattle.explanations.specs.Written.{written_in};
 ghost use Rattle.explanations.specs.Explains.{explains};
 
 use crate::explanation::WrittenRef;
@@ -36,9 +36,8 @@ impl Question<'_> {
 
     // Returns whether a write of the batch of this version can explain it at all.
     pub fn reaches(&self, version: i64) -> bool
-        ensures beyond { (p : Processed) → p.batch.version ≡ version → result ≡ false
-            → filter (explains self.now.version self.now.txn self.now.snapshot self.now.range)
-            (written_in p) ≡ [] }
+        ensures reaches { result
+            ≡ (int_eq version self.now.version || int_lt self.now.snapshot version) }
     {
         version == self.version || self.snapshot < version
     }
@@ -48,5 +47,15 @@ impl Question<'_> {
 fn overlap(a: &RangeRef, b: &RangeRef) -> bool
     ensures overlap { result ≡ ranges_meet a.now b.now }
 {
-    a.begin() < a.end() && b.begin() < b.end() && a.begin() < b.end() && b.begin() < a.end()
+    comes_before(a.begin(), a.end())
+        && comes_before(b.begin(), b.end())
+        && comes_before(a.begin(), b.end())
+        && comes_before(b.begin(), a.end())
+}
+
+// Returns whether the key comes before the other.
+fn comes_before(key: &[u8], other: &[u8]) -> bool
+    ensures before { result ≡ is_before key.now other.now }
+{
+    key.cmp(other).is_lt()
 }

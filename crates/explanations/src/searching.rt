@@ -1,6 +1,6 @@
 //! The search for the writes that explain a conflict, from the oldest batch to the newest.
 
-ghost use Rattle.std.specs.Prelude.{◌≡◌, ◌++◌, List, [], filter};
+ghost use Rattle.std.specs.Prelude.{◌≡◌, ◌++◌, ◌∷◌, [], List, Some, filter};
 ghost use Rattle.keyspace.specs.Processed.{Processed};
 ghost use Rattle.explanations.specs.Written.{Written, written_by, written_in, all_written};
 ghost use Rattle.explanations.specs.Explains.{explains};
@@ -35,7 +35,7 @@ fn search_batch<'a>(
     processed: &'a ProcessedBatch,
     found: Option<Explanation<'a>>,
 ) -> Option<Explanation<'a>>
-    ensures found { (ws : List Written) → IsFound ws found → IsFound (ws ++ filter
+    ensures found { (ws : List Written) → IsFound ws found.entry → IsFound (ws ++ filter
         (explains question.now.version question.now.txn question.now.snapshot question.now.range)
         (written_in processed.now)) result }
 {
@@ -68,7 +68,7 @@ fn search_ranges<'a>(
     ranges: &RangesRef<'a>,
     found: Option<Explanation<'a>>,
 ) -> Option<Explanation<'a>>
-    ensures found { (ws : List Written) → IsFound ws found → IsFound (ws ++ filter
+    ensures found { (ws : List Written) → IsFound ws found.entry → IsFound (ws ++ filter
         (explains question.now.version question.now.txn question.now.snapshot question.now.range)
         (written_by origin.proxy origin.version origin.txn ranges.now)) result }
 {
@@ -89,7 +89,7 @@ fn search_ranges<'a>(
 
 // Adds a write that is newer than the others.
 fn found_also<'a>(found: Option<Explanation<'a>>, write: WrittenRef<'a>) -> Explanation<'a>
-    ensures found { (ws : List Written) → IsFound ws found
+    ensures found { (ws : List Written) → IsFound ws found.entry
         → IsFound (ws ++ write ∷ []) (Some result) }
 {
     Explanation {
