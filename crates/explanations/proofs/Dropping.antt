@@ -1,6 +1,7 @@
 -- The last batches of a list, and those that were dropped before them.
-use Rattle.std.proofs.Common.{◌≡◌, List, [], ◌∷◌, ◌++◌, refl, sym, ap, ◌∙◌, arith, append_assoc}
-use Rattle.std.specs.Prelude.{ℤ, ◌≤ℤ◌, All}
+use Rattle.std.proofs.Common.{◌≡◌, ◌<◌, true, false, cond, List, [], ◌∷◌, ◌++◌, length, get_or, drop, refl, sym, ap, subst, ◌∙◌, arith, append_assoc}
+use Rattle.std.specs.Prelude.{ℤ, pos, ◌≤ℤ◌, int_lt, All}
+use Rattle.std.specs.Int.{int_max}
 use Rattle.std.proofs.lemmas.Int.{ints}
 use Rattle.std.proofs.lemmas.List.Elements.{All-nil, All-append, All-push, All-weaker}
 use Rattle.keyspace.specs.Processed.{Processed}
@@ -46,3 +47,40 @@ drops_push edge ps kept p drops = record {
       ∙ append_assoc drops.dropped kept (p ∷ []);
   below = drops.below;
 }
+
+pub front_is : (ps : List Processed) (p : Processed) (rest : List Processed) → 0 < length ps → p ≡ get_or ps 0 p → rest ≡ drop 1 ps
+    → ps ≡ p ∷ rest
+front_is [] p rest some at is = absurd (omega (arith, some))
+front_is (q ∷ ps) p rest some at is =
+    ap (λ (r : Processed). r ∷ ps) (sym at) ∙ ap (λ (rs : List Processed). p ∷ rs) (sym is)
+
+-- the greater of three, in another order
+pub max_same : (d e : ℤ) → pos 0 ≤ℤ e → int_max d e ≡ int_max e (int_max d (pos 0))
+max_same d e natural =
+    elim (int_lt e d) as (λ b. int_lt e d ≡ b → cond b d e ≡ int_max e (int_max d (pos 0))) [
+      | true ↦ λ above. elim (int_lt (pos 0) d) as (λ b. int_lt (pos 0) d ≡ b
+          → d ≡ cond (int_lt (cond b d (pos 0)) e) e (cond b d (pos 0))) [
+            | true ↦ λ some. elim (int_lt d e) as (λ b. int_lt d e ≡ b → d ≡ cond b e d) [
+              | true ↦ λ below. grind (arith, ints)
+              | false ↦ λ below. refl
+            ] refl
+            | false ↦ λ some. absurd (not_both e d natural above some)
+          ] refl
+      | false ↦ λ above. elim (int_lt (pos 0) d) as (λ b. int_lt (pos 0) d ≡ b
+          → e ≡ cond (int_lt (cond b d (pos 0)) e) e (cond b d (pos 0))) [
+            | true ↦ λ some. elim (int_lt d e) as (λ b. int_lt d e ≡ b → e ≡ cond b e d) [
+              | true ↦ λ below. refl
+              | false ↦ λ below. grind (arith, ints)
+            ] refl
+            | false ↦ λ some. elim (int_lt (pos 0) e) as (λ b. int_lt (pos 0) e ≡ b → e ≡ cond b e (pos 0)) [
+              | true ↦ λ below. refl
+              | false ↦ λ below. grind (arith, ints)
+            ] refl
+          ] refl
+    ] refl
+  where
+    not_both : (e d : ℤ) → pos 0 ≤ℤ e → int_lt e d ≡ true → int_lt (pos 0) d ≡ false → ⊥
+    not_both e d natural above none = grind (arith, ints)
+
+pub bound_of : (low other high : ℤ) → low ≤ℤ high → low ≡ other → other ≤ℤ high
+bound_of low other high h same = subst (λ (z : ℤ). z ≤ℤ high) same h

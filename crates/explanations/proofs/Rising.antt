@@ -1,5 +1,5 @@
 -- In a chain, each batch has a higher version than those before it. What the newest batch is.
-use Rattle.std.proofs.Common.{◌≡◌, ℕ, zero, suc, List, [], ◌∷◌, ◌++◌, length, get_or, refl, sym, ap, subst, arith, append_assoc}
+use Rattle.std.proofs.Common.{◌≡◌, ℕ, zero, suc, ◌-◌, ◌<◌, List, [], ◌∷◌, ◌++◌, length, get_or, refl, sym, ap, subst, arith, append_assoc}
 use Rattle.std.specs.Prelude.{ℤ, ◌<ℤ◌, All, Some}
 use Rattle.std.proofs.lemmas.Int.{ints}
 use Rattle.std.proofs.lemmas.List.Elements.{All-nil, All-cons}
@@ -54,3 +54,10 @@ newest_last [] b e = absurd cc
 newest_last (p ∷ []) b e = ([], p, refl, cc)
 newest_last (p ∷ q ∷ ps) b e = let last = newest_last (q ∷ ps) b e in
     (p ∷ last.0, last.1, ap (λ (rs : List Processed). p ∷ rs) last.2, last.3)
+
+-- the one that is lent from the back
+pub newest_back : (items kept : List Processed) (n : ℕ) (p : Processed) → n ≡ length items → 0 < length items
+    → p ≡ get_or items (n - 1) p → items ≡ kept → newest_of kept ≡ Some p.batch
+newest_back items kept n p size some at same =
+    subst (λ (ps : List Processed). newest_of ps ≡ Some p.batch) same
+    (newest_at items (n - 1) p (omega (arith, size, some)) at)

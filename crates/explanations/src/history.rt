@@ -93,7 +93,7 @@ impl History {
         let question = Question {
             version: batch.version,
             txn,
-            snapshot: transaction.snapshot,
+            snapshot: batch.txns.snapshot(txn),
             range: transaction.reads.get(read),
         };
         search(&question, &self.kept)

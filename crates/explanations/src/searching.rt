@@ -43,12 +43,13 @@ fn search_batch<'a>(
     let mut found = found;
     for txn in 0..batch.txns.len() {
         if entries[txn].verdict == Verdict::Committed {
+            let transaction = batch.txns.txn(txn);
             let origin = Origin {
                 proxy: processed.proxy(),
                 version: batch.version,
                 txn,
             };
-            found = search_ranges(question, origin, &batch.txns.txn(txn).writes, found);
+            found = search_ranges(question, origin, &transaction.writes, found);
         }
     }
     found
@@ -90,13 +91,14 @@ fn search_ranges<'a>(
 // Adds a write that is newer than the others.
 fn found_also<'a>(found: Option<Explanation<'a>>, write: WrittenRef<'a>) -> Explanation<'a>
     ensures found { (ws : List Written) → IsFound ws found.entry
-        → IsFound (ws ++ write ∷ []) (Some result) }
+        → IsFound (ws ++ write.entry ∷ []) (Some result) }
 {
+    let further = match found {
+        Some(explanation) => explanation.further.saturating_add(1),
+        None => 0,
+    };
     Explanation {
         newest: write,
-        further: match found {
-            Some(explanation) => explanation.further.saturating_add(1),
-            None => 0,
-        },
+        further,
     }
 }
