@@ -5,7 +5,7 @@ use archcaraway::{
     Reply, Txn, WINDOW,
 };
 
-fn batch(previous: i64, version: i64, txns: impl IntoIterator<Item = Txn>) -> Batch {
+fn batch(previous: i64, version: i64, txns: impl IntoIterator<Item = Txn<'static>>) -> Batch {
     let add = |builder: BatchBuilder, txn| builder.txn(txn);
     let builder = txns
         .into_iter()
