@@ -1,6 +1,6 @@
 -- A read range of the newest batch has an explanation exactly if the reference resolver finds it in conflict.
-use Rattle.std.proofs.Common.{◌≡◌, ◌≢◌, ℕ, Bool, true, false, ◌&&◌, ◌||◌, List, [], ◌∷◌, ◌++◌, refl, sym, ap, subst, ◌∙◌, inl, inr, ◌⊎◌, ◌↔◌, arith, append-nil, append_assoc}
-use Rattle.std.specs.Prelude.{ℤ, ◌<ℤ◌, ◌≤ℤ◌, int_lt, Option, Some, None, slice_get, Any, All, IsSomeAnd, flat_map}
+use Rattle.std.proofs.Common.{◌≡◌, ◌≢◌, ℕ, false, ◌&&◌, ◌||◌, List, [], ◌∷◌, ◌++◌, refl, sym, ap, subst, ◌∙◌, inl, inr, ◌⊎◌, ◌↔◌, arith, append-nil, append_assoc}
+use Rattle.std.specs.Prelude.{ℤ, ◌<ℤ◌, ◌≤ℤ◌, int_lt, Option, Some, None, slice_get, Any, All, IsSomeAnd}
 use Rattle.std.specs.List.{filter, list_any}
 use Rattle.std.proofs.lemmas.Int.{ints}
 use Rattle.std.proofs.lemmas.Grind.{flat_map-append}
@@ -27,7 +27,7 @@ use Rattle.explanations.specs.Written.{Written, written_in, all_written}
 use Rattle.explanations.specs.Explains.{explains, explaining, explaining_range, explaining_txn, newest_of}
 use Rattle.explanations.specs.History.{HistoryState, Keeps}
 use Rattle.explanations.proofs.Passing.{filter_none, some_left, any_if_left, any_same, All-left, All-both}
-use Rattle.explanations.proofs.Origins.{IsWrittenAt, IsProcessedAt, without_origin, same_writes, all_at}
+use Rattle.explanations.proofs.Origins.{IsWrittenAt, without_origin, same_writes, all_at}
 use Rattle.explanations.proofs.Rising.{Precedes, versions_below, newest_last}
 use Rattle.explanations.proofs.Earlier.{not_equal_below, not_below_at_most, explains_older, explains_none, any_earlier}
 

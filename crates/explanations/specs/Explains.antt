@@ -1,6 +1,6 @@
 -- Which writes explain that a read range is in conflict. Source: `IsHit` and `MeetsEarlier` of `keyspace`, which say the same without an
 -- origin.
-use Rattle.std.specs.Prelude.{◌≡◌, ℕ, ℤ, Bool, ◌&&◌, if◌then◌else◌, nat_lt, int_lt, List, [], ◌∷◌, ◌++◌, length, filter, Option, Some, None, slice_get}
+use Rattle.std.specs.Prelude.{ℕ, ℤ, Bool, ◌&&◌, if◌then◌else◌, nat_lt, int_lt, List, [], ◌∷◌, filter, Option, Some, None, slice_get}
 use Rattle.std.specs.Ordering.{int_eq}
 use Rattle.keys.specs.declared.range.Range.{Range}
 use Rattle.keys.specs.Range.{ranges_meet}

@@ -5,7 +5,7 @@ use Rattle.keyspace.specs.declared.batch.Batch.{Batch}
 use Rattle.keyspace.specs.declared.reply.Verdict.TheVariants.{Conflict}
 use Rattle.keyspace.specs.declared.reply.Entry.{Entry}
 use Rattle.keyspace.specs.Processed.{Processed}
-use Rattle.keyspace.specs.Writes.{Write, writes, earlier}
+use Rattle.keyspace.specs.Writes.{writes, earlier}
 use Rattle.keyspace.specs.Judged.{IsHit, MeetsEarlier}
 use Rattle.keyspace.specs.Chain.{IsChain}
 use Rattle.explanations.specs.Written.{Written, all_written}

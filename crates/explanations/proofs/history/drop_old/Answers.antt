@@ -1,4 +1,4 @@
-use Rattle.std.proofs.Common.{◌≡◌, ◌<◌, ◌≤ℤ◌, length, Some, w64, to_z, of_z, arith, rules, sym, subst, ◌∙◌}
+use Rattle.std.proofs.Common.{◌≤ℤ◌, w64, to_z, of_z, arith, sym, subst, ◌∙◌}
 use Rattle.std.proofs.lemmas.Int.{ints, to_z-of_z}
 use Rattle.keyspace.specs.declared.batch.Batch.{Batch}
 use Rattle.explanations.specs.History.{DropsUpTo}

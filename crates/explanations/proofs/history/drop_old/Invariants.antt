@@ -1,4 +1,4 @@
-use Rattle.std.proofs.Common.{◌≡◌, ◌≤◌, ℕ}
+use Rattle.std.proofs.Common.{◌≡◌, ◌≤◌}
 use Rattle.std.specs.VecDeque.{deque_capacity, deque_len}
 use Rattle.explanations.specs.History.{DropsUpTo}
 use Rattle.explanations.proofs.history.drop_old.Given as goal

@@ -1,4 +1,4 @@
-use Rattle.std.proofs.Common.{◌≡◌, ◌+◌, ◌<◌, ◌≤◌, ◌++◌, List, [], Some, length, take, true, false, slice_get, filter, get_or, w64, SFits, rules, arith, refl, sym, ap, subst, ◌∙◌, take_all}
+use Rattle.std.proofs.Common.{◌≡◌, ◌<◌, ◌≤◌, ◌++◌, List, [], Some, length, take, true, false, slice_get, filter, get_or, w64, SFits, rules, arith, refl, sym, ap, subst, ◌∙◌, take_all}
 use Rattle.std.proofs.lemmas.Int.{to_z-of_z}
 use Rattle.std.proofs.lemmas.Option.{slice_get_read}
 use Rattle.keyspace.specs.contracts.reply.Verdict.{the_type}
@@ -10,7 +10,7 @@ use Rattle.keyspace.specs.declared.reply.Verdict.TheVariants.{Conflict, TooOld, 
 use Rattle.keyspace.specs.declared.txn.Txn.{Txn}
 use Rattle.keyspace.specs.Writes.{counted}
 use Rattle.keys.proofs.callers.Lists.{some_at}
-use Rattle.explanations.specs.Written.{Written, written_from}
+use Rattle.explanations.specs.Written.{written_from}
 use Rattle.explanations.specs.Explains.{explains}
 use Rattle.explanations.specs.Found.{IsFound}
 use Rattle.explanations.proofs.Finding.{found_of, found_txn, found_same}

@@ -1,6 +1,6 @@
-use Rattle.std.proofs.Common.{◌≡◌, ◌≤ℤ◌, ◌-ℤ◌, ◌++◌, ◌∷◌, [], pos, w64, to_z, of_z, SFits, arith, rules, sym, ap, subst, ◌∙◌}
+use Rattle.std.proofs.Common.{◌≡◌, ◌≤ℤ◌, ◌-ℤ◌, ◌++◌, ◌∷◌, [], pos, w64, to_z, of_z, SFits, rules, sym, ap, subst, ◌∙◌}
 use Rattle.std.specs.Int.{int_max}
-use Rattle.std.proofs.lemmas.Int.{ints, to_z-of_z}
+use Rattle.std.proofs.lemmas.Int.{to_z-of_z}
 use Rattle.keyspace.specs.declared.batch.Batch.{Batch}
 use Rattle.explanations.specs.Explains.{newest_of}
 use Rattle.explanations.specs.History.{HistoryState, DropsUpTo}
