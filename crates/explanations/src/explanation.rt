@@ -34,8 +34,8 @@ impl<'a> Model for WrittenRef<'a> {
 /// Why a read range is in conflict.
 #[derive(Debug, Drop)]
 pub struct Explanation<'a> {
-    /// The newest write that it conflicts with: that of the highest version, and in one batch that of
-    /// the last transaction. If a transaction has several such write ranges, the last of them.
+    /// The newest write that it conflicts with: that of the highest version, and in one batch that
+    /// of the last transaction. If a transaction has several such write ranges, the last of them.
     pub newest: WrittenRef<'a>,
     /// The number of further writes that it conflicts with, or `usize::MAX` if there are more.
     pub further: usize,
