@@ -1,7 +1,7 @@
 .PHONY: quick demo rust rust-packages rust-crate-test rust-doc rust-package library-unproved quick-test rust-test \
 	rust-test-long replay batches check test more-edits \
 	refused-memory json-examples stalled-pipes readme-runs manual-page program-runs library install uninstall library-test \
-	languages-test store-test cluster-test fuzz rust-plant plant bench profile
+	languages-test store-test cluster-test fuzz rust-plant plant bench profile profile-explain
 
 # The Cargo edition: the same sources, clauses erased, built by rustc. It needs Rust 1.85, cc, make and python3, and no network.
 
@@ -186,3 +186,9 @@ profile:
 	cargo/erase.py out/profile --add profile/detect
 	RUSTFLAGS="-Ctarget-cpu=x86-64-v2 -g" cargo build --manifest-path out/profile/Cargo.toml --quiet --release --offline --bin archcaraway-detect
 	out/profile/target/release/archcaraway-detect '$(FILE)'
+
+# The same for explaining each conflict of the file.
+profile-explain:
+	cargo/erase.py out/profile --add profile/explain
+	RUSTFLAGS="-Ctarget-cpu=x86-64-v2 -g" cargo build --manifest-path out/profile/Cargo.toml --quiet --release --offline --bin archcaraway-explain
+	out/profile/target/release/archcaraway-explain '$(FILE)'

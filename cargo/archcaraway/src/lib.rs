@@ -13,6 +13,7 @@
 //! | [`Core`] | you have many proxies in one thread, whose batches come early, late or twice |
 //! | [`open`], [`Resolver`], [`Client`] | you have many proxies, each in a thread |
 //! | [`SplitPoints`], [`combine`] | you have several resolvers, each for a range of keys |
+//! | [`History`] | you want to know which write a transaction conflicts with |
 //!
 //! A [`BatchBuilder`] makes a [`Batch`] of [`Txn`]s with [`Range`]s. A [`Reply`] has a [`Verdict`]
 //! for each transaction. The proxies of a core or a resolver receive it in an [`Answer`].
@@ -112,6 +113,7 @@ mod builder;
 mod client;
 mod combining;
 mod conflict_set;
+mod history;
 mod range;
 mod reply;
 mod resolver_core;
@@ -129,6 +131,7 @@ pub use builder::BatchBuilder;
 pub use client::{Client, TryReceiveError, TrySendError};
 pub use combining::{CombineError, ShardReply, combine};
 pub use conflict_set::{ConflictSet, ResolveError};
+pub use history::{Explanation, History, PushError, Write};
 pub use range::{Range, RangeError};
 pub use reply::{Answer, Reply, Verdict};
 pub use resolver_core::{Core, CoreError};

@@ -100,8 +100,12 @@ pub(crate) fn check_capacity(capacity: usize) -> Result<(), NewError> {
 
 /// Checks the window, and then the limit.
 pub(crate) fn check_set(window: i64, limit: usize) -> Result<(), NewError> {
-    check((1..=MAX_WINDOW).contains(&window), NewError::Window(window))?;
+    check_window(window)?;
     check((1..=MAX_LIMIT).contains(&limit), NewError::Limit(limit))
+}
+
+pub(crate) fn check_window(window: i64) -> Result<(), NewError> {
+    check((1..=MAX_WINDOW).contains(&window), NewError::Window(window))
 }
 
 pub(crate) fn check_version(version: i64) -> Result<(), NewError> {

@@ -3,6 +3,7 @@
 
 mod arena;
 mod conflict_set;
+mod explanations;
 mod frames;
 mod keys;
 mod lane;

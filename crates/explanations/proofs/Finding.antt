@@ -1,0 +1,179 @@
+-- What a search has found, with one write more, with one batch more, and when it is at the end.
+use Rattle.std.proofs.Common.{◌≡◌, ℕ, ◌+◌, Bool, true, false, take, ◌||◌, List, [], ◌∷◌, ◌++◌, length, min, refl, sym, ap, subst, ◌∙◌, arith, append-nil, append_assoc, length-append}
+use Rattle.std.specs.Prelude.{ℤ, int_lt, Option, Some, slice_get}
+use Rattle.std.specs.Ordering.{int_eq}
+use Rattle.std.specs.List.{filter}
+use Rattle.std.proofs.lemmas.Grind.{flat_map-append}
+use Rattle.std.proofs.lemmas.List.{map-append}
+use Rattle.std.proofs.lemmas.List.Elements.{All-weaker, filter-append}
+use Rattle.keys.specs.declared.range.Range.{Range}
+use Rattle.keys.proofs.callers.Booleans.{or_left, or_right, false_unless, not_both_ways}
+use Rattle.keys.proofs.callers.Lists.{part_more}
+use Rattle.keyspace.specs.declared.txn.Txn.{Txn}
+use Rattle.keyspace.specs.declared.batch.Batch.{Batch}
+use Rattle.keyspace.specs.declared.reply.Entry.{Entry}
+use Rattle.keyspace.specs.Processed.{Processed}
+use Rattle.keyspace.specs.Writes.{counted}
+use Rattle.explanations.specs.declared.explanation.Explanation.{Explanation}
+use Rattle.explanations.specs.Written.{Written, written_by, written_from, written_in, all_written}
+use Rattle.explanations.specs.Explains.{explains, explaining_range, explaining_txn, explaining_of, explaining_newest, newest_of}
+use Rattle.explanations.specs.Found.{IsExplained, IsFound}
+use Rattle.explanations.proofs.Passing.{filter_none, filter_more_true, filter_more_false}
+use Rattle.explanations.proofs.Origins.{IsWrittenAt, in_at, written_at, written_more}
+use Rattle.explanations.proofs.Earlier.{explains_none}
+
+pub found_first : (ws : List Written) (most : ℕ) (w : Written) (further : ℕ) → ws ≡ [] → further ≡ 0
+    → IsExplained (ws ++ w ∷ []) most w further
+found_first ws most w further none zero = record {
+  others = ws;
+  last = refl;
+  count = let few : length ws ≡ 0 = ap (λ (xs : List Written). length xs) none in omega arith;
+}
+
+pub found_more : (ws : List Written) (most : ℕ) (newest : Written) (before : ℕ) (w : Written) (further : ℕ)
+    → IsExplained ws most newest before → further ≡ min (before + 1) most → IsExplained (ws ++ w ∷ []) most w further
+found_more ws most newest before w further found one_more = record {
+  others = ws;
+  last = refl;
+  count =
+      let whole : length ws ≡ length (found.others ++ newest ∷ []) = ap (λ (xs : List Written). length xs) found.last in
+      let parts : length (found.others ++ newest ∷ []) ≡ length found.others + 1 = length-append found.others (newest ∷ []) in
+      let counted = found.count in
+      omega arith;
+}
+
+-- the same writes
+pub found_of : (ws vs : List Written) (o : Option Explanation) → ws ≡ vs → IsFound ws o → IsFound vs o
+found_of ws vs o e h = subst (λ (xs : List Written). IsFound xs o) e h
+
+-- the batch that the test passes over has none of the writes
+pub none_in : (version : ℤ) (j : ℕ) (snapshot : ℤ) (range : Range) (p : Processed)
+    → (int_eq p.batch.version version || int_lt snapshot p.batch.version) ≡ false
+    → filter (explains version j snapshot range) (written_in p) ≡ []
+none_in version j snapshot range p h =
+    let other : int_eq p.batch.version version ≡ false =
+    false_unless (int_eq p.batch.version version)
+    (λ e. not_both_ways _ (or_left (int_eq p.batch.version version) (int_lt snapshot p.batch.version) e) h) in
+    let old : int_lt snapshot p.batch.version ≡ false =
+    false_unless (int_lt snapshot p.batch.version)
+    (λ e. not_both_ways _ (or_right (int_eq p.batch.version version) (int_lt snapshot p.batch.version) e) h) in
+    filter_none (explains version j snapshot range) (written_in p)
+    (All-weaker (IsWrittenAt (λ v. (int_eq v version ≡ false) × (int_lt snapshot v ≡ false)))
+    (λ (w : Written). explains version j snapshot range w ≡ false)
+    (λ w is. explains_none version j snapshot range w is.0 is.1) (written_in p)
+    (in_at (λ v. (int_eq v version ≡ false) × (int_lt snapshot v ≡ false)) p (other, old)))
+
+-- the writes of a batch more
+pub all_more : (version : ℤ) (j : ℕ) (snapshot : ℤ) (range : Range) (ps : List Processed) (p : Processed)
+    → filter (explains version j snapshot range) (all_written (ps ++ p ∷ []))
+    ≡ filter (explains version j snapshot range) (all_written ps) ++ filter (explains version j snapshot range) (written_in p)
+all_more version j snapshot range ps p =
+    ap (filter (explains version j snapshot range))
+    (flat_map-append written_in ps (p ∷ []) ∙ ap (λ (ws : List Written). all_written ps ++ ws) (append-nil (written_in p)))
+    ∙ filter-append (explains version j snapshot range) (all_written ps) (written_in p)
+
+pub none_more : (version : ℤ) (j : ℕ) (snapshot : ℤ) (range : Range) (ps : List Processed) (p : Processed)
+    → (int_eq p.batch.version version || int_lt snapshot p.batch.version) ≡ false
+    → filter (explains version j snapshot range) (all_written (ps ++ p ∷ []))
+    ≡ filter (explains version j snapshot range) (all_written ps)
+none_more version j snapshot range ps p h =
+    all_more version j snapshot range ps p
+    ∙ ap (λ (ws : List Written). filter (explains version j snapshot range) (all_written ps) ++ ws) (none_in version j snapshot range p h)
+    ∙ append-nil (filter (explains version j snapshot range) (all_written ps))
+
+-- what `explaining_newest` is
+pub newest_none : (ps : List Processed) (j i : ℕ) → length ps ≡ 0 → explaining_newest ps j i ≡ []
+newest_none [] j i e = refl
+newest_none (p ∷ ps) j i e = absurd (omega (arith, e))
+
+pub newest_txn : (ps : List Processed) (b : Batch) (j i : ℕ) (o : Option Txn) → newest_of ps ≡ Some b → slice_get b.txns j ≡ o
+    → explaining_newest ps j i ≡ explaining_txn (all_written ps) b.version j o i
+newest_txn ps b j i o is at =
+    ap (λ (newest : Option Batch). explaining_of ps newest j i) is
+    ∙ ap (λ (t : Option Txn). explaining_txn (all_written ps) b.version j t i) at
+
+pub newest_range : (ps : List Processed) (b : Batch) (j i : ℕ) (t : Txn) (o : Option Range) → newest_of ps ≡ Some b
+    → slice_get b.txns j ≡ Some t → slice_get t.reads i ≡ o
+    → explaining_newest ps j i ≡ explaining_range (all_written ps) b.version j t.snapshot o
+newest_range ps b j i t o is at read =
+    newest_txn ps b j i (Some t) is at
+    ∙ ap (explaining_range (all_written ps) b.version j t.snapshot) read
+
+-- the search has found what `explaining_newest` is
+pub found_asked : (items kept : List Processed) (b : Batch) (j i : ℕ) (t : Txn) (range : Range) (version snapshot : ℤ)
+    (o : Option Explanation) → IsFound (filter (explains version j snapshot range) (all_written items)) o
+    → version ≡ b.version → snapshot ≡ t.snapshot → items ≡ kept → newest_of kept ≡ Some b → slice_get b.txns j ≡ Some t
+    → slice_get t.reads i ≡ Some range → IsFound (explaining_newest kept j i) o
+found_asked items kept b j i t range version snapshot o found version_is snapshot_is same is at read =
+    found_of _ _ o
+    (ap (λ v. filter (explains v j snapshot range) (all_written items)) version_is
+    ∙ ap (λ s. filter (explains b.version j s range) (all_written items)) snapshot_is
+    ∙ ap (λ (ps : List Processed). filter (explains b.version j t.snapshot range) (all_written ps)) same
+    ∙ sym (newest_range kept b j i t (Some range) is at read)) found
+
+-- the writes of a transaction more
+pub found_txn : (test : Written → Bool) (proxy : ℕ) (version : ℤ) (ts : List Txn) (es : List Entry) (n : ℕ) (t : Txn) (e : Entry)
+    (ws : List Written) (o : Option Explanation) (own_proxy : ℕ) (own_version : ℤ) (ranges : List Range)
+    → IsFound ((ws ++ filter test (written_from proxy version 0 (take n ts) (take n es)))
+    ++ filter test (written_by own_proxy own_version n ranges)) o
+    → own_proxy ≡ proxy → own_version ≡ version → ranges ≡ counted e.verdict t.writes
+    → slice_get ts n ≡ Some t → slice_get es n ≡ Some e
+    → IsFound (ws ++ filter test (written_from proxy version 0 (take (n + 1) ts) (take (n + 1) es))) o
+found_txn test proxy version ts es n t e ws o own_proxy own_version ranges found proxy_is version_is ranges_are at_t at_e =
+    let before = written_from proxy version 0 (take n ts) (take n es) in
+    let own = written_by proxy version n (counted e.verdict t.writes) in
+    found_of _ _ o
+    (ap (λ k. (ws ++ filter test before) ++ filter test (written_by k own_version n ranges)) proxy_is
+    ∙ ap (λ v. (ws ++ filter test before) ++ filter test (written_by proxy v n ranges)) version_is
+    ∙ ap (λ (rs : List Range). (ws ++ filter test before) ++ filter test (written_by proxy version n rs)) ranges_are
+    ∙ append_assoc ws (filter test before) (filter test own)
+    ∙ ap (λ (vs : List Written). ws ++ vs)
+    (sym (filter-append test before own) ∙ ap (filter test) (sym (written_more proxy version ts es n t e at_t at_e)))) found
+
+-- a transaction that counts for nothing
+pub found_same : (test : Written → Bool) (proxy : ℕ) (version : ℤ) (ts : List Txn) (es : List Entry) (n : ℕ) (t : Txn) (e : Entry)
+    (ws : List Written) (o : Option Explanation)
+    → IsFound (ws ++ filter test (written_from proxy version 0 (take n ts) (take n es))) o
+    → [] ≡ counted e.verdict t.writes → slice_get ts n ≡ Some t → slice_get es n ≡ Some e
+    → IsFound (ws ++ filter test (written_from proxy version 0 (take (n + 1) ts) (take (n + 1) es))) o
+found_same test proxy version ts es n t e ws o found none at_t at_e =
+    found_txn test proxy version ts es n t e ws o proxy version []
+    (found_of _ _ o (sym (append-nil (ws ++ filter test (written_from proxy version 0 (take n ts) (take n es))))) found)
+    refl refl none at_t at_e
+
+-- one range more, which passes the test or doesn't
+by_more : (proxy : ℕ) (version : ℤ) (txn : ℕ) (ranges : List Range) (index : ℕ) (range : Range) → slice_get ranges index ≡ Some range
+    → written_by proxy version txn (take (index + 1) ranges)
+    ≡ written_by proxy version txn (take index ranges) ++ written_at proxy version txn range ∷ []
+by_more proxy version txn ranges index range at =
+    let next : 0 + index ≡ index = omega arith in
+    ap (λ (rs : List Range). written_by proxy version txn rs) (part_more ranges 0 index range (ap (slice_get ranges) next ∙ at))
+    ∙ map-append (written_at proxy version txn) (take index ranges) (range ∷ [])
+
+pub found_range : (test : Written → Bool) (proxy : ℕ) (version : ℤ) (txn : ℕ) (ranges : List Range) (index : ℕ) (range : Range)
+    (ws : List Written) (o : Option Explanation) (w : Written)
+    → IsFound ((ws ++ filter test (written_by proxy version txn (take index ranges))) ++ w ∷ []) o
+    → w ≡ written_at proxy version txn range → slice_get ranges index ≡ Some range
+    → test w ≡ true → IsFound (ws ++ filter test (written_by proxy version txn (take (index + 1) ranges))) o
+found_range test proxy version txn ranges index range ws o w found is at passes =
+    let before = written_by proxy version txn (take index ranges) in
+    let own = written_at proxy version txn range in
+    found_of _ _ o
+    (ap (λ (v : Written). (ws ++ filter test before) ++ v ∷ []) is
+    ∙ append_assoc ws (filter test before) (own ∷ [])
+    ∙ ap (λ (vs : List Written). ws ++ vs)
+    (sym (filter_more_true test before own (subst (λ (v : Written). test v ≡ true) is passes))
+    ∙ ap (filter test) (sym (by_more proxy version txn ranges index range at)))) found
+
+pub missed_range : (test : Written → Bool) (proxy : ℕ) (version : ℤ) (txn : ℕ) (ranges : List Range) (index : ℕ) (range : Range)
+    (ws : List Written) (o : Option Explanation) (w : Written)
+    → IsFound (ws ++ filter test (written_by proxy version txn (take index ranges))) o
+    → w ≡ written_at proxy version txn range → slice_get ranges index ≡ Some range
+    → test w ≡ false → IsFound (ws ++ filter test (written_by proxy version txn (take (index + 1) ranges))) o
+missed_range test proxy version txn ranges index range ws o w found is at fails =
+    let before = written_by proxy version txn (take index ranges) in
+    let own = written_at proxy version txn range in
+    found_of _ _ o
+    (ap (λ (vs : List Written). ws ++ vs)
+    (sym (filter_more_false test before own (subst (λ (v : Written). test v ≡ false) is fails))
+    ∙ ap (filter test) (sym (by_more proxy version txn ranges index range at)))) found

@@ -1,0 +1,26 @@
+-- What a history keeps of a chain. This project's own.
+use Rattle.std.specs.Prelude.{◌≡◌, ℤ, pos, ◌≤ℤ◌, List, ◌++◌, All}
+use Rattle.keyspace.specs.Processed.{Processed}
+
+pub record HistoryState : Type 0 where
+  -- how far back a transaction may read, in versions
+  pub window : ℤ
+  -- a transaction with a lower snapshot is too old in every batch to come
+  pub edge : ℤ
+  -- the batches that may explain a conflict, oldest first
+  pub kept : List Processed
+
+-- what holds of each history
+pub record IsHistory (h : HistoryState) : Type 0 where
+  pub least_window : pos 1 ≤ℤ h.window
+  pub natural : pos 0 ≤ℤ h.edge
+
+-- of these batches the last ones are kept; those that were dropped are at or below the edge
+pub record DropsUpTo (edge : ℤ) (ps kept : List Processed) : Type 0 where
+  pub dropped : List Processed
+  pub all : ps ≡ dropped ++ kept
+  pub below : All (λ p. p.batch.version ≤ℤ edge) dropped
+
+-- the history keeps the last of these batches
+abbrev pub Keeps : List Processed → HistoryState → Type 0
+Keeps ps h = DropsUpTo h.edge ps h.kept

@@ -1,0 +1,104 @@
+//! The search for the writes that explain a conflict, from the oldest batch to the newest.
+
+ghost use Rattle.std.specs.Prelude.{◌≡◌, ◌++◌, ◌∷◌, [], List, Some, filter};
+ghost use Rattle.keyspace.specs.Processed.{Processed};
+ghost use Rattle.explanations.specs.Written.{Written, written_by, written_in, all_written};
+ghost use Rattle.explanations.specs.Explains.{explains};
+ghost use Rattle.explanations.specs.Found.{IsFound};
+
+use crate::explanation::{Explanation, WrittenRef};
+use crate::processed::ProcessedBatch;
+use crate::question::Question;
+use keyspace::{RangesRef, Verdict};
+use std::collections::VecDeque;
+
+// Returns the newest write of these batches that answers the question.
+pub(crate) fn search<'a>(
+    question: &Question,
+    kept: &'a VecDeque<ProcessedBatch>,
+) -> Option<Explanation<'a>>
+    ensures found { IsFound (filter
+        (explains question.now.version question.now.txn question.now.snapshot question.now.range)
+        (all_written kept.now.items)) result }
+{
+    let mut found = None;
+    for processed in kept.iter() {
+        if question.reaches(processed.batch().version) {
+            found = search_batch(question, processed, found);
+        }
+    }
+    found
+}
+
+fn search_batch<'a>(
+    question: &Question,
+    processed: &'a ProcessedBatch,
+    found: Option<Explanation<'a>>,
+) -> Option<Explanation<'a>>
+    ensures found { (ws : List Written) → IsFound ws found.entry → IsFound (ws ++ filter
+        (explains question.now.version question.now.txn question.now.snapshot question.now.range)
+        (written_in processed.now)) result }
+{
+    let (batch, entries) = (processed.batch(), processed.reply().entries.as_slice());
+    let mut found = found;
+    for txn in 0..batch.txns.len() {
+        if entries[txn].verdict == Verdict::Committed {
+            let transaction = batch.txns.txn(txn);
+            let origin = Origin {
+                proxy: processed.proxy(),
+                version: batch.version,
+                txn,
+            };
+            found = search_ranges(question, origin, &transaction.writes, found);
+        }
+    }
+    found
+}
+
+// Which transaction wrote something.
+#[derive(Clone, Copy)]
+struct Origin {
+    proxy: usize,
+    version: i64,
+    txn: usize,
+}
+
+fn search_ranges<'a>(
+    question: &Question,
+    origin: Origin,
+    ranges: &RangesRef<'a>,
+    found: Option<Explanation<'a>>,
+) -> Option<Explanation<'a>>
+    ensures found { (ws : List Written) → IsFound ws found.entry → IsFound (ws ++ filter
+        (explains question.now.version question.now.txn question.now.snapshot question.now.range)
+        (written_by origin.proxy origin.version origin.txn ranges.now)) result }
+{
+    let mut found = found;
+    for index in 0..ranges.len() {
+        let write = WrittenRef {
+            proxy: origin.proxy,
+            version: origin.version,
+            txn: origin.txn,
+            range: ranges.get(index),
+        };
+        if question.is_explained_by(&write) {
+            found = Some(found_also(found, write));
+        }
+    }
+    found
+}
+
+// Adds a write that is newer than the others.
+fn found_also<'a>(found: Option<Explanation<'a>>, write: WrittenRef<'a>) -> Explanation<'a>
+    ensures found { (ws : List Written) → IsFound ws found.entry
+        → IsFound (ws ++ write.entry ∷ []) (Some result) }
+{
+    let further = match found {
+        Some(explanation) => explanation.further.saturating_add(1),
+        None => 0,
+    };
+    Explanation {
+        newest: write,
+        further,
+    }
+}
