@@ -2,6 +2,7 @@
 
 use arena::{Arena, ArenaError, MAX_LENGTH, Slot};
 use std::alloc::{AllocError, Allocator, Global};
+use std::process::Abort;
 use std::test::Fail;
 use test_values::prints;
 
@@ -56,8 +57,12 @@ fn arena_reserve_and_place(rt: HostRuntime) -> Result<(), Fail> {
     assert!(rt; place_reserved(&mut arena, rt.alloc(), &[0, 32, 33, MAX_LENGTH])?);
     assert!(rt; refuses_longer(&mut arena, rt.alloc())?);
     assert_eq!(rt; arena.live(), 4);
+    place_one(&rt, rt.alloc())
+}
 
-    let mut arena = Arena::new(rt.alloc());
+// Places a record in an arena that has none, without memory taken first.
+fn place_one(rt: &impl Abort, alloc: Global) -> Result<(), Fail> {
+    let mut arena = Arena::new(alloc);
     assert_eq!(rt; arena.live(), 0);
     let slot = arena.place(1, b"small")?;
     assert!(rt; shows(&arena, slot, 1, b"small"));

@@ -65,20 +65,37 @@ fn shows_chunk<A: Allocator + Copy>(arena: &Arena<u32, A>, slots: &[Slot], again
     all_show
 }
 
+// Fills a chunk, gives one of its slots again, and then takes no more.
+fn fill_and_replace<A: Allocator + Copy>(
+    rt: &impl Abort,
+    arena: &mut Arena<u32, A>,
+    room: Vec<Slot>,
+) -> Result<(), Fail> {
+    let slots = fill_chunk(arena, room)?;
+    assert_eq!(rt; arena.live(), 512);
+    assert_eq!(rt; slots.len(), 512);
+    let again = replace(rt, arena, slots[100])?;
+    assert_eq!(rt; again, slots[100]);
+    assert!(rt; refuses_growth(arena));
+    assert_eq!(rt; arena.live(), 512);
+    assert!(rt; shows_chunk(arena, &slots, again));
+    Ok(())
+}
+
 #[test]
 fn arena_chunk_and_refusal(rt: HostRuntime) -> Result<(), Fail> {
     let heap = LocalHeap::new(rt.alloc(), 200_000)?;
     let mut arena: Arena<u32, &LocalHeap> = Arena::new(&heap);
     arena.reserve(&[1; 512])?;
     let _rest = rest_of(rt.alloc(), &heap)?;
-    let slots = fill_chunk(&mut arena, Vec::new(rt.alloc()))?;
-    assert_eq!(rt; arena.live(), 512);
-    assert_eq!(rt; slots.len(), 512);
-    let again = replace(&rt, &mut arena, slots[100])?;
-    assert_eq!(rt; again, slots[100]);
-    assert!(rt; refuses_growth(&mut arena));
-    assert_eq!(rt; arena.live(), 512);
-    assert!(rt; shows_chunk(&arena, &slots, again));
+    fill_and_replace(&rt, &mut arena, Vec::new(rt.alloc()))
+}
+
+// Places 300 keys of 33 bytes each.
+fn place_zeros<A: Allocator + Copy>(arena: &mut Arena<u32, A>) -> Result<(), ArenaError> {
+    for number in 0..300_u32 {
+        arena.place(number, &[0; 33])?;
+    }
     Ok(())
 }
 
@@ -89,9 +106,7 @@ fn arena_reserves_slots(rt: HostRuntime) -> Result<(), Fail> {
     arena.reserve_slots(33, 300)?;
     let _rest = rest_of(rt.alloc(), &heap)?;
     arena.reserve_slots(33, 300)?;
-    for number in 0..300_u32 {
-        arena.place(number, &[0; 33])?;
-    }
+    place_zeros(&mut arena)?;
     assert_eq!(rt; arena.live(), 300);
     assert_eq!(rt; arena.reserve_slots(33, 300), Err(ArenaError::Memory));
     Ok(())

@@ -51,49 +51,56 @@ fn shares(rt: HostRuntime) {
     }
 }
 
-#[test]
-fn calls_of_a_waiting_room(rt: HostRuntime) -> Result<(), Fail> {
-    let room = WaitingRoom::new(rt.alloc(), 2)?;
-    let (first, second) = (
-        Stand {
-            previous: 10,
-            answered: 3,
-        },
-        Stand {
-            previous: 20,
-            answered: 4,
-        },
-    );
-    assert_eq!(rt; room.told(0), GOES);
+const FIRST: Stand = Stand {
+    previous: 10,
+    answered: 3,
+};
 
-    // It stands until it is let through.
-    assert!(rt; !room.stands(0, first));
-    assert!(rt; !room.stands(0, first));
-    assert_eq!(rt; room.told(0), Told::Stands(first));
+const SECOND: Stand = Stand {
+    previous: 20,
+    answered: 4,
+};
+
+// The proxy 0 stands until it is let through. An answer later it stands with another batch.
+fn stands_until_let_through(rt: &impl Abort, room: &WaitingRoom) {
+    assert_eq!(rt; room.told(0), GOES);
+    assert!(rt; !room.stands(0, FIRST));
+    assert!(rt; !room.stands(0, FIRST));
+    assert_eq!(rt; room.told(0), Told::Stands(FIRST));
     room.let_through(0);
     assert_eq!(rt; room.told(0), GOES);
-    assert!(rt; room.stands(0, first));
+    assert!(rt; room.stands(0, FIRST));
     assert_eq!(rt; room.told(0), GOES);
-    assert!(rt; !room.stands(0, first));
+    assert!(rt; !room.stands(0, FIRST));
+    assert!(rt; !room.stands(0, SECOND));
+    assert_eq!(rt; room.told(0), Told::Stands(SECOND));
+}
 
-    // An answer later it stands with another batch.
-    assert!(rt; !room.stands(0, second));
-    assert_eq!(rt; room.told(0), Told::Stands(second));
-
-    // Two stand at once, each with its own batch. One of them is let through.
-    assert!(rt; !room.stands(1, first));
-    assert_eq!(rt; room.told(1), Told::Stands(first));
+// Two stand at once, each with its own batch. One of them is let through, and the other closes.
+fn stands_beside_another(rt: &impl Abort, room: &WaitingRoom) {
+    assert!(rt; !room.stands(1, FIRST));
+    assert_eq!(rt; room.told(1), Told::Stands(FIRST));
     room.let_through(1);
-    assert_eq!(rt; room.told(0), Told::Stands(second));
+    assert_eq!(rt; room.told(0), Told::Stands(SECOND));
     assert_eq!(rt; room.told(1), GOES);
     room.closes(0);
     assert_eq!(rt; room.told(0), CLOSED);
-
-    // What one tells is its own. There is no third.
     assert_eq!(rt; room.told(1), GOES);
-    assert!(rt; room.stands(2, first));
+}
+
+// There is no third proxy.
+fn has_no_third(rt: &impl Abort, room: &WaitingRoom) {
+    assert!(rt; room.stands(2, FIRST));
     room.closes(2);
     room.let_through(2);
     assert_eq!(rt; room.told(2), GOES);
+}
+
+#[test]
+fn calls_of_a_waiting_room(rt: HostRuntime) -> Result<(), Fail> {
+    let room = WaitingRoom::new(rt.alloc(), 2)?;
+    stands_until_let_through(&rt, &room);
+    stands_beside_another(&rt, &room);
+    has_no_third(&rt, &room);
     Ok(())
 }

@@ -1,6 +1,7 @@
 //! The worked rows of the step map, and a growth that is refused.
 
 use crate::written::{Written, shows};
+use keyspace::Range;
 use std::alloc::Global;
 use std::process::Abort;
 use std::test::Fail;
@@ -86,15 +87,27 @@ fn paced_sweep_after_write(rt: HostRuntime) -> Result<(), Fail> {
     Ok(())
 }
 
+// Returns whether the limit refuses the range, and leaves the boundaries of [a,b).
+fn is_full(written: &mut Written, range: &Range) -> bool {
+    written.prepare(range) == Err(StepError::Full) && has(written.map(), 3, "a=100")
+}
+
+// Prepares for the range once the edge is raised. Before, the limit refuses it.
+fn prepare_after_raise(
+    rt: &impl Abort,
+    written: &mut Written,
+    range: &Range,
+) -> Result<(), StepError> {
+    assert!(rt; is_full(written, range));
+    written.raise(rt, 101);
+    written.prepare(range)
+}
+
 #[test]
 fn limit_three_step_map(rt: HostRuntime) -> Result<(), Fail> {
     let mut written = Written::new(rt.alloc(), 3)?;
     put(&rt, rt.alloc(), &mut written, ("a", "b"), 100, "")?;
-    let second = range(rt.alloc(), b"c", b"d")?;
-    assert_eq!(rt; written.prepare(&second), Err(StepError::Full));
-    assert!(rt; has(written.map(), 3, "a=100"));
-    written.raise(&rt, 101);
-    written.prepare(&second)?;
+    prepare_after_raise(&rt, &mut written, &range(rt.alloc(), b"c", b"d")?)?;
     assert!(rt; has(written.map(), 1, ""));
     Ok(())
 }
