@@ -1,5 +1,6 @@
 """Runs a case on both builds, and compares what comes of it."""
 
+import os
 import re
 import shlex
 import shutil
@@ -11,7 +12,7 @@ from typing import BinaryIO
 
 from .case import Case, Outcome, Run, Text
 
-LIMIT = 55  # seconds
+LIMIT = 55  # seconds, if each process has a processor of its own
 ENDLESS = -1_000  # the status of a program that was ended after them
 SHOWN = 600  # bytes of a text
 CLAP_SPEAKS = ("replay", "batches")
@@ -31,15 +32,21 @@ class Difference:
         return any(outcome.status == ENDLESS for outcome in self.outcomes.values())
 
 
+def time_limit() -> float:
+    """Returns after how many seconds a program counts as endless: more if processes wait for processors."""
+    return LIMIT * max(1.0, os.getloadavg()[0] / (os.cpu_count() or 1))
+
+
 def played(programs: Programs, run: Run, folder: Path) -> Outcome:
     """Runs a command line."""
+    limit = time_limit()
     with open("/dev/full", "wb") as full:
         out: BinaryIO | int = full if run.is_full else subprocess.PIPE
         command = [str(programs[run.program]), *run.args]
         try:
-            done = subprocess.run(command, input=run.stdin, stdout=out, stderr=subprocess.PIPE, cwd=folder, timeout=LIMIT)
+            done = subprocess.run(command, input=run.stdin, stdout=out, stderr=subprocess.PIPE, cwd=folder, timeout=limit)
         except subprocess.TimeoutExpired:
-            return Outcome(ENDLESS, b"", f"no end after {LIMIT} seconds".encode())
+            return Outcome(ENDLESS, b"", f"no end after {limit:.0f} seconds".encode())
     return Outcome(done.returncode, done.stdout or b"", done.stderr)
 
 
