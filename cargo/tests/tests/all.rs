@@ -8,6 +8,7 @@ mod keys;
 mod lane;
 mod limits;
 mod lines;
+mod records;
 mod resolver;
 mod retries;
 mod serving;

@@ -4,3 +4,5 @@ pub mod Packed
 pub mod Line
 pub mod Failures
 pub mod Start
+pub mod Record
+pub mod Unwritten

@@ -63,8 +63,8 @@ impl Versioned for Line {
     }
 }
 
-// Returns the text of an answer to this proxy.
-fn text_of(alloc: Global, form: Form, proxy: usize, answer: &Answer) -> Option<PackedText>
+/// Returns the text of an answer to this proxy, or none as [`Line::new`] does.
+pub fn text_of(alloc: Global, form: Form, proxy: usize, answer: &Answer) -> Option<PackedText>
     ensures text { IfSome result (λ text. text ≡ line form proxy answer.now) }
 {
     let mut text = PackedText::new(alloc);

@@ -1,0 +1,53 @@
+//! The line of an answer that is printed as it comes.
+
+ghost use Rattle.std.specs.Prelude.{◌≡◌, ◌↔◌, ◌<◌, ℕ, take, IfSome, OnOk};
+ghost use Rattle.std.specs.Io.KnownBytes.{Appends};
+ghost use Rattle.replay_output.specs.Lines.{line};
+
+use crate::line::text_of;
+use crate::options::Form;
+use keyspace::Answer;
+use std::alloc::Global;
+use wire::{Sink, StdSink, write_and_flush};
+
+/// Why an answer was not written.
+#[derive(Clone, Copy, Debug, PartialEq, Eq)]
+pub enum AnswerError {
+    /// Memory was refused. Nothing was written.
+    Memory,
+    /// The writer failed. A prefix is written.
+    Write,
+}
+
+/// Prints the line of an answer to a proxy, and flushes the writer. The line is passed on in one
+/// piece if the writer takes all of it at once.
+pub fn print_line<W: Sink>(
+    alloc: Global,
+    form: Form,
+    proxy: usize,
+    answer: &Answer,
+    out: &mut W,
+) -> Result<(), AnswerError>
+    ensures whole { OnOk result (Appends (W.given out.old) (W.given out.new)
+        (line form proxy answer.now)) }
+    ensures nothing { result ≡ Err AnswerError.Memory → W.given out.new ≡ W.given out.old }
+    ensures beginning { result ≡ Err AnswerError.Write → IfSome (W.given out.new) (λ _.
+        (n : ℕ) × Appends (W.given out.old) (W.given out.new)
+        (take n (line form proxy answer.now))) }
+    ensures write { (result ≡ Err AnswerError.Write) ↔ (W.failures out.old < W.failures out.new) }
+{
+    let Some(text) = bytes_of(alloc, form, proxy, answer) else {
+        return Err(AnswerError::Memory);
+    };
+    write_and_flush(out, &text).map_err(|_| AnswerError::Write)
+}
+
+// Returns the line of an answer to this proxy as bytes, or none if memory is refused.
+fn bytes_of(alloc: Global, form: Form, proxy: usize, answer: &Answer) -> Option<Vec<u8>>
+    ensures text { IfSome result (λ text. text.items ≡ line form proxy answer.now) }
+{
+    let text = text_of(alloc, form, proxy, answer)?;
+    let mut bytes = StdSink::new(Vec::new(alloc));
+    text.print(&mut bytes).ok()?;
+    Some(bytes.into_inner())
+}
