@@ -22,3 +22,8 @@ pub record IsFirstRefused (has_opened cannot_open : List ℕ → Type 0) (names 
 abbrev pub opening_line : OpeningError → List ℕ
 opening_line (opening.CannotOpen proxy) = codes "replay: proxy " ++ decimal proxy ++ codes ": cannot open\n"
 opening_line opening.Memory = start_line start.Memory
+
+-- the line of standard error where the files for records were not opened
+abbrev pub creating_line : OpeningError → List ℕ
+creating_line (opening.CannotOpen proxy) = codes "replay: replies " ++ (decimal proxy ++ codes ": cannot open\n")
+creating_line opening.Memory = start_line start.Memory

@@ -1,5 +1,5 @@
 -- How the program ends, beside the words of its command line and the bytes of its files. This project's own.
-use Rattle.std.specs.Prelude.{◌≡◌, ◌≢◌, ◌⊎◌, ℕ, ◌≤◌, false, List, codes, length, Option, Some}
+use Rattle.std.specs.Prelude.{◌≡◌, ◌≢◌, ◌⊎◌, ℕ, ◌≤◌, true, false, List, codes, length, Option, Some, slice_get}
 use Rattle.std.specs.List.{AllZip}
 use Rattle.clap.specs.Words.{all_of}
 use Rattle.keyspace.specs.declared.reply.Reply.{Reply}
@@ -9,12 +9,14 @@ use Rattle.replay_output.specs.declared.options.form.Form.TheVariants.{Kept}
 use Rattle.replay_output.specs.declared.options.Options.{Options}
 use Rattle.replay_program.specs.declared.check.replies.RepliesError.{RepliesError}
 use Rattle.replay_output.specs.declared.start.StartError.TheVariants as start
-use Rattle.replay_arguments.specs.Opening.{IsFirstRefused, contents_each, opening_line}
+use Rattle.replay_arguments.specs.Opening.{IsFirstRefused, contents_each, creating_line, opening_line}
 use Rattle.replay_program.specs.Checked.{TakesToCompare, check_lines}
 use Rattle.replay_program.specs.Replayed.{DidNotStart, FailsToPrint, FailsToReplay, HasFailed, IsChecked, IsReplayed, Took, Written}
 use Rattle.replay_program.specs.Replies.{IsCauseOf, IsReplyFile, replies_line}
 use Rattle.replay_output.specs.Start.{start_line}
-use Rattle.replay_arguments.specs.Words.{AsksForText, HasInputOnce, HoldsOptions, IsTaken, is_kept, rows_of_words}
+use Rattle.replay_arguments.specs.Words.{AsksForText, HasInputOnce, HoldsOptions, HoldsStream, IsTaken, is_kept, named, rows_of_words}
+use Rattle.replay_workers.specs.Streaming.{Recorded}
+use Rattle.replay_program.specs.Streamed.{FailsToStream, IsStreamDone}
 
 -- the line was printed, or standard error failed
 abbrev pub Told : Written → List ℕ → Type 0
@@ -71,6 +73,21 @@ pub record AsksToReplay (words : List (List ℕ)) (options : Options) (names : L
   pub most : length names ≤ MAX_PROXIES
   pub input : HasInputOnce (rows_of_words words)
   pub plain : is_kept options.form ≡ false
+  pub at_the_end : HoldsStream (rows_of_words words) false
+
+-- the words are taken, and ask that the answers to the files of these names are printed as they come, and recorded in files of these
+-- names, if there are any
+pub record AsksToStream (words : List (List ℕ)) (options : Options) (names records : List (List ℕ)) : Type 0 where
+  pub taken : IsTaken words
+  pub holds_options : HoldsOptions (rows_of_words words) options
+  pub holds_names : all_of (codes "FILE") (rows_of_words words) ≡ Some names
+  pub holds_records : named (all_of (codes "replies") (rows_of_words words)) ≡ records
+  pub least : 1 ≤ length names
+  pub most : length names ≤ MAX_PROXIES
+  pub input : HasInputOnce (rows_of_words words)
+  pub plain : is_kept options.form ≡ false
+  pub as_they_come : HoldsStream (rows_of_words words) true
+  pub records_each : (length records ≡ 0) ⊎ (length records ≡ length names)
 
 -- the words are taken, and ask for a check of the files of these names beside those of replies
 pub record AsksToCheck (words : List (List ℕ)) (options : Options) (names replies : List (List ℕ)) : Type 0 where
@@ -118,6 +135,39 @@ pub record HasChecked (So_many : ℕ → Type 0) (contents : List ℕ → Option
   pub replies : List (List ℕ)
   pub asked : AsksToCheck words options names replies
   pub checked : ChecksFiles So_many contents options names replies out.before out.after
+
+-- each writer began as that of its file
+abbrev pub AreBegun : (List ℕ → Option (List ℕ)) → List (List ℕ) → List (Option Recorded) → Type 0
+AreBegun begun names recorded =
+    (proxy : ℕ) (name : List ℕ) (r : Recorded) → slice_get names proxy ≡ Some name → slice_get recorded proxy ≡ Some (Some r)
+    → r.before ≡ begun name
+
+-- all was read and resolved, and the lines and the records are those of all answers; the writers of records are handed to nobody, so
+-- that their files alone have them
+pub record HasStreamed (contents begun : List ℕ → Option (List ℕ)) (words : List (List ℕ)) (out : Written) : Type 0 where
+  pub options : Options
+  pub names : List (List ℕ)
+  pub records : List (List ℕ)
+  pub asked : AsksToStream words options names records
+  pub recorded : List (Option Recorded)
+  pub begun_each : AreBegun begun records recorded
+  pub streamed : IsStreamDone options (contents_each contents names) recorded out.before out.after
+
+-- a file for records can't be opened: nothing was printed, and the first such file was reported
+pub record DidNotCreate (has_created cannot_create : List ℕ → Type 0) (names : List (List ℕ)) (out error : Written) :
+    Type 0 where
+  pub proxy : ℕ
+  pub first : IsFirstRefused has_created cannot_create names proxy
+  pub nothing_printed : out.after ≡ out.before
+  pub told : Told error (creating_line (opening.CannotOpen proxy))
+
+-- the files of these names were not streamed, or something failed
+abbrev pub FailsOnStream : (List ℕ → Type 0) → (List ℕ → Type 0) → (List ℕ → Option (List ℕ)) → (List ℕ → Type 0)
+    → (List ℕ → Type 0) → Options → List (List ℕ) → List (List ℕ) → Written → Written → Type 0
+FailsOnStream has_opened cannot_open contents has_created cannot_create options names records out error =
+    DidNotOpen has_opened cannot_open names out error
+    ⊎ (DidNotCreate has_created cannot_create records out error
+    ⊎ ((recorded : List (Option Recorded)) × FailsToStream options (contents_each contents names) recorded out error))
 
 -- there are differences
 abbrev pub HasDifferences : (List ℕ → Option (List ℕ)) → List (List ℕ) → Written → Type 0

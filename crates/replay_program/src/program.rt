@@ -12,8 +12,12 @@ ghost use Rattle.replay_arguments.specs.Words.{IsMistaken};
 
 use crate::check::{check_over, fail_to_read_replies, read_replies};
 use crate::replay::replay_over;
+use crate::stream::stream_over;
 use flow::WaitingRoom;
-use replay_arguments::{CommandLine, Files, fail_to_open, open_files, read_words};
+use replay_arguments::{
+    CommandLine, Files, OpeningError, create_files, fail_to_create, fail_to_open, open_files,
+    read_words,
+};
 use replay_output::{Form, StartError, Status, fail_to_start};
 use std::alloc::{AllocError, Global};
 use std::sync::{Arc, Wait};
@@ -58,6 +62,7 @@ pub fn run<R: Threads + Wait + Copy + Send + 'static, F: Files, O: Sink, E: Sink
         Ok(line) if line.options.form.is_kept() => {
             check_files(rt, alloc, files, &line, out, error)
         }
+        Ok(line) if line.is_streamed => stream_files(rt, alloc, files, &line, out, error),
         Ok(line) => replay_files(rt, alloc, files, &line, out, error),
         Err(refusal) => refusal.end(out, error),
     }
@@ -154,6 +159,59 @@ pub fn check_files<R: Threads + Wait + Copy + Send + 'static, F: Files, O: Sink,
         out,
         error,
     )
+}
+
+/// Opens the files of a command line, and those for records, and prints the answers as they come, as
+/// [`stream_over`] does. If a file can't be opened, nothing is printed to `out`, and the first such
+/// file is reported to `error`.
+pub fn stream_files<R: Threads + Wait + Copy + Send + 'static, F: Files, O: Sink, E: Sink>(
+    rt: &R,
+    alloc: Global,
+    files: &F,
+    line: &CommandLine,
+    out: &mut O,
+    error: &mut E,
+) -> Status
+    requires least_files { 1 ≤ vec_len line.now.files }
+    requires most_files { vec_len line.now.files ≤ MAX_PROXIES }
+{
+    let readers = match open_files(alloc, files, &line.files) {
+        Ok(readers) => readers,
+        Err(cause) => return fail_to_open(error, cause),
+    };
+    let records = match records_of(alloc, files, line) {
+        Ok(records) => records,
+        Err(cause) => return fail_to_create(error, cause),
+    };
+    let Ok(gatekeeper) = gatekeeper(alloc, &readers) else {
+        return fail_to_start(error, StartError::Memory);
+    };
+    let report = stream_over(
+        rt,
+        alloc,
+        readers,
+        records,
+        line.options,
+        &gatekeeper,
+        out,
+        error,
+    );
+    report.status
+}
+
+// Opens the files for records, and returns the writer of each proxy, if there is one.
+fn records_of<F: Files>(
+    alloc: Global,
+    files: &F,
+    line: &CommandLine,
+) -> Result<Vec<Option<F::Writer>>, OpeningError> {
+    let mut writers = create_files(alloc, files, &line.records)?.into_iter();
+    let mut records =
+        Vec::with_capacity(alloc, line.files.len()).map_err(|_| OpeningError::Memory)?;
+    for _ in 0..line.files.len() {
+        records.push_reserved(writers.next());
+    }
+    Ok(records)
 }
 
 // Makes the gatekeeper of the proxies that have these readers: a room with a place for each.

@@ -8,3 +8,8 @@ pub mod Stopping
 pub mod Runs
 pub mod Keeping
 pub mod Ending
+pub mod Recording
+pub mod Outlets
+pub mod Passing
+pub mod Streams
+pub mod StreamRuns

@@ -2,7 +2,12 @@
 pub mod Ends
 pub mod Inbox
 pub mod Worker
+pub mod Sender
+pub mod Recorder
+pub mod Outlet
+pub mod Proxies
 pub mod Watch
 pub mod Threads
 pub mod Stops
 pub mod Run
+pub mod Streaming

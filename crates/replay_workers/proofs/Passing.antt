@@ -1,0 +1,104 @@
+-- What one outlet passes on in one step.
+use Rattle.std.specs.Prelude.{◌≡◌, ℕ, Bool, true, false, List, [], ◌∷◌, ◌++◌, Option, None}
+use Rattle.std.specs.List.{flat_map}
+use Rattle.std.proofs.Common.{refl, sym, ap, subst, ◌∙◌, append-nil}
+use Rattle.std.proofs.lemmas.Bool.{false≢true}
+use Rattle.keyspace.specs.declared.answer.Answer.{Answer}
+use Rattle.lane.specs.Lane.{IntakeGoesOn}
+use Rattle.wire.proofs.callers.Given.{appends_none}
+use Rattle.replay_output.specs.declared.options.form.Form.{Form}
+use Rattle.replay_output.specs.Lines.{line}
+use Rattle.replay_workers.specs.declared.stream.outlet.Outlet.{Outlet}
+use Rattle.replay_workers.specs.Outlet.{is_whole, PassesOn, TookText, PassesSome}
+use Rattle.replay_workers.proofs.Outlets.{broken}
+
+-- nothing was taken, and nothing printed
+pub passes_nothing : (form : Form) (failed : Bool) (given : Option (List ℕ)) (old new : Outlet)
+    → IntakeGoesOn old.replies new.replies → new.replies.taken ≡ old.replies.taken → new.proxy ≡ old.proxy → new.lost ≡ old.lost
+    → PassesOn old.records new.records old.waiting new.waiting [] → PassesSome form failed failed given given old new
+passes_nothing form failed given old new replies taken proxy lost passed = record {
+  printed = [];
+  dropped = [];
+  goes_on = record {
+    replies = replies;
+    proxy = proxy;
+    taken = taken ∙ sym (append-nil old.replies.taken);
+    passed = passed;
+    none_dropped = λ _. refl;
+    none_printed = λ _. refl;
+    stays = λ whole. sym (ap (λ (l : Bool). is_whole l failed) lost) ∙ whole;
+  };
+  text = λ well. subst (λ (failed : Bool). TookText failed given given []) (sym well) (appends_none given);
+  nothing = λ failed. (failed, refl);
+}
+
+-- what becomes of an answer: it is printed, or dropped
+record Split (form : Form) (proxy : ℕ) (answer : Answer) (was_lost had is_lost has : Bool) (before after : Option (List ℕ))
+    : Type 0 where
+  pub printed : List Answer
+  pub dropped : List Answer
+  pub both : answer ∷ [] ≡ printed ++ dropped
+  pub none_dropped : is_whole is_lost has ≡ true → dropped ≡ []
+  pub none_printed : is_whole was_lost had ≡ false → printed ≡ []
+  pub stays : is_whole is_lost has ≡ true → is_whole was_lost had ≡ true
+  pub text : had ≡ false → TookText has before after (flat_map (line form proxy) printed)
+
+module _ (form : Form) (proxy : ℕ) (answer : Answer) (before after : Option (List ℕ)) where
+  dropped_one : (was_lost had is_lost has : Bool) → is_whole is_lost has ≡ false
+      → (had ≡ false → (has ≡ had) × (after ≡ before)) → Split form proxy answer was_lost had is_lost has before after
+  dropped_one was_lost had is_lost has not_whole same = record {
+    printed = [];
+    dropped = answer ∷ [];
+    both = refl;
+    none_dropped = λ whole. absurd (false≢true (sym not_whole ∙ whole));
+    none_printed = λ _. refl;
+    stays = λ whole. absurd (false≢true (sym not_whole ∙ whole));
+    text = λ well.
+        subst (λ (has : Bool). TookText has before after []) (sym ((same well).0 ∙ well))
+        (subst (λ (given : Option (List ℕ)). TookText false before given []) (sym (same well).1) (appends_none before));
+  }
+
+  split : (was_lost had is_lost has : Bool)
+      → (is_whole was_lost had ≡ true → is_lost ≡ false → TookText has before after (line form proxy answer))
+      → (was_lost ≡ true → is_lost ≡ true) → (is_lost ≡ true → (has ≡ had) × (after ≡ before))
+      → (had ≡ true → (has ≡ true) × (after ≡ before)) → Split form proxy answer was_lost had is_lost has before after
+  split true had false has text stays lost nothing = absurd (false≢true (stays refl))
+  split true had true has text stays lost nothing = dropped_one true had true has refl (λ _. lost refl)
+  split false true is_lost has text stays lost nothing =
+      dropped_one false true is_lost has (ap (is_whole is_lost) (nothing refl).0 ∙ broken is_lost)
+      (λ well. absurd (false≢true (sym well)))
+  split false false true has text stays lost nothing = dropped_one false false true has refl (λ _. lost refl)
+  split false false false has text stays lost nothing = record {
+    printed = answer ∷ [];
+    dropped = [];
+    both = refl;
+    none_dropped = λ _. refl;
+    none_printed = λ broken. absurd (false≢true (sym broken));
+    stays = λ _. refl;
+    text = λ _. subst (TookText has before after) (sym (append-nil (line form proxy answer))) (text refl refl);
+  }
+
+-- an answer was taken, printed or dropped, and passed on
+pub passes_answer : (form : Form) (had has : Bool) (before after : Option (List ℕ)) (old new : Outlet) (answer : Answer)
+    → IntakeGoesOn old.replies new.replies → new.replies.taken ≡ old.replies.taken ++ answer ∷ [] → new.proxy ≡ old.proxy
+    → PassesOn old.records new.records old.waiting new.waiting (answer ∷ [])
+    → (is_whole old.lost had ≡ true → new.lost ≡ false → TookText has before after (line form old.proxy answer))
+    → (old.lost ≡ true → new.lost ≡ true) → (new.lost ≡ true → (has ≡ had) × (after ≡ before))
+    → (had ≡ true → (has ≡ true) × (after ≡ before)) → PassesSome form had has before after old new
+passes_answer form had has before after old new answer replies taken proxy passed text stays lost nothing =
+    let one = split form old.proxy answer before after old.lost had new.lost has text stays lost nothing in
+    record {
+      printed = one.printed;
+      dropped = one.dropped;
+      goes_on = record {
+        replies = replies;
+        proxy = proxy;
+        taken = taken ∙ ap (λ (l : List Answer). old.replies.taken ++ l) one.both;
+        passed = subst (PassesOn old.records new.records old.waiting new.waiting) one.both passed;
+        none_dropped = one.none_dropped;
+        none_printed = one.none_printed;
+        stays = one.stays;
+      };
+      text = one.text;
+      nothing = nothing;
+    }

@@ -1,0 +1,130 @@
+-- What a recorder has written as it takes one answer more.
+use Rattle.std.specs.Prelude.{◌≡◌, ℕ, zero, ◌+◌, List, [], ◌∷◌, ◌++◌, length, take, Option, None, Some, IfSome}
+use Rattle.std.specs.Io.KnownBytes.{Appends}
+use Rattle.std.proofs.Common.{refl, sym, ap, subst, ◌∙◌, append_assoc, append-nil}
+use Rattle.std.proofs.Math.Seq.{take-append-add}
+use Rattle.std.proofs.lemmas.List.{flat_map_more}
+use Rattle.std.proofs.lemmas.Option.{none-some}
+use Rattle.wire.proofs.callers.Given.{appends_then}
+use Rattle.keyspace.specs.declared.answer.Answer.{Answer}
+use Rattle.lane.specs.Lane.{IntakeView, IntakeGoesOn}
+use Rattle.replay_output.specs.declared.stream.AnswerError.{AnswerError}
+use Rattle.replay_output.specs.declared.stream.AnswerError.TheVariants.{Memory, Write}
+use Rattle.replay_output.specs.Record.{answer_record, answer_records}
+use Rattle.replay_workers.specs.declared.stream.recorder.Recorder.{Recorder}
+use Rattle.replay_workers.specs.Recorder.{TookRecords, WritesRecords, RecorderGoesOn}
+use Rattle.replay_workers.proofs.SameLanes.{intake_goes_on}
+
+-- a prefix of this text, if the writer still reports its bytes
+abbrev pub Begins : Option (List ℕ) → Option (List ℕ) → List ℕ → Type 0
+Begins old new text = IfSome new (λ _. (n : ℕ) × Appends old new (take n text))
+
+-- complete texts, and then a prefix of the next
+begins_then : (old between new : Option (List ℕ)) (first next : List ℕ) → Appends old between first
+    → Begins between new next → Begins old new (first ++ next)
+begins_then old between None first next whole begins = tt
+begins_then None between (Some zs) first next whole begins = (zero, tt)
+begins_then (Some xs) None (Some zs) first next whole begins = absurd whole
+begins_then (Some xs) (Some ys) (Some zs) first next whole begins = (
+  length first + begins.0,
+  begins.1 ∙ ap (λ (text : List ℕ). text ++ take begins.0 next) whole
+      ∙ append_assoc xs first (take begins.0 next)
+      ∙ ap (λ (text : List ℕ). xs ++ text) (sym (take-append-add first next begins.0)),
+)
+
+module _ (first taken : List Answer) (before old new : Option (List ℕ)) (answer : Answer) where
+  -- the answers that were taken, if none was dropped
+  none_dropped : (w : WritesRecords first taken before old None) → taken ≡ first ++ w.written
+  none_dropped w = w.taken ∙ ap (λ (l : List Answer). first ++ (w.written ++ l)) (w.none_dropped refl)
+      ∙ ap (λ (l : List Answer). first ++ l) (append-nil w.written)
+
+  records_more : (written : List Answer) → answer_records written ++ answer_record answer ≡ answer_records (written ++ answer ∷ [])
+  records_more written = flat_map_more answer_record [] written answer
+
+  one_more : (w : WritesRecords first taken before old None) → taken ++ answer ∷ [] ≡ first ++ ((w.written ++ answer ∷ []) ++ [])
+  one_more w = ap (λ (l : List Answer). l ++ answer ∷ []) (none_dropped w) ∙ append_assoc first w.written (answer ∷ [])
+      ∙ ap (λ (l : List Answer). first ++ l) (sym (append-nil (w.written ++ answer ∷ [])))
+
+  -- the record isn't written
+  pub dropped_also : (failure : AnswerError) → WritesRecords first taken before old (Some failure) → new ≡ old
+      → WritesRecords first (taken ++ answer ∷ []) before new (Some failure)
+  dropped_also failure w same = record {
+    written = w.written;
+    dropped = w.dropped ++ answer ∷ [];
+    taken =
+        ap (λ (l : List Answer). l ++ answer ∷ []) w.taken ∙ append_assoc first (w.written ++ w.dropped) (answer ∷ [])
+        ∙ ap (λ (l : List Answer). first ++ l) (append_assoc w.written w.dropped (answer ∷ []));
+    none_dropped = λ none. absurd (none-some failure (sym none));
+    records = subst (λ (given : Option (List ℕ)). TookRecords (Some failure) before given w.written) (sym same) w.records;
+  }
+
+  -- it is written
+  pub written_also : WritesRecords first taken before old None → Appends old new (answer_record answer)
+      → WritesRecords first (taken ++ answer ∷ []) before new None
+  written_also w appends = record {
+    written = w.written ++ answer ∷ [];
+    dropped = [];
+    taken = one_more w;
+    none_dropped = λ none. refl;
+    records =
+        subst (Appends before new) (records_more w.written)
+        (appends_then before old new (answer_records w.written) (answer_record answer) w.records appends);
+  }
+
+  -- memory was refused for it
+  pub refused_also : WritesRecords first taken before old None → new ≡ old
+      → WritesRecords first (taken ++ answer ∷ []) before new (Some Memory)
+  refused_also w same = record {
+    written = w.written;
+    dropped = answer ∷ [];
+    taken =
+        ap (λ (l : List Answer). l ++ answer ∷ []) (none_dropped w) ∙ append_assoc first w.written (answer ∷ []);
+    none_dropped = λ none. absurd (none-some Memory (sym none));
+    records = subst (λ (given : Option (List ℕ)). Appends before given (answer_records w.written)) (sym same) w.records;
+  }
+
+  -- the writer has failed
+  pub failed_also : WritesRecords first taken before old None → Begins old new (answer_record answer)
+      → WritesRecords first (taken ++ answer ∷ []) before new (Some Write)
+  failed_also w begins = record {
+    written = w.written ++ answer ∷ [];
+    dropped = [];
+    taken = one_more w;
+    none_dropped = λ none. absurd (none-some Write (sym none));
+    records =
+        subst (Begins before new) (records_more w.written)
+        (begins_then before old new (answer_records w.written) (answer_record answer) w.records begins);
+  }
+
+-- a recorder has written nothing yet
+pub nothing_recorded : (taken : List Answer) (before : Option (List ℕ)) → Appends before before []
+    → WritesRecords taken taken before before None
+nothing_recorded taken before none = record {
+  written = [];
+  dropped = [];
+  taken = sym (append-nil taken);
+  none_dropped = λ _. refl;
+  records = none;
+}
+
+module _ {W : Type 0} (given_to : W → Option (List ℕ)) where
+  pub recorder_same : (old : Recorder W) → IntakeGoesOn old.answers old.answers → RecorderGoesOn given_to old old
+  recorder_same old same = record { answers = same; writes = λ first before writes. writes }
+
+  -- one answer more was taken, and its record written or dropped
+  pub recorder_goes_on : (start old new : Recorder W) (answers : IntakeView Answer) (answer : Answer)
+      → RecorderGoesOn given_to start old → IntakeGoesOn old.answers answers
+      → answers.taken ≡ old.answers.taken ++ answer ∷ [] → new.answers ≡ answers
+      → ((first taken : List Answer) (before : Option (List ℕ))
+      → WritesRecords first taken before (given_to old.out) old.failure
+      → WritesRecords first (taken ++ answer ∷ []) before (given_to new.out) new.failure)
+      → RecorderGoesOn given_to start new
+  recorder_goes_on start old new answers answer goes on took same writes = record {
+    answers =
+        intake_goes_on start.answers old.answers new.answers goes.answers
+        (subst (λ (r : IntakeView Answer). IntakeGoesOn old.answers r) (sym same) on);
+    writes = λ first before was.
+        subst (λ (now : List Answer). WritesRecords first now before (given_to new.out) new.failure)
+        (sym took ∙ ap (λ (r : IntakeView Answer). r.taken) (sym same))
+        (writes first old.answers.taken before (goes.writes first before was));
+  }
