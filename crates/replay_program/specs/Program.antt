@@ -16,7 +16,7 @@ use Rattle.replay_program.specs.Replies.{IsCauseOf, IsReplyFile, replies_line}
 use Rattle.replay_output.specs.Start.{start_line}
 use Rattle.replay_arguments.specs.Words.{AsksForText, HasInputOnce, HoldsOptions, HoldsStream, IsTaken, is_kept, named, rows_of_words}
 use Rattle.replay_workers.specs.Streaming.{Recorded}
-use Rattle.replay_program.specs.Streamed.{FailsToStream, IsStreamDone}
+use Rattle.replay_program.specs.Streamed.{PrintsAndRecords, StreamedAndFailed}
 
 -- the line was printed, or standard error failed
 abbrev pub Told : Written → List ℕ → Type 0
@@ -136,22 +136,27 @@ pub record HasChecked (So_many : ℕ → Type 0) (contents : List ℕ → Option
   pub asked : AsksToCheck words options names replies
   pub checked : ChecksFiles So_many contents options names replies out.before out.after
 
--- each writer began as that of its file
+-- the proxy of each of these files for records has a writer, which began as that of its file
 abbrev pub AreBegun : (List ℕ → Option (List ℕ)) → List (List ℕ) → List (Option Recorded) → Type 0
 AreBegun begun names recorded =
-    (proxy : ℕ) (name : List ℕ) (r : Recorded) → slice_get names proxy ≡ Some name → slice_get recorded proxy ≡ Some (Some r)
-    → r.before ≡ begun name
+    (proxy : ℕ) (name : List ℕ) → slice_get names proxy ≡ Some name
+    → (r : Recorded) × (slice_get recorded proxy ≡ Some (Some r)) × (r.before ≡ begun name)
 
--- all was read and resolved, and the lines and the records are those of all answers; the writers of records are handed to nobody, so
--- that their files alone have them
+-- The files of these names were read and resolved. The lines are those of all answers, and so are the records in the files of those
+-- names, if there are any.
+pub record StreamsFiles (contents begun : List ℕ → Option (List ℕ)) (options : Options) (names records : List (List ℕ))
+    (before after : Option (List ℕ)) : Type 0 where
+  pub recorded : List (Option Recorded)
+  pub begun_each : AreBegun begun records recorded
+  pub whole : PrintsAndRecords options (contents_each contents names) recorded before after
+
+-- all that the words ask for was read, resolved, printed and recorded
 pub record HasStreamed (contents begun : List ℕ → Option (List ℕ)) (words : List (List ℕ)) (out : Written) : Type 0 where
   pub options : Options
   pub names : List (List ℕ)
   pub records : List (List ℕ)
   pub asked : AsksToStream words options names records
-  pub recorded : List (Option Recorded)
-  pub begun_each : AreBegun begun records recorded
-  pub streamed : IsStreamDone options (contents_each contents names) recorded out.before out.after
+  pub streamed : StreamsFiles contents begun options names records out.before out.after
 
 -- a file for records can't be opened: nothing was printed, and the first such file was reported
 pub record DidNotCreate (has_created cannot_create : List ℕ → Type 0) (names : List (List ℕ)) (out error : Written) :
@@ -161,22 +166,33 @@ pub record DidNotCreate (has_created cannot_create : List ℕ → Type 0) (names
   pub nothing_printed : out.after ≡ out.before
   pub told : Told error (creating_line (opening.CannotOpen proxy))
 
+-- The files of these names were read and resolved, and something failed. The lines are those of the first answers to each proxy, and
+-- so are the records in the files of those names, if there are any.
+pub record StreamsAndFails (contents begun : List ℕ → Option (List ℕ)) (options : Options) (names records : List (List ℕ))
+    (out error : Written) : Type 0 where
+  pub recorded : List (Option Recorded)
+  pub begun_each : AreBegun begun records recorded
+  pub has_writer : List Bool
+  pub failed : StreamedAndFailed options (contents_each contents names) has_writer recorded out error
+
 -- the files of these names were not streamed, or something failed
 abbrev pub FailsOnStream : (List ℕ → Type 0) → (List ℕ → Type 0) → (List ℕ → Option (List ℕ)) → (List ℕ → Type 0)
-    → (List ℕ → Type 0) → Options → List (List ℕ) → List (List ℕ) → Written → Written → Type 0
-FailsOnStream has_opened cannot_open contents has_created cannot_create options names records out error =
+    → (List ℕ → Type 0) → (List ℕ → Option (List ℕ)) → Options → List (List ℕ) → List (List ℕ) → Written → Written → Type 0
+FailsOnStream has_opened cannot_open contents has_created cannot_create begun options names records out error =
     DidNotOpen has_opened cannot_open names out error
     ⊎ (DidNotCreate has_created cannot_create records out error
-    ⊎ ((recorded : List (Option Recorded)) × FailsToStream options (contents_each contents names) recorded out error))
+    ⊎ (DidNotStart out error ⊎ StreamsAndFails contents begun options names records out error))
 
 -- there are differences
 abbrev pub HasDifferences : (List ℕ → Option (List ℕ)) → List (List ℕ) → Written → Type 0
 HasDifferences = HasChecked (λ count. count ≢ 0)
 
 -- The program is done.
-abbrev pub IsDone : (List ℕ → Option (List ℕ)) → List (List ℕ) → Written → Type 0
-IsDone contents words out =
-    HasShown words out ⊎ (HasReplayed contents words out ⊎ HasChecked (λ count. count ≡ 0) contents words out)
+abbrev pub IsDone : (List ℕ → Option (List ℕ)) → (List ℕ → Option (List ℕ)) → List (List ℕ) → Written → Type 0
+IsDone contents begun words out =
+    HasShown words out
+    ⊎ (HasReplayed contents words out
+    ⊎ (HasChecked (λ count. count ≡ 0) contents words out ⊎ HasStreamed contents begun words out))
 
 -- what the words ask for failed on the files
 pub record HasFailedOnFiles (has_opened cannot_open : List ℕ → Type 0) (contents : List ℕ → Option (List ℕ))
@@ -195,6 +211,16 @@ pub record HasFailedToCheck (has_opened cannot_open : List ℕ → Type 0) (cont
   pub asked : AsksToCheck words options names replies
   pub failed : FailsToCheck has_opened cannot_open contents options names replies out error
 
+-- what the words ask to be streamed failed
+pub record HasFailedToStream (has_opened cannot_open : List ℕ → Type 0) (contents : List ℕ → Option (List ℕ))
+    (has_created cannot_create : List ℕ → Type 0) (begun : List ℕ → Option (List ℕ)) (words : List (List ℕ)) (out error : Written) :
+    Type 0 where
+  pub options : Options
+  pub names : List (List ℕ)
+  pub records : List (List ℕ)
+  pub asked : AsksToStream words options names records
+  pub failed : FailsOnStream has_opened cannot_open contents has_created cannot_create begun options names records out error
+
 -- help or the version was asked for, and standard output failed
 abbrev pub HasNotShown : List (List ℕ) → Written → Type 0
 HasNotShown words out = AsksForText words × HasFailed out
@@ -204,9 +230,10 @@ abbrev pub HasNoMemory : Written → Written → Type 0
 HasNoMemory out error = (out.after ≡ out.before) × Told error (start_line start.Memory)
 
 -- The program has failed.
-abbrev pub IsFailed : (List ℕ → Type 0) → (List ℕ → Type 0) → (List ℕ → Option (List ℕ)) → List (List ℕ)
-    → Written → Written → Type 0
-IsFailed has_opened cannot_open contents words out error =
+abbrev pub IsFailed : (List ℕ → Type 0) → (List ℕ → Type 0) → (List ℕ → Option (List ℕ)) → (List ℕ → Type 0)
+    → (List ℕ → Type 0) → (List ℕ → Option (List ℕ)) → List (List ℕ) → Written → Written → Type 0
+IsFailed has_opened cannot_open contents has_created cannot_create begun words out error =
     HasNoMemory out error
     ⊎ (HasNotShown words out ⊎ (HasFailedOnFiles has_opened cannot_open contents words out error
-    ⊎ HasFailedToCheck has_opened cannot_open contents words out error))
+    ⊎ (HasFailedToCheck has_opened cannot_open contents words out error
+    ⊎ HasFailedToStream has_opened cannot_open contents has_created cannot_create begun words out error)))

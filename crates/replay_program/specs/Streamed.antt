@@ -11,7 +11,7 @@ use Rattle.replay_output.specs.Failures.{failure_lines, NothingFailed}
 use Rattle.replay_output.specs.Record.{answer_records}
 use Rattle.replay_output.specs.Streamed.{Printed, printed_for, stream_text}
 use Rattle.replay_output.specs.Unwritten.{unwritten_lines}
-use Rattle.replay_workers.specs.Streaming.{IsStreamed, Recorded}
+use Rattle.replay_workers.specs.Streaming.{HaveRecords, IsStreamed, Recorded}
 use Rattle.replay_program.specs.Replayed.{DidNotStart, HasFailed, IsReplayedBy, Took, Written, ending_of}
 
 -- The text is the lines of these answers: those of each proxy are all of its answers, in order. The lines of different proxies may
@@ -30,20 +30,27 @@ RecordsAll answers recorded =
     → slice_get recorded proxy ≡ Some (Some r) → Appends r.before r.after (answer_records own)
 
 -- All was read and resolved. What was printed are the lines of all answers, and what was recorded are the records of all.
-abbrev pub IsStreamDone : Options → List (Option (List ℕ)) → List (Option Recorded) → Option (List ℕ) → Option (List ℕ) → Type 0
-IsStreamDone options files recorded before after =
+abbrev pub PrintsAndRecords : Options → List (Option (List ℕ)) → List (Option Recorded) → Option (List ℕ) → Option (List ℕ) → Type 0
+PrintsAndRecords options files recorded before after =
     IsReplayedBy (λ answers. ((text : List ℕ) × PrintsAll options.form answers text × Appends before after text)
     × RecordsAll answers recorded) options files
 
+-- The same, and each proxy that has a writer has records, and no other.
+pub record IsStreamDone (options : Options) (files : List (Option (List ℕ))) (has_writer : List Bool) (recorded : List (Option Recorded))
+    (before after : Option (List ℕ)) : Type 0 where
+  pub recorded_count : length recorded ≡ length files
+  pub writers : HaveRecords has_writer recorded
+  pub whole : PrintsAndRecords options files recorded before after
+
 -- The files were replayed, and something failed: a file, a line, a record, the run, or a write.
-pub record StreamedAndFailed (options : Options) (files : List (Option (List ℕ))) (recorded : List (Option Recorded))
-    (out error : Written) : Type 0 where
+pub record StreamedAndFailed (options : Options) (files : List (Option (List ℕ))) (has_writer : List Bool)
+    (recorded : List (Option Recorded)) (out error : Written) : Type 0 where
   pub failed : Bool
   pub failures : List ProxyFailure
   pub unwritten : List Bool
   pub complete : Bool
   pub stop : Option Stop
-  pub run : IsStreamed options files out.before out.after failed failures recorded complete stop
+  pub run : IsStreamed options files has_writer out.before out.after failed failures recorded complete stop
   pub lines_of_failures :
       HasFailed error ⊎ Took error (unwritten_lines unwritten ++ failure_lines failures (ending_of complete stop))
   pub why :
@@ -51,6 +58,6 @@ pub record StreamedAndFailed (options : Options) (files : List (Option (List ℕ
       → HasFailed error)
 
 -- The program failed.
-abbrev pub FailsToStream : Options → List (Option (List ℕ)) → List (Option Recorded) → Written → Written → Type 0
-FailsToStream options files recorded out error =
-    DidNotStart out error ⊎ StreamedAndFailed options files recorded out error
+abbrev pub FailsToStream : Options → List (Option (List ℕ)) → List Bool → List (Option Recorded) → Written → Written → Type 0
+FailsToStream options files has_writer recorded out error =
+    DidNotStart out error ⊎ StreamedAndFailed options files has_writer recorded out error

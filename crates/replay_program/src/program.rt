@@ -6,7 +6,8 @@ ghost use Rattle.std.specs.Io.KnownBytes.{Keeps};
 ghost use Rattle.resolver.specs.declared.resolver_core.TheConstants.{MAX_PROXIES};
 ghost use Rattle.replay_arguments.specs.Opening.{contents_each};
 ghost use Rattle.replay_program.specs.Program.{ChecksFiles, FailsOnFiles, FailsToCheck};
-ghost use Rattle.replay_program.specs.Program.{HasDifferences, IsDone, IsFailed, Told};
+ghost use Rattle.replay_program.specs.Program.{FailsOnStream, HasDifferences, IsDone, IsFailed};
+ghost use Rattle.replay_program.specs.Program.{StreamsFiles, Told};
 ghost use Rattle.replay_program.specs.Replayed.{IsReplayed, written};
 ghost use Rattle.replay_arguments.specs.Words.{IsMistaken};
 
@@ -39,12 +40,14 @@ pub fn run<R: Threads + Wait + Copy + Send + 'static, F: Files, O: Sink, E: Sink
     out: &mut O,
     error: &mut E,
 ) -> Status
-    ensures done { result ≡ Status.Done → IsDone (F.contents files.now) (map string_bytes words.now)
+    ensures done { result ≡ Status.Done
+        → IsDone (F.contents files.now) (F.begun files.now) (map string_bytes words.now)
         (written (O.given out.old) (O.given out.new) (O.failures out.old) (O.failures out.new)) }
     ensures quiet { result ≡ Status.Done → Keeps (E.given error.old) (E.given error.new) }
     ensures quiet_too { result ≡ Status.Differs → Keeps (E.given error.old) (E.given error.new) }
     ensures failed { result ≡ Status.Failed
         → IsFailed (F.has_opened files.now) (F.cannot_open files.now) (F.contents files.now)
+        (F.has_created files.now) (F.cannot_create files.now) (F.begun files.now)
         (map string_bytes words.now)
         (written (O.given out.old) (O.given out.new) (O.failures out.old) (O.failures out.new))
         (written (E.given error.old) (E.given error.new) (E.failures error.old)
@@ -174,6 +177,23 @@ pub fn stream_files<R: Threads + Wait + Copy + Send + 'static, F: Files, O: Sink
 ) -> Status
     requires least_files { 1 ≤ vec_len line.now.files }
     requires most_files { vec_len line.now.files ≤ MAX_PROXIES }
+    requires no_more { vec_len line.now.records ≤ vec_len line.now.files }
+    ensures done { result ≡ Status.Done
+        → StreamsFiles (F.contents files.now) (F.begun files.now) line.now.options
+        (map (λ name. name.now) line.now.files.items)
+        (map (λ name. name.now) line.now.records.items)
+        (O.given out.old) (O.given out.new) }
+    ensures quiet { result ≡ Status.Done → Keeps (E.given error.old) (E.given error.new) }
+    ensures failed { result ≡ Status.Failed
+        → FailsOnStream (F.has_opened files.now) (F.cannot_open files.now) (F.contents files.now)
+        (F.has_created files.now) (F.cannot_create files.now) (F.begun files.now)
+        line.now.options (map (λ name. name.now) line.now.files.items)
+        (map (λ name. name.now) line.now.records.items)
+        (written (O.given out.old) (O.given out.new) (O.failures out.old) (O.failures out.new))
+        (written (E.given error.old) (E.given error.new) (E.failures error.old)
+        (E.failures error.new)) }
+    ensures ends { result ≢ Status.Usage }
+    ensures same { result ≢ Status.Differs }
 {
     let readers = match open_files(alloc, files, &line.files) {
         Ok(readers) => readers,

@@ -1,6 +1,7 @@
 //! All that follows the opening of the files where answers are printed as they come.
 
-ghost use Rattle.std.specs.Prelude.{◌≡◌, ◌≤◌, ◌<◌, ◌≢◌, ◌↔◌, ◌++◌, map, vec_len, IsErr, OnOk};
+ghost use Rattle.std.specs.Prelude.{◌≡◌, ◌≤◌, ◌<◌, ◌≢◌, ◌↔◌, ◌++◌, is_some, map, vec_len, IsErr};
+ghost use Rattle.std.specs.Prelude.{OnOk};
 ghost use Rattle.std.specs.Io.KnownBytes.{Appends, Keeps};
 ghost use Rattle.replay_output.specs.Failures.{failure_lines};
 ghost use Rattle.replay_output.specs.Unwritten.{unwritten_lines};
@@ -58,7 +59,7 @@ pub fn stream_over<
     // order, and nothing else. The lines printed for each proxy are those of all its answers by
     // that log, in order, and so are its records.
     ensures done { result.status ≡ Status.Done
-        → IsStreamDone options (map S.remaining readers.items)
+        → IsStreamDone options (map S.remaining readers.items) (map is_some records.items)
         (recorded_each W.given records.items result.recorders.items)
         (O.given out.old) (O.given out.new) }
     ensures quiet { result.status ≡ Status.Done → Keeps (E.given error.old) (E.given error.new) }
@@ -66,7 +67,7 @@ pub fn stream_over<
     // Something failed, and its lines were written, or a writer failed. The lines and the records
     // of each proxy are those of its first answers.
     ensures failed { result.status ≡ Status.Failed
-        → FailsToStream options (map S.remaining readers.items)
+        → FailsToStream options (map S.remaining readers.items) (map is_some records.items)
         (recorded_each W.given records.items result.recorders.items)
         (written (O.given out.old) (O.given out.new) (O.failures out.old) (O.failures out.new))
         (written (E.given error.old) (E.given error.new) (E.failures error.old)

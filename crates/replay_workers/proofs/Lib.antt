@@ -12,4 +12,6 @@ pub mod Recording
 pub mod Outlets
 pub mod Passing
 pub mod Streams
+pub mod Places
+pub mod Joining
 pub mod StreamRuns

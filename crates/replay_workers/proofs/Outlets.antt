@@ -19,10 +19,10 @@ use Rattle.replay_workers.specs.Outlet.{is_whole, PassesOn, OutletGoesOn, TookTe
 use Rattle.replay_workers.proofs.Recording.{Begins, begins_then}
 use Rattle.replay_workers.proofs.SameLanes.{port_goes_on, intake_goes_on}
 
-port_same : {T : Type 0} (a : PortView T) → PortGoesOn a a
+pub port_same : {T : Type 0} (a : PortView T) → PortGoesOn a a
 port_same a = record { lane = refl; capacity = refl; seen_taken = omega arith; looks = omega arith }
 
-intake_same : {T : Type 0} (a : IntakeView T) → IntakeGoesOn a a
+pub intake_same : {T : Type 0} (a : IntakeView T) → IntakeGoesOn a a
 intake_same a = record {
   lane = refl;
   capacity = refl;

@@ -1,16 +1,53 @@
 -- What one outlet passes on in one step.
-use Rattle.std.specs.Prelude.{◌≡◌, ℕ, Bool, true, false, List, [], ◌∷◌, ◌++◌, Option, None}
+use Rattle.std.specs.Prelude.{◌≡◌, ℕ, Bool, true, false, List, [], ◌∷◌, ◌++◌, Option, None, Some, option_to_list}
 use Rattle.std.specs.List.{flat_map}
 use Rattle.std.proofs.Common.{refl, sym, ap, subst, ◌∙◌, append-nil}
 use Rattle.std.proofs.lemmas.Bool.{false≢true}
 use Rattle.keyspace.specs.declared.answer.Answer.{Answer}
-use Rattle.lane.specs.Lane.{IntakeGoesOn}
+use Rattle.lane.specs.Lane.{IntakeGoesOn, PortGoesOn, PortView}
 use Rattle.wire.proofs.callers.Given.{appends_none}
 use Rattle.replay_output.specs.declared.options.form.Form.{Form}
 use Rattle.replay_output.specs.Lines.{line}
 use Rattle.replay_workers.specs.declared.stream.outlet.Outlet.{Outlet}
 use Rattle.replay_workers.specs.Outlet.{is_whole, PassesOn, TookText, PassesSome}
-use Rattle.replay_workers.proofs.Outlets.{broken}
+use Rattle.replay_workers.proofs.Outlets.{broken, port_same}
+
+-- an answer was sent to the recorder, or it waits
+pub passes_sent : (a b : PortView Answer) (answer : Answer) → PortGoesOn a b → b.sent ≡ a.sent ++ answer ∷ []
+    → PassesOn (Some a) (Some b) None None (answer ∷ [])
+passes_sent a b answer goes sent = (
+  goes,
+  append-nil b.sent ∙ sent ∙ ap (λ (l : List Answer). l ++ answer ∷ []) (sym (append-nil a.sent)),
+)
+
+pub passes_kept : (a b : PortView Answer) (answer refused : Answer) → PortGoesOn a b → b.sent ≡ a.sent → refused ≡ answer
+    → PassesOn (Some a) (Some b) None (Some refused) (answer ∷ [])
+passes_kept a b answer refused goes same is = (
+  goes,
+  ap (λ (x : Answer). b.sent ++ x ∷ []) is
+      ∙ ap (λ (l : List Answer). l ++ answer ∷ []) (same ∙ sym (append-nil a.sent)),
+)
+
+-- the answer that waited was passed on
+pub passes_waiting : (a b : Option (PortView Answer)) (now : Option Answer) (answer : Answer) → PassesOn a b None now (answer ∷ [])
+    → PassesOn a b (Some answer) now []
+passes_waiting None None now answer passed = tt
+passes_waiting None (Some b) now answer passed = absurd passed
+passes_waiting (Some a) None now answer passed = absurd passed
+passes_waiting (Some a) (Some b) now answer passed = (
+  passed.0,
+  passed.1 ∙ ap (λ (l : List Answer). l ++ answer ∷ []) (append-nil a.sent) ∙ sym (append-nil (a.sent ++ answer ∷ [])),
+)
+
+-- the recorder's lane was closed
+pub passes_closed : (a b : PortView Answer) (waits : Option Answer) → b ≡ record a { closed = true }
+    → PassesOn (Some a) (Some b) waits waits []
+passes_closed a b waits is =
+    subst (λ (b : PortView Answer). PassesOn (Some a) (Some b) waits waits []) (sym is)
+    (closes, sym (append-nil (a.sent ++ option_to_list waits)))
+  where
+    closes : PortGoesOn a (record a { closed = true })
+    closes = record { lane = refl; capacity = refl; seen_taken = (port_same a).seen_taken; looks = (port_same a).looks }
 
 -- nothing was taken, and nothing printed
 pub passes_nothing : (form : Form) (failed : Bool) (given : Option (List ℕ)) (old new : Outlet)

@@ -1,29 +1,30 @@
 -- A stream, put together of what was done for each proxy and of what was settled.
-use Rattle.std.specs.Prelude.{◌≡◌, ℕ, zero, suc, ◌+◌, ◌<◌, Bool, true, false, ◌&&◌, List, [], ◌∷◌, ◌++◌, length, map, Option, Some, None, IfSome, option_to_list, slice_get}
+use Rattle.std.specs.Prelude.{◌≡◌, ℕ, ◌+◌, ◌<◌, Bool, true, false, ◌&&◌, List, [], ◌∷◌, ◌++◌, length, map, Option, Some, None, IfSome, is_some, option_to_list, slice_get}
 use Rattle.std.specs.List.{AllZip, All}
 use Rattle.std.proofs.Common.{refl, sym, ap, subst, ◌∙◌, arith}
 use Rattle.std.proofs.lemmas.List.{length-map}
 use Rattle.std.proofs.lemmas.Slice.Zip.{AllZip-long}
-use Rattle.std.proofs.lemmas.Option.{none-some, same_Some}
+use Rattle.std.proofs.lemmas.Option.{same_Some}
 use Rattle.keyspace.specs.declared.answer.Answer.{Answer}
 use Rattle.keyspace.specs.declared.batch.Batch.{Batch}
 use Rattle.keyspace.specs.Run.{Step, part}
-use Rattle.lane.specs.Lane.{IntakeView, PortView}
+use Rattle.lane.specs.Lane.{HasEnded, IntakeGoesOn, IntakeView, PortGoesOn, PortView}
 use Rattle.resolver.specs.declared.client.Client.{Client}
 use Rattle.resolver.specs.declared.turn.Account.{Account}
 use Rattle.resolver.specs.Lanes.{Lanes, has_ended, sent_to}
 use Rattle.resolver.specs.Resolver.{IsNewClient, TakesOnlyFrom}
 use Rattle.resolver.specs.Settled.{Settled}
 use Rattle.replay_output.specs.declared.failures.ProxyFailure.{ProxyFailure}
+use Rattle.replay_output.specs.declared.options.form.Form.{Form}
 use Rattle.replay_output.specs.declared.options.Options.{Options}
-use Rattle.replay_output.specs.Streamed.{Printed, printed_for}
+use Rattle.replay_output.specs.Streamed.{Printed, printed_for, stream_text}
 use Rattle.replay_workers.specs.declared.stream.outlet.Outlet.{Outlet}
 use Rattle.replay_workers.specs.declared.stream.proxies.Proxy.{Proxy}
 use Rattle.replay_workers.specs.declared.stream.proxies.Task.{Task}
-use Rattle.replay_workers.specs.declared.stream.recorder.Recorder.{Recorder}
 use Rattle.replay_workers.specs.declared.stream.streamed.Streamed.{Streamed}
-use Rattle.replay_workers.specs.Outlet.{HavePassedAll, StreamGoesOn, is_whole, OutletGoesOn}
+use Rattle.replay_workers.specs.Outlet.{AreNumbered, HasPassedAll, HavePassedAll, OutletGoesOn, StreamGoesOn, TookText, is_whole}
 use Rattle.replay_workers.specs.Proxies.{
+  AreEnds,
   GivenProxy,
   GivenThreads,
   HasJoined,
@@ -42,278 +43,292 @@ use Rattle.replay_workers.specs.Proxies.{
 }
 use Rattle.replay_workers.specs.Stops.{IsStopOf}
 use Rattle.replay_workers.specs.Streaming.{IsStreamed, IsStreamedFor, LeavesLast, Recorded, recorded_each}
-use Rattle.replay_workers.specs.Worker.{TakesFrames}
+use Rattle.replay_workers.specs.Worker.{ClientGoesOn, TakesFrames}
 use Rattle.replay_workers.proofs.callers.Lists.{all_at, found}
+use Rattle.replay_workers.proofs.Places.{all_of, from_map, given_at, given_number, is_recorded, length_given, length_recorded, recorded_at, zip_at, zip_of}
 use Rattle.replay_workers.proofs.Runs.{mapped_at}
 use Rattle.replay_workers.proofs.Serving.{both}
-use Rattle.replay_workers.proofs.Streams.{recorded_of, streamed_for}
+use Rattle.replay_workers.proofs.Streams.{ends_of, recorded_of, streamed_for}
 
--- both lists have something at a place, or neither
-pub length_given : {S W : Type 0} (first : ℕ) (clients : List Client) (readers : List S) (outs : List (Option W))
-    → length readers ≡ length clients → length outs ≡ length clients
-    → length (given_proxies first clients readers outs) ≡ length clients
-length_given first [] readers outs same as_many = refl
-length_given first (c ∷ clients) [] outs same as_many = absurd (omega (arith, same))
-length_given first (c ∷ clients) (r ∷ readers) [] same as_many = absurd (omega (arith, as_many))
-length_given first (c ∷ clients) (r ∷ readers) (o ∷ outs) same as_many =
-    let rest = length_given (first + 1) clients readers outs (omega (arith, same)) (omega (arith, as_many)) in
-    omega (arith, rest)
+module _ {S W G : Type 0} (readers : List S) (outs : List (Option W)) (clients : List Client) (tasks : List (Task S W G))
+    (same : length readers ≡ length clients) (as_many : length outs ≡ length clients)
+    (given : map (λ (t : Task S W G). given_with t.outlet (threads_by t)) tasks ≡ given_proxies 0 clients readers outs) where
+  pub tasks_count : length tasks ≡ length clients
+  tasks_count = sym (length-map tasks (λ (t : Task S W G). given_with t.outlet (threads_by t))) ∙ ap length given
+      ∙ length_given 0 clients readers outs same as_many
 
--- what the proxy at a place was given
-pub given_at : {S W : Type 0} (first : ℕ) (clients : List Client) (readers : List S) (outs : List (Option W))
-    → length readers ≡ length clients → length outs ≡ length clients → (place : ℕ) (c : Client) (r : S) (o : Option W)
-    → slice_get clients place ≡ Some c → slice_get readers place ≡ Some r → slice_get outs place ≡ Some o
-    → slice_get (given_proxies first clients readers outs) place
-    ≡ Some (record { proxy = first + place; client = c; reader = r; out = o })
-given_at first [] readers outs same as_many place c r o at_c at_r at_o = absurd (none-some c at_c)
-given_at first (d ∷ clients) [] outs same as_many place c r o at_c at_r at_o = absurd (omega (arith, same))
-given_at first (d ∷ clients) (s ∷ readers) [] same as_many place c r o at_c at_r at_o = absurd (omega (arith, as_many))
-given_at {S = S} {W = W} first (d ∷ clients) (s ∷ readers) (p ∷ outs) same as_many zero c r o at_c at_r at_o =
-    let number : first ≡ first + 0 = omega arith in
-    ap (λ (n : ℕ). Some (the_given n d s p)) number
-    ∙ ap (λ (c : Client). Some (the_given (first + 0) c s p)) (same_Some d c at_c)
-    ∙ ap (λ (r : S). Some (the_given (first + 0) c r p)) (same_Some s r at_r)
-    ∙ ap (λ (o : Option W). Some (the_given (first + 0) c r o)) (same_Some p o at_o)
-  where
-    the_given : ℕ → Client → S → Option W → GivenProxy S W
-    the_given n c r o = record { proxy = n; client = c; reader = r; out = o }
-given_at {S = S} {W = W} first (d ∷ clients) (s ∷ readers) (p ∷ outs) same as_many (suc place) c r o at_c at_r at_o =
-    given_at (first + 1) clients readers outs (omega (arith, same)) (omega (arith, as_many)) place c r o at_c at_r at_o
-    ∙ ap (λ (n : ℕ). Some (record { proxy = n; client = c; reader = r; out = o })) (omega arith)
-
--- what the relation says at a place
-pub zip_at : {X Y : Type 0} (R : X → Y → Type 0) (xs : List X) (ys : List Y) (place : ℕ) (x : X) (y : Y)
-    → AllZip R xs ys → slice_get xs place ≡ Some x → slice_get ys place ≡ Some y → R x y
-zip_at R [] ys place x y all at there = absurd (none-some x at)
-zip_at R (first ∷ xs) [] place x y all at there = absurd all
-zip_at {X = X} {Y = Y} R (first ∷ xs) (other ∷ ys) zero x y all at there =
-    subst (λ (pair : X × Y). R pair.0 pair.1) (λ i. (same_Some first x at i, same_Some other y there i)) all.0
-zip_at R (first ∷ xs) (other ∷ ys) (suc place) x y all at there = zip_at R xs ys place x y all.1 at there
-
--- the items that a list was made from
-pub from_map : {X Y : Type 0} (f : X → Y) (xs : List X) (place : ℕ) (y : Y) → slice_get (map f xs) place ≡ Some y
-    → (x : X) × (slice_get xs place ≡ Some x) × (f x ≡ y)
-from_map f [] place y at = absurd (none-some y at)
-from_map f (x ∷ xs) zero y at = (x, refl, same_Some (f x) y at)
-from_map f (x ∷ xs) (suc place) y at = from_map f xs place y at
-
--- the writers with their recorders, place by place
-pub recorded_at : {W : Type 0} (given_to : W → Option (List ℕ)) (outs : List (Option W)) (recorders : List (Option (Recorder W)))
-    (place : ℕ) (o : Option W) (r : Option (Recorder W)) → slice_get outs place ≡ Some o → slice_get recorders place ≡ Some r
-    → slice_get (recorded_each given_to outs recorders) place ≡ Some (recorded_of given_to o r)
-recorded_at given_to [] recorders place o r at there = absurd (none-some o at)
-recorded_at given_to (o ∷ outs) [] place p r at there = absurd (none-some r there)
-recorded_at {W} given_to (None ∷ outs) (q ∷ recorders) zero o r at there =
-    subst (λ (o : Option W). ◌≡◌ {A = Option (Option Recorded)} (Some None) (Some (recorded_of given_to o r))) (same_Some None o at) refl
-recorded_at {W} given_to (Some w ∷ outs) (None ∷ recorders) zero o r at there =
-    subst (λ (o : Option W). ◌≡◌ {A = Option (Option Recorded)} (Some None) (Some (recorded_of given_to o r))) (same_Some (Some w) o at)
-    (subst (λ (r : Option (Recorder W)). ◌≡◌ {A = Option (Option Recorded)} (Some None) (Some (recorded_of given_to (Some w) r)))
-    (same_Some None r there) refl)
-recorded_at {W} given_to (Some w ∷ outs) (Some q ∷ recorders) zero o r at there =
-    subst (λ (o : Option W). Some (recorded_of given_to (Some w) (Some q)) ≡ Some (recorded_of given_to o r)) (same_Some (Some w) o at)
-    (subst (λ (r : Option (Recorder W)). Some (recorded_of given_to (Some w) (Some q)) ≡ Some (recorded_of given_to (Some w) r))
-    (same_Some (Some q) r there) refl)
-recorded_at given_to (None ∷ outs) (q ∷ recorders) (suc place) o r at there = recorded_at given_to outs recorders place o r at there
-recorded_at given_to (Some w ∷ outs) (None ∷ recorders) (suc place) o r at there =
-    recorded_at given_to outs recorders place o r at there
-recorded_at given_to (Some w ∷ outs) (Some q ∷ recorders) (suc place) o r at there =
-    recorded_at given_to outs recorders place o r at there
-
-pub length_recorded : {W : Type 0} (given_to : W → Option (List ℕ)) (outs : List (Option W)) (recorders : List (Option (Recorder W)))
-    → length recorders ≡ length outs → length (recorded_each given_to outs recorders) ≡ length outs
-length_recorded given_to [] recorders same = refl
-length_recorded given_to (o ∷ outs) [] same = absurd (omega (arith, same))
-length_recorded given_to (None ∷ outs) (q ∷ recorders) same =
-    let rest = length_recorded given_to outs recorders (omega (arith, same)) in
-    omega (arith, rest)
-length_recorded given_to (Some w ∷ outs) (None ∷ recorders) same =
-    let rest = length_recorded given_to outs recorders (omega (arith, same)) in
-    omega (arith, rest)
-length_recorded given_to (Some w ∷ outs) (Some q ∷ recorders) same =
-    let rest = length_recorded given_to outs recorders (omega (arith, same)) in
-    omega (arith, rest)
-
-module _ {S W G : Type 0} (remaining : S → Option (List ℕ)) (given_to : W → Option (List ℕ)) (options : Options) (readers : List S)
-    (outs : List (Option W)) (clients : List Client) (tasks : List (Task S W G)) (ended : List (Proxy S W)) (joined : List (Joined W))
-    (streamed : Streamed W) (log : List Step) (lanes : List Lanes) (account : Account) (has_failed : Bool)
-    (before after : Option (List ℕ)) (same : length readers ≡ length clients) (as_many : length outs ≡ length clients)
-    (new : All (IsNewClient options.capacity) clients)
-    (given : map (λ (t : Task S W G). given_with t.outlet (threads_by t)) tasks ≡ given_proxies 0 clients readers outs)
-    (fresh : All (λ (t : Task S W G). IsNewOutlet t.outlet (threads_by t).answers) tasks)
-    (threads : map threads_of ended ≡ map (λ (t : Task S W G). threads_by t) tasks)
-    (goes : StreamGoesOn options.form false has_failed before after (map (λ (t : Task S W G). t.outlet) tasks) (outlets_of ended))
-    (passed : HavePassedAll (outlets_of ended)) (worked : AllZip (IsJoined remaining given_to) ended joined)
-    (settled : Settled options.window log lanes (map client_of joined) account)
-    (whole : account.stop ≡ None → account.complete ≡ true) where
-  -- all that belongs to one proxy
-  pub record Place (proxy : ℕ) (bytes : Option (List ℕ)) (j : Joined W) : Type 0 where
-    pub task : Task S W G
-    pub at_task : slice_get tasks proxy ≡ Some task
-    pub running : Proxy S W
-    pub at_running : slice_get ended proxy ≡ Some running
+  -- what one proxy was given
+  pub record Place (proxy : ℕ) (task : Task S W G) : Type 0 where
     pub client : Client
     pub at_client : slice_get clients proxy ≡ Some client
     pub reader : S
-    pub bytes_are : remaining reader ≡ bytes
+    pub at_reader : slice_get readers proxy ≡ Some reader
     pub out : Option W
     pub at_out : slice_get outs proxy ≡ Some out
     pub was_given : given_with task.outlet (threads_by task) ≡ record { proxy = proxy; client = client; reader = reader; out = out }
 
-  tasks_count : length tasks ≡ length clients
-  tasks_count = sym (length-map tasks (λ (t : Task S W G). given_with t.outlet (threads_by t))) ∙ ap length given
-      ∙ length_given 0 clients readers outs same as_many
+  given_here : (proxy : ℕ) (task : Task S W G) → slice_get tasks proxy ≡ Some task
+      → slice_get (given_proxies 0 clients readers outs) proxy ≡ Some (given_with task.outlet (threads_by task))
+  given_here proxy task at =
+      ap (λ l. slice_get l proxy) (sym given)
+      ∙ mapped_at (λ (t : Task S W G). given_with t.outlet (threads_by t)) tasks proxy task at
 
-  ended_count : length ended ≡ length clients
-  ended_count = sym (length-map ended threads_of) ∙ ap length threads ∙ length-map tasks (λ (t : Task S W G). threads_by t) ∙ tasks_count
-
-  pub place_of : (proxy : ℕ) (bytes : Option (List ℕ)) (j : Joined W) → slice_get (map remaining readers) proxy ≡ Some bytes
-      → slice_get joined proxy ≡ Some j → Place proxy bytes j
-  place_of proxy bytes j at there =
-      let r = from_map remaining readers proxy bytes at in
-      let c = found readers clients proxy r.0 (sym same) r.1 in
+  pub place_of : (proxy : ℕ) (task : Task S W G) → slice_get tasks proxy ≡ Some task → Place proxy task
+  place_of proxy task at =
+      let c = found tasks clients proxy task (sym tasks_count) at in
+      let r = found clients readers proxy c.0 same c.1 in
       let o = found clients outs proxy c.0 as_many c.1 in
-      let t = found clients tasks proxy c.0 tasks_count c.1 in
-      let p = found clients ended proxy c.0 ended_count c.1 in
-      let here = given_at 0 clients readers outs same as_many proxy c.0 r.0 o.0 c.1 r.1 o.1 in
-      let is = mapped_at (λ (t : Task S W G). given_with t.outlet (threads_by t)) tasks proxy t.0 t.1 in
       record {
-        task = t.0;
-        at_task = t.1;
-        running = p.0;
-        at_running = p.1;
         client = c.0;
         at_client = c.1;
         reader = r.0;
-        bytes_are = r.2;
+        at_reader = r.1;
         out = o.0;
         at_out = o.1;
         was_given =
-            same_Some _ _ (sym is ∙ ap (λ l. slice_get l proxy) given ∙ here)
-            ∙ ap (λ (n : ℕ). record { proxy = n; client = c.0; reader = r.0; out = o.0 }) (omega arith);
+            same_Some _ _ (sym (given_here proxy task at) ∙ given_at 0 clients readers outs same as_many proxy c.0 r.0 o.0 c.1 r.1 o.1)
+            ∙ ap (λ (n : ℕ). the_given n c.0 r.0 o.0) (omega arith);
       }
+    where
+      the_given : ℕ → Client → S → Option W → GivenProxy S W
+      the_given n c r o = record { proxy = n; client = c; reader = r; out = o }
 
-  joined_count : length joined ≡ length (map remaining readers)
-  joined_count = AllZip-long (IsJoined remaining given_to) ended joined worked ∙ ended_count ∙ sym same
-      ∙ sym (length-map readers remaining)
+  pub are_numbered : AreNumbered (map (λ (t : Task S W G). t.outlet) tasks)
+  are_numbered proxy l at =
+      let t = from_map (λ (t : Task S W G). t.outlet) tasks proxy l at in
+      let number = given_number 0 clients readers outs proxy _ (given_here proxy t.0 t.1) in
+      ap (λ (l : Outlet). l.proxy) (sym t.2) ∙ number ∙ omega arith
 
-  module _ (of_joined : IsStreamedOf joined streamed) where
-    streamed_at : (proxy : ℕ) (bytes : Option (List ℕ)) (j : Joined W) (at : slice_get (map remaining readers) proxy ≡ Some bytes)
-        (there : slice_get joined proxy ≡ Some j)
-        → IsStreamedFor options.window log (account.complete && streamed.all_sent) has_failed account.stop bytes proxy
-        (printed_for proxy goes.printed) (failure_with j) (recorded_of given_to (place_of proxy bytes j at there).out j.recorder)
-    streamed_at proxy bytes j at there =
-        let place = place_of proxy bytes j at there in
-        let task = place.task in
-        let running = place.running in
-        let client = all_at (IsNewClient options.capacity) clients proxy place.client new place.at_client in
-        let is_new = all_at (λ (t : Task S W G). IsNewOutlet t.outlet (threads_by t).answers) tasks proxy task fresh place.at_task in
-        let requests : (threads_by task).requests ≡ place.client.requests =
-        ap (λ (g : GivenProxy S W). g.client.requests) place.was_given in
-        let replies : task.outlet.replies ≡ place.client.replies =
-        ap (λ (g : GivenProxy S W). g.client.replies) place.was_given in
-        let reader : remaining (threads_by task).reader ≡ bytes =
-        ap (λ (g : GivenProxy S W). remaining g.reader) place.was_given ∙ place.bytes_are in
-        let out : (threads_by task).out ≡ place.out = ap (λ (g : GivenProxy S W). g.out) place.was_given in
-        let outlet_at = mapped_at (λ (t : Task S W G). t.outlet) tasks proxy task place.at_task in
-        let ended_at = mapped_at (λ (p : Proxy S W). p.outlet) ended proxy running place.at_running in
-        let goes_on = goes.each.each proxy task.outlet running.outlet outlet_at ended_at in
-        let same_threads : threads_of running ≡ threads_by task =
-        same_Some (threads_of running) (threads_by task) (sym (mapped_at threads_of ended proxy running place.at_running)
-        ∙ ap (λ l. slice_get l proxy) threads ∙ mapped_at (λ (t : Task S W G). threads_by t) tasks proxy task place.at_task) in
-        let has : HasJoined remaining given_to running.outlet (threads_by task) j =
-        subst (λ (given : GivenThreads S W). HasJoined remaining given_to running.outlet given j) same_threads
-        (zip_at (IsJoined remaining given_to) ended joined proxy running j worked place.at_running there) in
-        let here = mapped_at client_of joined proxy j there in
-        subst (λ (o : Option W). IsStreamedFor options.window log (account.complete && streamed.all_sent) has_failed account.stop bytes
-        proxy (printed_for proxy goes.printed) (failure_with j) (recorded_of given_to o j.recorder)) out
-        (subst (λ (bytes : Option (List ℕ)). IsStreamedFor options.window log (account.complete && streamed.all_sent) has_failed
-        account.stop bytes proxy (printed_for proxy goes.printed) (failure_with j) (recorded_of given_to (threads_by task).out j.recorder))
-        reader
-        (streamed_for given_to remaining options.window log (has_ended lanes proxy) streamed.all_sent has_failed (sent_to lanes proxy) account
-        proxy (threads_by task) task.outlet running.outlet j (printed_for proxy goes.printed) goes_on.0
-        (ap (λ (p : PortView Batch). p.sent) (requests ∙ client.requests))
-        (ap (λ (i : IntakeView Answer). i.taken) (replies ∙ client.replies)) is_new.none_waits is_new.ends goes_on.1
-        (passed proxy running.outlet ended_at) has (settled.each proxy (client_of j) here) (settled.reported proxy (client_of j) here)
-        (λ all. all_at SendsAll joined proxy j (of_joined.all_sent all) there) whole))
+  module _ (form : Form) (has_failed : Bool) (before after : Option (List ℕ)) (ended : List (Proxy S W))
+      (fresh : All (λ (t : Task S W G). IsNewOutlet t.outlet (threads_by t).answers) tasks)
+      (threads : map threads_of ended ≡ map (λ (t : Task S W G). threads_by t) tasks)
+      (goes : StreamGoesOn form false has_failed before after (map (λ (t : Task S W G). t.outlet) tasks) (outlets_of ended))
+      (passed : HavePassedAll (outlets_of ended)) where
+    pub ended_count : length ended ≡ length clients
+    ended_count = sym (length-map ended threads_of) ∙ ap length threads ∙ length-map tasks (λ (t : Task S W G). threads_by t)
+        ∙ tasks_count
 
-    -- without a stop, what is missing is a batch that could not be sent
-    leaves : (account.complete && streamed.all_sent) ≡ false → account.stop ≡ None → LeavesLast (map remaining readers) log
-    leaves not_all no_stop =
-        let yes = whole no_stop in
-        let not_sent : streamed.all_sent ≡ false = sym (ap (λ (b : Bool). b && streamed.all_sent) yes) ∙ not_all in
-        let back = of_joined.unsent not_sent in
-        let bytes = found joined (map remaining readers) back.place back.worker (sym joined_count) back.at in
-        let place = place_of back.place bytes.0 back.worker bytes.1 back.at in
-        let client = all_at (IsNewClient options.capacity) clients back.place place.client new place.at_client in
-        let requests : (threads_by place.task).requests ≡ place.client.requests =
-        ap (λ (g : GivenProxy S W). g.client.requests) place.was_given in
-        let reader : remaining (threads_by place.task).reader ≡ bytes.0 =
-        ap (λ (g : GivenProxy S W). remaining g.reader) place.was_given ∙ place.bytes_are in
-        let same_threads : threads_of place.running ≡ threads_by place.task =
-        same_Some (threads_of place.running) (threads_by place.task) (sym (mapped_at threads_of ended back.place place.running place.at_running)
-        ∙ ap (λ l. slice_get l back.place) threads
-        ∙ mapped_at (λ (t : Task S W G). threads_by t) tasks back.place place.task place.at_task) in
-        let has : HasJoined remaining given_to place.running.outlet (threads_by place.task) back.worker =
-        subst (λ (given : GivenThreads S W). HasJoined remaining given_to place.running.outlet given back.worker) same_threads
-        (zip_at (IsJoined remaining given_to) ended joined back.place place.running back.worker worked place.at_running back.at) in
-        let sends = has.sent.sends in
-        let settled_for = settled.each back.place (client_of back.worker) (mapped_at client_of joined back.place back.worker back.at) in
-        let sent : sends.batches ≡ part log back.place =
-        sym (ap (λ (l : List Batch). l ++ sends.batches) (ap (λ (p : PortView Batch). p.sent) (requests ∙ client.requests)))
-        ∙ sym sends.sent ∙ sym (settled_for.all_batches (settled_for.all_ended yes)) in
+    -- a proxy whose outlet has ended, and the task that it was started with
+    pub record Ran (proxy : ℕ) (running : Proxy S W) : Type 0 where
+      pub task : Task S W G
+      pub at_task : slice_get tasks proxy ≡ Some task
+      pub same_threads : threads_of running ≡ threads_by task
+      pub is_new : IsNewOutlet task.outlet (threads_by task).answers
+      pub dropped : List Answer
+      pub goes_on :
+          OutletGoesOn (printed_for proxy goes.printed) dropped (is_whole task.outlet.lost false)
+          (is_whole running.outlet.lost has_failed) task.outlet running.outlet
+      pub has_passed : HasPassedAll running.outlet
+
+    pub ran_at : (proxy : ℕ) (running : Proxy S W) → slice_get ended proxy ≡ Some running → Ran proxy running
+    ran_at proxy running at =
+        let t = found ended tasks proxy running (tasks_count ∙ sym ended_count) at in
+        let outlet_at = mapped_at (λ (t : Task S W G). t.outlet) tasks proxy t.0 t.1 in
+        let ended_at = mapped_at (λ (p : Proxy S W). p.outlet) ended proxy running at in
+        let goes_on = goes.each.each proxy t.0.outlet running.outlet outlet_at ended_at in
         record {
-          proxy = back.place;
-          bytes = bytes.0;
-          of_proxy = bytes.1;
-          batch = back.batch;
-          left = sends.left;
-          read =
-              subst (λ (bytes : Option (List ℕ)). TakesFrames bytes sends.left (part log back.place ++ back.batch ∷ [])) reader
-              (subst (λ (l : List Batch). TakesFrames (remaining (threads_by place.task).reader) sends.left (l ++ back.batch ∷ [])) sent
-              (subst (λ (u : Option Batch). TakesFrames (remaining (threads_by place.task).reader) sends.left
-              (sends.batches ++ option_to_list u)) back.unsent sends.frames));
+          task = t.0;
+          at_task = t.1;
+          same_threads =
+              same_Some (threads_of running) (threads_by t.0) (sym (mapped_at threads_of ended proxy running at)
+              ∙ ap (λ l. slice_get l proxy) threads ∙ mapped_at (λ (t : Task S W G). threads_by t) tasks proxy t.0 t.1);
+          is_new = all_at (λ (t : Task S W G). IsNewOutlet t.outlet (threads_by t).answers) tasks proxy t.0 fresh t.1;
+          dropped = goes_on.0;
+          goes_on = goes_on.1;
+          has_passed = passed proxy running.outlet ended_at;
         }
 
-    pub is_streamed : IfSome account.stop (IsStopOf options.limit options.window log)
-        → IsStreamed options (map remaining readers) before after has_failed streamed.failures.items
-        (recorded_each given_to outs streamed.recorders.items) (account.complete && streamed.all_sent) account.stop
-    is_streamed met =
-        let clients_same : length clients ≡ length (map remaining readers) = sym same ∙ sym (length-map readers remaining) in
-        let recorders_count : length streamed.recorders.items ≡ length outs =
-        ap length of_joined.recorders ∙ length-map joined (λ (j : Joined W). j.recorder) ∙ joined_count ∙ sym clients_same
-        ∙ sym as_many in
-        let tasks_same : length (map (λ (t : Task S W G). t.outlet) tasks) ≡ length (map remaining readers) =
-        length-map tasks (λ (t : Task S W G). t.outlet) ∙ tasks_count ∙ clients_same in
-        record {
-          log = log;
-          printed = goes.printed;
-          proxies =
-              subst (λ (n : ℕ). TakesOnlyFrom n log) (length-map joined client_of ∙ joined_count) settled.proxies;
-          failures_count = ap length of_joined.failures ∙ length-map joined failure_with ∙ joined_count;
-          recorded_count =
-              length_recorded given_to outs streamed.recorders.items recorders_count ∙ as_many ∙ clients_same;
-          known = subst (λ (n : ℕ). All (λ (p : Printed). p.proxy < n) goes.printed) tasks_same goes.known;
-          each = λ proxy bytes failure r at failure_at recorded_at_proxy.
-              let j = found (map remaining readers) joined proxy bytes joined_count at in
-              let place = place_of proxy bytes j.0 at j.1 in
-              let failure_here : slice_get streamed.failures.items proxy ≡ Some (failure_with j.0) =
-              ap (λ l. slice_get l proxy) of_joined.failures ∙ mapped_at failure_with joined proxy j.0 j.1 in
-              let recorder_here : slice_get streamed.recorders.items proxy ≡ Some j.0.recorder =
-              ap (λ l. slice_get l proxy) of_joined.recorders
-              ∙ mapped_at (λ (j : Joined W). j.recorder) joined proxy j.0 j.1 in
-              let recorded_here = recorded_at given_to outs streamed.recorders.items proxy place.out j.0.recorder place.at_out
-              recorder_here in
-              subst (λ (r : Option Recorded). IsStreamedFor options.window log (account.complete && streamed.all_sent) has_failed
-              account.stop bytes proxy (printed_for proxy goes.printed) failure r)
-              (same_Some _ r (sym recorded_here ∙ recorded_at_proxy))
-              (subst (λ (failure : ProxyFailure). IsStreamedFor options.window log (account.complete && streamed.all_sent) has_failed
-              account.stop bytes proxy (printed_for proxy goes.printed) failure (recorded_of given_to place.out j.0.recorder))
-              (same_Some (failure_with j.0) failure (sym failure_here ∙ failure_at)) (streamed_at proxy bytes j.0 at j.1));
-          text = goes.text refl;
-          chain = settled.chain;
-          serializable = settled.serializable;
-          finish = λ none. settled.finish (whole none);
-          no_stop = λ all. settled.no_stop (both account.complete streamed.all_sent all).0;
-          incomplete = leaves;
-          met = met;
-        }
+    -- the two ends of the lane to each recorder are of one lane
+    pub ends_each : All (λ (p : Proxy S W). AreEnds p.outlet.records (threads_of p).answers) ended
+    ends_each = all_of (λ (p : Proxy S W). AreEnds p.outlet.records (threads_of p).answers) ended (λ place p at.
+        let ran = ran_at place p at in
+        subst (λ (t : GivenThreads S W). AreEnds p.outlet.records t.answers) (sym ran.same_threads)
+        (ends_of ran.task.outlet.records p.outlet.records (threads_by ran.task).answers ran.task.outlet.waiting p.outlet.waiting _
+        ran.is_new.ends ran.goes_on.passed))
+
+    module _ (remaining : S → Option (List ℕ)) (given_to : W → Option (List ℕ)) (joined : List (Joined W))
+        (worked : AllZip (IsJoined remaining given_to) ended joined) where
+      pub joined_count : length joined ≡ length clients
+      joined_count = AllZip-long (IsJoined remaining given_to) ended joined worked ∙ ended_count
+
+      -- all that is known of one proxy
+      pub record Known (proxy : ℕ) (j : Joined W) : Type 0 where
+        pub running : Proxy S W
+        pub ran : Ran proxy running
+        pub place : Place proxy ran.task
+        pub has : HasJoined remaining given_to running.outlet (threads_by ran.task) j
+        pub requests : (threads_by ran.task).requests ≡ place.client.requests
+        pub replies : ran.task.outlet.replies ≡ place.client.replies
+        pub reader : (threads_by ran.task).reader ≡ place.reader
+        pub out : (threads_by ran.task).out ≡ place.out
+
+      pub known_at : (proxy : ℕ) (j : Joined W) → slice_get joined proxy ≡ Some j → Known proxy j
+      known_at proxy j at =
+          let p = found joined ended proxy j (ended_count ∙ sym joined_count) at in
+          let ran = ran_at proxy p.0 p.1 in
+          let place = place_of proxy ran.task ran.at_task in
+          record {
+            running = p.0;
+            ran = ran;
+            place = place;
+            has =
+                subst (λ (given : GivenThreads S W). HasJoined remaining given_to p.0.outlet given j) ran.same_threads
+                (zip_at (IsJoined remaining given_to) ended joined proxy p.0 j worked p.1 at);
+            requests = ap (λ (g : GivenProxy S W). g.client.requests) place.was_given;
+            replies = ap (λ (g : GivenProxy S W). g.client.replies) place.was_given;
+            reader = ap (λ (g : GivenProxy S W). g.reader) place.was_given;
+            out = ap (λ (g : GivenProxy S W). g.out) place.was_given;
+          }
+
+      -- the clients are those that were given
+      pub clients_joined : AllZip ClientGoesOn clients (map client_of joined)
+      clients_joined =
+          zip_of ClientGoesOn clients (map client_of joined) (length-map joined client_of ∙ joined_count) (λ proxy c d at there.
+          let j = from_map client_of joined proxy d there in
+          let known = known_at proxy j.0 j.1 in
+          let is : known.place.client ≡ c = same_Some _ c (sym known.place.at_client ∙ at) in
+          let replies = ap (λ (o : Outlet). o.replies) known.has.outlet_is in
+          subst (λ (c : Client). ClientGoesOn c d) is
+          (subst (λ (d : Client). ClientGoesOn known.place.client d) j.2
+          (record {
+            requests = subst (λ (p : PortView Batch). PortGoesOn p j.0.sent.requests) known.requests known.has.sent.requests;
+            replies =
+                subst (λ (i : IntakeView Answer). IntakeGoesOn known.place.client.replies i) (sym replies)
+                (subst (λ (i : IntakeView Answer). IntakeGoesOn i known.running.outlet.replies) known.replies
+                known.ran.goes_on.replies);
+          })))
+
+      -- and each has taken its answers to their end
+      pub clients_ended : (proxy : ℕ) (c : Client) → slice_get (map client_of joined) proxy ≡ Some c → HasEnded c.replies
+      clients_ended proxy c at =
+          let j = from_map client_of joined proxy c at in
+          let known = known_at proxy j.0 j.1 in
+          subst (λ (c : Client). HasEnded c.replies) j.2
+          (subst (λ (i : IntakeView Answer). HasEnded i) (sym (ap (λ (o : Outlet). o.replies) known.has.outlet_is))
+          known.ran.has_passed.ended)
+
+      module _ (options : Options) (form_is : form ≡ options.form) (log : List Step) (lanes : List Lanes) (account : Account)
+          (streamed : Streamed W) (new : All (IsNewClient options.capacity) clients)
+          (settled : Settled options.window log lanes (map client_of joined) account)
+          (whole : account.stop ≡ None → account.complete ≡ true) (of_joined : IsStreamedOf joined streamed) where
+        abbrev complete : Bool
+        complete = account.complete && streamed.all_sent
+
+        abbrev bytes_of : (proxy : ℕ) (j : Joined W) → Known proxy j → Option (List ℕ)
+        bytes_of proxy j known = remaining known.place.reader
+
+        streamed_at : (proxy : ℕ) (j : Joined W) (at : slice_get joined proxy ≡ Some j) (known : Known proxy j)
+            → IsStreamedFor options.window log complete has_failed account.stop (bytes_of proxy j known) proxy
+            (printed_for proxy goes.printed) (failure_with j) (recorded_of given_to known.place.out j.recorder)
+        streamed_at proxy j at known =
+            let ran = known.ran in
+            let client = all_at (IsNewClient options.capacity) clients proxy known.place.client new known.place.at_client in
+            let here = mapped_at client_of joined proxy j at in
+            subst (λ (o : Option W). IsStreamedFor options.window log complete has_failed account.stop (bytes_of proxy j known)
+            proxy (printed_for proxy goes.printed) (failure_with j) (recorded_of given_to o j.recorder)) known.out
+            (subst (λ (r : S). IsStreamedFor options.window log complete has_failed account.stop (remaining r)
+            proxy (printed_for proxy goes.printed) (failure_with j) (recorded_of given_to (threads_by ran.task).out j.recorder))
+            known.reader
+            (streamed_for given_to remaining options.window log (has_ended lanes proxy) streamed.all_sent has_failed (sent_to lanes proxy) account
+            proxy (threads_by ran.task) ran.task.outlet known.running.outlet j (printed_for proxy goes.printed) ran.dropped
+            (ap (λ (p : PortView Batch). p.sent) (known.requests ∙ client.requests))
+            (ap (λ (i : IntakeView Answer). i.taken) (known.replies ∙ client.replies)) ran.is_new.none_waits ran.is_new.ends ran.goes_on
+            ran.has_passed known.has (settled.each proxy (client_of j) here) (settled.reported proxy (client_of j) here)
+            (λ all. all_at SendsAll joined proxy j (of_joined.all_sent all) at) whole))
+
+        -- the reader at a place is that of its proxy
+        bytes_are : (proxy : ℕ) (bytes : Option (List ℕ)) (j : Joined W) (known : Known proxy j)
+            → slice_get (map remaining readers) proxy ≡ Some bytes → bytes_of proxy j known ≡ bytes
+        bytes_are proxy bytes j known at =
+            same_Some _ bytes (sym (mapped_at remaining readers proxy known.place.reader known.place.at_reader) ∙ at)
+
+        -- without a stop, what is missing is a batch that was not sent
+        leaves : complete ≡ false → account.stop ≡ None → LeavesLast (map remaining readers) log
+        leaves not_all no_stop =
+            let yes = whole no_stop in
+            let not_sent : streamed.all_sent ≡ false = sym (ap (λ (b : Bool). b && streamed.all_sent) yes) ∙ not_all in
+            let back = of_joined.unsent not_sent in
+            let known = known_at back.place back.worker back.at in
+            let client = all_at (IsNewClient options.capacity) clients back.place known.place.client new known.place.at_client in
+            let sends = known.has.sent.sends in
+            let settled_for = settled.each back.place (client_of back.worker) (mapped_at client_of joined back.place back.worker back.at) in
+            let sent : sends.batches ≡ part log back.place =
+            sym (ap (λ (l : List Batch). l ++ sends.batches) (ap (λ (p : PortView Batch). p.sent) (known.requests ∙ client.requests)))
+            ∙ sym sends.sent ∙ sym (settled_for.all_batches (settled_for.all_ended yes)) in
+            record {
+              proxy = back.place;
+              bytes = remaining known.place.reader;
+              of_proxy = mapped_at remaining readers back.place known.place.reader known.place.at_reader;
+              batch = back.batch;
+              left = sends.left;
+              read =
+                  subst (λ (r : S). TakesFrames (remaining r) sends.left (part log back.place ++ back.batch ∷ [])) known.reader
+                  (subst (λ (l : List Batch). TakesFrames (remaining (threads_by known.ran.task).reader) sends.left (l ++ back.batch ∷ []))
+                  sent
+                  (subst (λ (u : Option Batch). TakesFrames (remaining (threads_by known.ran.task).reader) sends.left
+                  (sends.batches ++ option_to_list u)) back.unsent sends.frames));
+            }
+
+        recorded_here : (proxy : ℕ) (j : Joined W) → slice_get joined proxy ≡ Some j → (known : Known proxy j)
+            → slice_get (recorded_each given_to outs streamed.recorders.items) proxy
+            ≡ Some (recorded_of given_to known.place.out j.recorder)
+        recorded_here proxy j at known =
+            recorded_at given_to outs streamed.recorders.items proxy known.place.out j.recorder known.place.at_out
+            (ap (λ l. slice_get l proxy) of_joined.recorders ∙ mapped_at (λ (j : Joined W). j.recorder) joined proxy j at)
+
+        -- the proxy's place among those that were joined
+        joined_for : {X : Type 0} (xs : List X) (proxy : ℕ) (x : X) → length xs ≡ length clients → slice_get xs proxy ≡ Some x
+            → (j : Joined W) × (slice_get joined proxy ≡ Some j)
+        joined_for xs proxy x count at = found xs joined proxy x (joined_count ∙ sym count) at
+
+        recorded_count : length (recorded_each given_to outs streamed.recorders.items) ≡ length clients
+        recorded_count =
+            length_recorded given_to outs streamed.recorders.items
+            (ap length of_joined.recorders ∙ length-map joined (λ (j : Joined W). j.recorder) ∙ joined_count ∙ sym as_many)
+            ∙ as_many
+
+        pub is_streamed : IfSome account.stop (IsStopOf options.limit options.window log)
+            → IsStreamed options (map remaining readers) (map is_some outs) before after has_failed streamed.failures.items
+            (recorded_each given_to outs streamed.recorders.items) complete account.stop
+        is_streamed met =
+            let clients_same : length clients ≡ length (map remaining readers) = sym same ∙ sym (length-map readers remaining) in
+            let tasks_same : length (map (λ (t : Task S W G). t.outlet) tasks) ≡ length (map remaining readers) =
+            length-map tasks (λ (t : Task S W G). t.outlet) ∙ tasks_count ∙ clients_same in
+            record {
+              log = log;
+              printed = goes.printed;
+              proxies =
+                  subst (λ (n : ℕ). TakesOnlyFrom n log) (length-map joined client_of ∙ joined_count ∙ clients_same) settled.proxies;
+              failures_count = ap length of_joined.failures ∙ length-map joined failure_with ∙ joined_count ∙ clients_same;
+              recorded_count = recorded_count ∙ clients_same;
+              writers = λ proxy has r has_at r_at.
+                  let j = joined_for (recorded_each given_to outs streamed.recorders.items) proxy r recorded_count r_at in
+                  let known = known_at proxy j.0 j.1 in
+                  let o = from_map is_some outs proxy has has_at in
+                  let out_is : known.place.out ≡ o.0 = same_Some _ o.0 (sym known.place.at_out ∙ o.1) in
+                  ap is_some (same_Some r _ (sym r_at ∙ recorded_here proxy j.0 j.1 known))
+                  ∙ ap (λ (o : Option W). is_some (recorded_of given_to o j.0.recorder)) (sym known.out)
+                  ∙ is_recorded given_to (threads_by known.ran.task).out (threads_by known.ran.task).answers _ _ j.0.recorder
+                  known.has.recorder ∙ ap is_some (known.out ∙ out_is) ∙ o.2;
+              known = subst (λ (n : ℕ). All (λ (p : Printed). p.proxy < n) goes.printed) tasks_same goes.known;
+              each = λ proxy bytes failure r at failure_at r_at.
+                  let j = joined_for (map remaining readers) proxy bytes (sym clients_same) at in
+                  let known = known_at proxy j.0 j.1 in
+                  let failure_here : slice_get streamed.failures.items proxy ≡ Some (failure_with j.0) =
+                  ap (λ l. slice_get l proxy) of_joined.failures ∙ mapped_at failure_with joined proxy j.0 j.1 in
+                  subst (λ (r : Option Recorded). IsStreamedFor options.window log complete has_failed account.stop bytes proxy
+                  (printed_for proxy goes.printed) failure r) (same_Some _ r (sym (recorded_here proxy j.0 j.1 known) ∙ r_at))
+                  (subst (λ (failure : ProxyFailure). IsStreamedFor options.window log complete has_failed account.stop bytes proxy
+                  (printed_for proxy goes.printed) failure (recorded_of given_to known.place.out j.0.recorder))
+                  (same_Some (failure_with j.0) failure (sym failure_here ∙ failure_at))
+                  (subst (λ (bytes : Option (List ℕ)). IsStreamedFor options.window log complete has_failed account.stop bytes proxy
+                  (printed_for proxy goes.printed) (failure_with j.0) (recorded_of given_to known.place.out j.0.recorder))
+                  (bytes_are proxy bytes j.0 known at) (streamed_at proxy j.0 j.1 known)));
+              text = subst (λ (f : Form). TookText has_failed before after (stream_text f goes.printed)) form_is (goes.text refl);
+              chain = settled.chain;
+              serializable = settled.serializable;
+              finish = λ none. settled.finish (whole none);
+              no_stop = λ all. settled.no_stop (both account.complete streamed.all_sent all).0;
+              incomplete = leaves;
+              met = met;
+            }

@@ -17,8 +17,8 @@ use Rattle.replay_output.specs.declared.stream.AnswerError.TheVariants as answer
 use Rattle.replay_workers.specs.declared.stream.outlet.Outlet.{Outlet}
 use Rattle.replay_workers.specs.declared.stream.recorder.Recorder.{Recorder}
 use Rattle.replay_workers.specs.Outlet.{is_whole, PassesOn, OutletGoesOn, HasPassedAll}
-use Rattle.replay_workers.specs.Proxies.{AreNewEnds, GivenThreads, HasJoined, Joined, JoinsRecorder, SendsAll, client_of, failure_with}
-use Rattle.replay_workers.specs.Recorder.{WritesRecords, unwritten_cause}
+use Rattle.replay_workers.specs.Proxies.{AreEnds, AreNewEnds, GivenThreads, HasJoined, Joined, JoinsRecorder, SendsAll, client_of, failure_with}
+use Rattle.replay_workers.specs.Recorder.{WritesRecords, is_refused, unwritten_cause}
 use Rattle.replay_workers.specs.Streaming.{HasRecords, IsStreamedFor, Recorded}
 use Rattle.replay_workers.proofs.Serving.{both, none_left}
 
@@ -28,6 +28,17 @@ recorded_of given_to (Some out) (Some recorder) =
     Some (record { before = given_to out; after = given_to recorder.out; failure = recorder.failure })
 recorded_of given_to (Some out) None = None
 recorded_of given_to None recorder = None
+
+-- the ends of a lane to a recorder stay its ends
+pub ends_of : (first new : Option (PortView Answer)) (answers : Option (IntakeView Answer)) (was waits : Option Answer)
+    (taken : List Answer) → AreNewEnds first answers → PassesOn first new was waits taken → AreEnds new answers
+ends_of None None None was waits taken ends passed = tt
+ends_of None None (Some answers) was waits taken ends passed = absurd ends
+ends_of None (Some new) answers was waits taken ends passed = absurd passed
+ends_of (Some first) None answers was waits taken ends passed = absurd passed
+ends_of (Some first) (Some new) None was waits taken ends passed = absurd ends
+ends_of (Some first) (Some new) (Some answers) was waits taken ends passed =
+    record { lane = passed.0.lane ∙ ends.0.lane; capacity = passed.0.capacity ∙ ends.0.capacity }
 
 module _ {W : Type 0} (given_to : W → Option (List ℕ)) where
   -- the records are of what the outlet has passed on
@@ -70,6 +81,13 @@ module _ {W : Type 0} (given_to : W → Option (List ℕ)) where
       no_write out given old new None joins failed written = none-some answer.Write failed
       no_write (Some out) given old new (Some recorder) joins failed written = written failed
       no_write None given old new (Some recorder) joins failed written = absurd joins
+
+  -- if nothing was lost, memory was refused for no record
+  pub none_refused : (out : Option W) (recorder : Option (Recorder W)) → is_refused (unwritten_cause recorder) ≡ false
+      → IfSome (recorded_of given_to out recorder) (λ r. r.failure ≢ Some answer.Memory)
+  none_refused None recorder none = tt
+  none_refused (Some out) None none = tt
+  none_refused (Some out) (Some recorder) none = λ is. false≢true (sym none ∙ ap is_refused is)
 
   -- the outlet had taken nothing, and has printed these answers
   pub streamed_for : {S : Type 0} (remaining : S → Option (List ℕ)) (window : ℤ) (log : List Step) (ended all_sent has_failed : Bool)
@@ -126,6 +144,7 @@ module _ {W : Type 0} (given_to : W → Option (List ℕ)) where
             let stays : is_whole old.lost has_failed ≡ true =
             ap (λ (l : Bool). is_whole l has_failed) (sym lost_is ∙ parts.0) ∙ ap (is_whole false) well in
             sym (append-nil printed) ∙ ap (λ (l : List Answer). printed ++ l) (sym (goes.none_dropped stays)) ∙ sym taken;
+        none_refused = λ not_lost. none_refused threads.out joined.recorder (or_parts joined.outlet.lost _ not_lost).1;
         records =
             subst (λ (l : List Answer). IfSome (recorded_of given_to threads.out joined.recorder) (HasRecords l)) (sym taken)
             (records_of_taken threads.out threads.answers first.records old.records joined.outlet.records joined.recorder old.waiting

@@ -1,5 +1,5 @@
 -- A stream, beside the reference resolver: what was read of each file, what was printed, and what was recorded. This project's own.
-use Rattle.std.specs.Prelude.{◌≡◌, ◌≢◌, ℕ, ◌<◌, ℤ, Bool, true, false, List, [], ◌∷◌, ◌++◌, length, Option, None, Some, IfSome, slice_get}
+use Rattle.std.specs.Prelude.{◌≡◌, ◌≢◌, ℕ, ◌<◌, ℤ, Bool, true, false, List, [], ◌∷◌, ◌++◌, length, Option, None, Some, IfSome, is_some, slice_get}
 use Rattle.std.specs.List.{All}
 use Rattle.std.specs.Io.KnownBytes.{IsAtEnd}
 use Rattle.keyspace.specs.declared.batch.Batch.{Batch}
@@ -78,6 +78,8 @@ pub record IsStreamedFor (window : ℤ) (log : List Step) (complete failed : Boo
   pub has_printed : IsBeginning printed taken
   pub all_printed : failed ≡ false → failure.lost ≡ false → printed ≡ taken
   pub records : IfSome recorded (HasRecords taken)
+  -- a record for which memory was refused is a loss
+  pub none_refused : failure.lost ≡ false → IfSome recorded (λ r. r.failure ≢ Some answer.Memory)
 
 -- Of some file, a batch was read that the log doesn't take: it was the last that was read, and was not sent. The log holds those before
 -- it.
@@ -89,15 +91,22 @@ pub record LeavesLast (files : List (Option (List ℕ))) (log : List Step) : Typ
   pub left : Option (List ℕ)
   pub read : TakesFrames bytes left (part log proxy ++ batch ∷ [])
 
+-- the proxies that have a writer have records, and no others
+abbrev pub HaveRecords : List Bool → List (Option Recorded) → Type 0
+HaveRecords has_writer recorded =
+    (proxy : ℕ) (has : Bool) (r : Option Recorded) → slice_get has_writer proxy ≡ Some has → slice_get recorded proxy ≡ Some r
+    → is_some r ≡ has
+
 -- What became of all files, whose readers reported these bytes, beside one log of the reference resolver. `printed` is the answers
--- in the order of their lines. `failures` and `recorded` are of each proxy, at its number.
-pub record IsStreamed (options : Options) (files : List (Option (List ℕ))) (before after : Option (List ℕ)) (failed : Bool)
-    (failures : List ProxyFailure) (recorded : List (Option Recorded)) (complete : Bool) (stop : Option Stop) : Type 0 where
+-- in the order of their lines. `failures` and `recorded` are of each proxy, at its number, and so is whether it has a writer of records.
+pub record IsStreamed (options : Options) (files : List (Option (List ℕ))) (has_writer : List Bool) (before after : Option (List ℕ))
+    (failed : Bool) (failures : List ProxyFailure) (recorded : List (Option Recorded)) (complete : Bool) (stop : Option Stop) : Type 0 where
   pub log : List Step
   pub printed : List Printed
   pub proxies : TakesOnlyFrom (length files) log
   pub failures_count : length failures ≡ length files
   pub recorded_count : length recorded ≡ length files
+  pub writers : HaveRecords has_writer recorded
   pub known : All (λ (p : Printed). p.proxy < length files) printed
   pub each :
       (proxy : ℕ) (bytes : Option (List ℕ)) (failure : ProxyFailure) (r : Option Recorded) →

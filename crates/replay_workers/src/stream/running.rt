@@ -1,7 +1,7 @@
 //! A stream: senders read and send, and recorders write records, while this thread turns the
 //! resolver and prints the answers.
 
-ghost use Rattle.std.specs.Prelude.{◌≡◌, ◌≤◌, ◌&&◌, ℕ, true, Some, map, slice_get, vec_len};
+ghost use Rattle.std.specs.Prelude.{◌≡◌, ◌≤◌, ◌&&◌, ℕ, Some, is_some, map, slice_get, vec_len};
 ghost use Rattle.std.specs.Prelude.{IfOk, IsTrue, OnErr};
 ghost use Rattle.resolver.specs.declared.resolver_core.TheConstants.{MAX_PROXIES};
 ghost use Rattle.replay_workers.specs.Recorder.{is_unwritten, unwritten_cause};
@@ -53,7 +53,7 @@ pub fn run_stream<
     requires most_readers { vec_len readers ≤ MAX_PROXIES }
     requires as_many { vec_len records ≡ vec_len readers }
     ensures run { IfOk result (λ ended. IsStreamed options (map S.remaining readers.items)
-        (O.given out.old) (O.given out.new) ended.0.failed ended.0.failures.items
+        (map is_some records.items) (O.given out.old) (O.given out.new) ended.0.failed ended.0.failures.items
         (recorded_each W.given records.items ended.0.recorders.items)
         (ended.1.complete && ended.0.all_sent) ended.1.stop) }
     ensures unwritten { IfOk result (λ ended. ended.0.unwritten.items

@@ -16,7 +16,7 @@ returns-in-Err g c =
     (g.E.Sink.failures c.args.error.now) (g.E.Sink.failures c.end.new.error) in
     let end = c.end.ensures in
     let ends = ends_by (g.F.Files.has_opened files) (g.F.Files.cannot_open files) (g.F.Files.contents files) out error
-    words c.end.result c.in-Err.refusal (λ text is. c.read_words.ensures.shown text (c.in-Err.is ∙ ap Err is)) (λ text is. c.read_words.ensures.refused text (c.in-Err.is ∙ ap Err is))
+    (g.F.Files.has_created files) (g.F.Files.cannot_create files) (g.F.Files.begun files) words c.end.result c.in-Err.refusal (λ text is. c.read_words.ensures.shown text (c.in-Err.is ∙ ap Err is)) (λ text is. c.read_words.ensures.refused text (c.in-Err.is ∙ ap Err is))
     end.shown end.not_shown end.quiet end.refused end.told end.memory end.memory_told in
     record {
       done = ends.done;
@@ -43,7 +43,7 @@ returns-in-Ok g c =
     let checked = c.check_files.ensures in
     let kept = c.is_kept.ensures.kept.0 c.if-is_kept.true in
     let ends = ends_checked (g.F.Files.has_opened files) (g.F.Files.cannot_open files) (g.F.Files.contents files) out error
-    words c.check_files.result line.options names replies
+    (g.F.Files.has_created files) (g.F.Files.cannot_create files) (g.F.Files.begun files) words c.check_files.result line.options names replies
     (record {
       taken = c.in-Ok.ensures.taken;
       holds_options = c.in-Ok.ensures.options;
@@ -80,7 +80,7 @@ returns-in-Ok-2 g c =
     let replayed = c.replay_files.ensures in
     let no : ¬ IsTrue c.is_kept.result = is_false c.is_kept.result c.if-is_kept.false in
     let ends = ends_replayed (g.F.Files.has_opened files) (g.F.Files.cannot_open files) (g.F.Files.contents files) out error
-    words c.replay_files.result line.options names
+    (g.F.Files.has_created files) (g.F.Files.cannot_create files) (g.F.Files.begun files) words c.replay_files.result line.options names
     (record {
       taken = c.in-Ok.ensures.taken;
       holds_options = c.in-Ok.ensures.options;
