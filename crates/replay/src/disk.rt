@@ -48,6 +48,7 @@ impl<R: fs::Files<File = File> + AllocGlobal> Disk<'_, R> {
 
 impl<R: fs::Files<File = File> + AllocGlobal> Files for Disk<'_, R> {
     type Reader = StdSource<BufReader<Input>>;
+
     type Writer = StdSink<File>;
 
     ghost contents = { λ _ _. None };

@@ -20,7 +20,6 @@ pub use check::{
 };
 pub use program::{check_files, replay_files, run, run_in, stream_files};
 pub use replay::replay_over;
-pub use stream::{StreamReport, stream_over};
 pub use replay_arguments::{
     CommandLine, FileError, Files, OpeningError, Refusal, STANDARD_INPUT, create_files,
     fail_to_create, fail_to_open, open_files, read_words,
@@ -32,3 +31,4 @@ pub use replay_output::{
 pub use replay_workers::{
     AlwaysOpen, Assignment, Finished, Gatekeeper, MostUnanswered, ShareKeeper, Unshared, work,
 };
+pub use stream::{StreamReport, stream_over};

@@ -226,8 +226,9 @@ fn records_of<F: Files>(
     line: &CommandLine,
 ) -> Result<Vec<Option<F::Writer>>, OpeningError> {
     let mut writers = create_files(alloc, files, &line.records)?.into_iter();
-    let mut records =
-        Vec::with_capacity(alloc, line.files.len()).map_err(|_| OpeningError::Memory)?;
+    let mut records = Vec::with_capacity(alloc, line.files.len()).map_err(
+        |_| OpeningError::Memory,
+    )?;
     for _ in 0..line.files.len() {
         records.push_reserved(writers.next());
     }

@@ -76,16 +76,17 @@ pub fn stream_over<
     ensures same { result.status ≢ Status.Differs }
 {
     serial::laws::answers_tell_verdicts();
-    let (streamed, account) =
-        match run_stream(rt, alloc, readers, records, options, gatekeeper, out) {
-            Ok(ended) => ended,
-            Err(cause) => {
-                return StreamReport {
-                    status: fail_to_start(error, cause),
-                    recorders: Vec::new(alloc),
-                };
-            }
-        };
+    let (streamed, account) = match run_stream(
+        rt, alloc, readers, records, options, gatekeeper, out,
+    ) {
+        Ok(ended) => ended,
+        Err(cause) => {
+            return StreamReport {
+                status: fail_to_start(error, cause),
+                recorders: Vec::new(alloc),
+            };
+        }
+    };
     let Streamed {
         failures,
         recorders,

@@ -56,7 +56,11 @@ fn fails_after(alloc: Global, room: usize) -> Result<bool, Unmade> {
 #[test]
 fn record_fails_everywhere(rt: HostRuntime) -> Result<(), Fail> {
     for room in 0..=9 {
-        assert_eq!(rt; fails_after(rt.alloc(), room)?, room < 9, "after {room} bytes");
+        assert_eq!(rt;
+            fails_after(rt.alloc(), room)?,
+            room < 9,
+            "after {room} bytes"
+        );
     }
     Ok(())
 }

@@ -71,6 +71,7 @@ impl Shelf {
 
 impl Files for Shelf {
     type Reader = StdSource<Recorded>;
+
     type Writer = StdSink<Vec<u8>>;
 
     ghost contents = { λ _ _. None };

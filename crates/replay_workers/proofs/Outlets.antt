@@ -187,8 +187,11 @@ stream_same form failed given outlets = record {
   known = All-nil (λ (p : Printed). p.proxy < length outlets);
   each = record {
     count = refl;
-    each = λ q l m was is. ([], subst (λ (m : Outlet). OutletGoesOn [] [] (is_whole l.lost failed) (is_whole m.lost failed) l m)
-        (same_Some l m (sym was ∙ is)) (outlet_same failed failed l (λ same. same)));
+    each = λ q l m was is. (
+      [],
+      subst (λ (m : Outlet). OutletGoesOn [] [] (is_whole l.lost failed) (is_whole m.lost failed) l m)
+          (same_Some l m (sym was ∙ is)) (outlet_same failed failed l (λ same. same)),
+    );
   };
   text = λ whole. subst (λ (failed : Bool). TookText failed given given []) (sym whole) (appends_none given);
   nothing = λ failed. (refl, (failed, refl));

@@ -19,6 +19,7 @@ pub enum FileError {
 /// Opens files by their names, and standard input by its own, [`STANDARD_INPUT`].
 pub trait Files {
     type Reader: Source + Send + Drop + 'static;
+
     type Writer: Sink + Send + Drop + 'static;
 
     // The bytes of the file of this name, if they are reported.

@@ -120,7 +120,9 @@ impl Outlet {
     // Passes the waiting answer on, and returns whether it still waits.
     fn is_behind(&mut self) -> bool
         ensures others { self.new ≡ record self.old {
-            records = self.new.records; waiting = self.new.waiting } }
+          records = self.new.records;
+          waiting = self.new.waiting;
+        } }
         ensures passed { PassesOn self.old.records self.new.records self.old.waiting
             self.new.waiting [] }
         ensures none { result ≡ false → self.new.waiting ≡ None }
@@ -154,7 +156,9 @@ impl Outlet {
     fn pass_on(&mut self, answer: Answer)
         requires none_waits { self.old.waiting ≡ None }
         ensures others { self.new ≡ record self.old {
-            records = self.new.records; waiting = self.new.waiting } }
+          records = self.new.records;
+          waiting = self.new.waiting;
+        } }
         ensures passed { PassesOn self.old.records self.new.records None self.new.waiting
             (answer ∷ []) }
     {

@@ -103,7 +103,11 @@ fn connect<S: Drop, W: Drop, G: Drop>(
     requires least_capacity { 1 ≤ capacity }
     requires most_capacity { capacity ≤ MAX_CAPACITY }
     ensures given { IfOk result (λ task. given_with task.outlet (threads_by task) ≡ record {
-        proxy = assignment.proxy; client = client; reader = reader; out = out }) }
+      proxy = assignment.proxy;
+      client = client;
+      reader = reader;
+      out = out;
+    }) }
     ensures new { IfOk result (λ task. IsNewOutlet task.outlet (threads_by task).answers) }
 {
     let Client { requests, replies } = client;
@@ -150,11 +154,7 @@ pub fn start_all<
     W: Sink + Send + Drop + 'static,
     G: Gatekeeper + ShareKeeper + Send + Sync + Drop + 'static,
     R: Threads + Wait + Copy + Send + 'static,
->(
-    rt: &R,
-    alloc: Global,
-    tasks: Vec<Task<S, W, G>>,
-) -> Result<Vec<Proxy<S, W>>, StartError>
+>(rt: &R, alloc: Global, tasks: Vec<Task<S, W, G>>) -> Result<Vec<Proxy<S, W>>, StartError>
     ensures outlets { IfOk result (λ proxies. outlets_of proxies.items
         ≡ map (λ task. task.outlet) tasks.items) }
     ensures threads { IfOk result (λ proxies. map threads_of proxies.items

@@ -60,8 +60,9 @@ impl<W: Drop> Streamed<W> {
         ensures clients { self.new.clients.items ≡ self.old.clients.items
             ++ record { requests = sent.requests; replies = outlet.replies } ∷ [] }
         ensures failures { self.new.failures.items ≡ self.old.failures.items ++ record {
-            fault = sent.fault;
-            lost = outlet.lost || is_refused (unwritten_cause recorder) } ∷ [] }
+          fault = sent.fault;
+          lost = outlet.lost || is_refused (unwritten_cause recorder);
+        } ∷ [] }
         ensures recorders { self.new.recorders.items ≡ self.old.recorders.items ++ recorder ∷ [] }
         ensures unwritten { self.new.unwritten.items ≡ self.old.unwritten.items
             ++ is_unwritten (unwritten_cause recorder) ∷ [] }

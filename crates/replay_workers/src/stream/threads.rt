@@ -135,10 +135,11 @@ pub fn start_sender<
 }
 
 /// Starts a recorder.
-pub fn start_recorder<
-    W: Sink + Send + Drop + 'static,
-    R: Threads + Wait + Copy + Send + 'static,
->(rt: &R, alloc: Global, task: RecorderTask<W>) -> Result<StartedRecorder<W>, StartError>
+pub fn start_recorder<W: Sink + Send + Drop + 'static, R: Threads + Wait + Copy + Send + 'static>(
+    rt: &R,
+    alloc: Global,
+    task: RecorderTask<W>,
+) -> Result<StartedRecorder<W>, StartError>
     ensures answers { IfOk result (λ recorder. recorder.handle.promise.answers.value
         ≡ task.answers) }
     ensures out { IfOk result (λ recorder. recorder.handle.promise.out.value ≡ task.out) }
