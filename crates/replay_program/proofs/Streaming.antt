@@ -1,7 +1,7 @@
 -- What was streamed, from what was run.
-use Rattle.std.specs.Prelude.{◌≡◌, ◌≢◌, ℕ, zero, suc, ◌+◌, ◌<◌, Bool, true, false, List, [], ◌∷◌, length, map, Option, Some, None, IfSome, slice_get}
+use Rattle.std.specs.Prelude.{◌≡◌, ◌≢◌, ℕ, zero, suc, ◌+◌, ◌<◌, Bool, true, false, List, [], ◌∷◌, ◌++◌, length, map, Option, Some, None, IfSome, slice_get}
 use Rattle.std.specs.List.{All, range_with_len}
-use Rattle.std.specs.Io.KnownBytes.{Appends}
+use Rattle.std.specs.Io.KnownBytes.{Appends, Keeps}
 use Rattle.std.proofs.Common.{refl, sym, ap, subst, ◌∙◌, append-nil, arith}
 use Rattle.std.proofs.lemmas.Bool.{false≢true}
 use Rattle.std.proofs.lemmas.List.{length-map}
@@ -12,13 +12,17 @@ use Rattle.keyspace.specs.declared.batch.Batch.{Batch}
 use Rattle.keyspace.specs.Run.{answers, part}
 use Rattle.serial.specs.Replies.{AnswersTellVerdicts}
 use Rattle.resolver.specs.declared.stop.Stop.{Stop}
+use Rattle.wire.proofs.callers.Given.{appends_nothing}
+use Rattle.replay_output.specs.declared.failures.Ending.{Ending}
 use Rattle.replay_output.specs.declared.failures.ProxyFailure.{ProxyFailure}
 use Rattle.replay_output.specs.declared.options.Options.{Options}
 use Rattle.replay_output.specs.declared.stream.AnswerError.{AnswerError}
 use Rattle.replay_output.specs.declared.stream.AnswerError.TheVariants.{Memory, Write}
-use Rattle.replay_output.specs.Failures.{IsClean, NothingFailed}
+use Rattle.replay_output.specs.Failures.{IsClean, NothingFailed, failure_lines}
 use Rattle.replay_output.specs.Record.{answer_records}
 use Rattle.replay_output.specs.Streamed.{printed_for, stream_text}
+use Rattle.replay_output.specs.Unwritten.{unwritten_lines}
+use Rattle.replay_output.proofs.callers.Quiet.{no_lines, no_unwritten_lines}
 use Rattle.replay_workers.specs.declared.stream.recorder.Recorder.{Recorder}
 use Rattle.replay_workers.specs.Outlet.{TookText}
 use Rattle.replay_workers.specs.Recorder.{TookRecords, is_unwritten, unwritten_cause}
@@ -37,6 +41,15 @@ no_failure : (f : Option AnswerError) → f ≢ Some Memory → f ≢ Some Write
 no_failure None memory write = refl
 no_failure (Some Memory) memory write = absurd (memory refl)
 no_failure (Some Write) memory write = absurd (write refl)
+
+-- where nothing failed, standard error was given nothing
+pub keeps_error : (old new : Option (List ℕ)) (unwritten : List Bool) (failures : List ProxyFailure) (ending : Ending)
+    → All (λ failed. failed ≡ false) unwritten → NothingFailed failures ending
+    → Appends old new (unwritten_lines unwritten ++ failure_lines failures ending) → Keeps old new
+keeps_error old new unwritten failures ending all nothing appends =
+    let none : unwritten_lines unwritten ++ failure_lines failures ending ≡ [] =
+    ap (λ l. l ++ failure_lines failures ending) (no_unwritten_lines 0 unwritten all) ∙ no_lines failures ending nothing in
+    appends_nothing old new (subst (Appends old new) none appends)
 
 -- if all records were written, no writer of records has failed
 pub none_unwritten : {W : Type 0} (given_to : W → Option (List ℕ)) (outs : List (Option W)) (recorders : List (Option (Recorder W)))

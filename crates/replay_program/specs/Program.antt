@@ -1,5 +1,5 @@
 -- How the program ends, beside the words of its command line and the bytes of its files. This project's own.
-use Rattle.std.specs.Prelude.{◌≡◌, ◌≢◌, ◌⊎◌, ℕ, ◌≤◌, true, false, List, codes, length, Option, Some, slice_get}
+use Rattle.std.specs.Prelude.{◌≡◌, ◌≢◌, ◌⊎◌, ℕ, ◌≤◌, Bool, true, false, List, codes, length, Option, Some, slice_get}
 use Rattle.std.specs.List.{AllZip}
 use Rattle.clap.specs.Words.{all_of}
 use Rattle.keyspace.specs.declared.reply.Reply.{Reply}
@@ -135,6 +135,11 @@ pub record HasChecked (So_many : ℕ → Type 0) (contents : List ℕ → Option
   pub replies : List (List ℕ)
   pub asked : AsksToCheck words options names replies
   pub checked : ChecksFiles So_many contents options names replies out.before out.after
+
+-- each of these files for records has its writer, at the number of its proxy; of each writer, the bytes that it was given
+abbrev pub HaveWriters : (List ℕ → Option (List ℕ)) → List (List ℕ) → List (Option (Option (List ℕ))) → Type 0
+HaveWriters begun names writers =
+    (proxy : ℕ) (name : List ℕ) → slice_get names proxy ≡ Some name → slice_get writers proxy ≡ Some (Some (begun name))
 
 -- the proxy of each of these files for records has a writer, which began as that of its file
 abbrev pub AreBegun : (List ℕ → Option (List ℕ)) → List (List ℕ) → List (Option Recorded) → Type 0

@@ -1,13 +1,13 @@
 //! The program, over any words, files and streams.
 
 ghost use Rattle.std.specs.Prelude.{◌≡◌, ◌≢◌, ◌≤◌, ℕ, List, IfOk, length, map, string_bytes};
-ghost use Rattle.std.specs.Prelude.{vec_len};
+ghost use Rattle.std.specs.Prelude.{option_map, vec_len};
 ghost use Rattle.std.specs.Io.KnownBytes.{Keeps};
 ghost use Rattle.resolver.specs.declared.resolver_core.TheConstants.{MAX_PROXIES};
-ghost use Rattle.replay_arguments.specs.Opening.{contents_each};
+ghost use Rattle.replay_arguments.specs.Opening.{IsFirstRefused, contents_each};
 ghost use Rattle.replay_program.specs.Program.{ChecksFiles, FailsOnFiles, FailsToCheck};
 ghost use Rattle.replay_program.specs.Program.{FailsOnStream, HasDifferences, IsDone, IsFailed};
-ghost use Rattle.replay_program.specs.Program.{StreamsFiles, Told};
+ghost use Rattle.replay_program.specs.Program.{HaveWriters, StreamsFiles, Told};
 ghost use Rattle.replay_program.specs.Replayed.{IsReplayed, written};
 ghost use Rattle.replay_arguments.specs.Words.{IsMistaken};
 
@@ -224,7 +224,16 @@ fn records_of<F: Files>(
     alloc: Global,
     files: &F,
     line: &CommandLine,
-) -> Result<Vec<Option<F::Writer>>, OpeningError> {
+) -> Result<Vec<Option<F::Writer>>, OpeningError>
+    requires no_more { vec_len line.now.records ≤ vec_len line.now.files }
+    ensures as_many { IfOk result (λ records. vec_len records ≡ vec_len line.now.files) }
+    ensures writers { IfOk result (λ records.
+        HaveWriters (F.begun files.now) (map (λ name. name.now) line.now.records.items)
+        (map (option_map F.Writer.given) records.items)) }
+    ensures refused { (proxy : ℕ) → result ≡ Err (OpeningError.CannotOpen proxy)
+        → IsFirstRefused (F.has_created files.now) (F.cannot_create files.now)
+        (map (λ name. name.now) line.now.records.items) proxy }
+{
     let mut writers = create_files(alloc, files, &line.records)?.into_iter();
     let mut records = Vec::with_capacity(alloc, line.files.len()).map_err(
         |_| OpeningError::Memory,

@@ -1,9 +1,10 @@
 -- What a recorder has written as it takes one answer more.
-use Rattle.std.specs.Prelude.{◌≡◌, ℕ, zero, ◌+◌, List, [], ◌∷◌, ◌++◌, length, take, Option, None, Some, IfSome}
+use Rattle.std.specs.Prelude.{◌≡◌, ℕ, zero, ◌+◌, true, List, [], ◌∷◌, ◌++◌, length, take, Option, None, Some, IfSome, is_some}
 use Rattle.std.specs.Io.KnownBytes.{Appends}
 use Rattle.std.proofs.Common.{refl, sym, ap, subst, ◌∙◌, append_assoc, append-nil}
 use Rattle.std.proofs.Math.Seq.{take-append-add}
 use Rattle.std.proofs.lemmas.List.{flat_map_more}
+use Rattle.std.proofs.lemmas.Bool.{false≢true}
 use Rattle.std.proofs.lemmas.Option.{none-some}
 use Rattle.wire.proofs.callers.Given.{appends_then}
 use Rattle.keyspace.specs.declared.answer.Answer.{Answer}
@@ -57,6 +58,11 @@ module _ (first taken : List Answer) (before old new : Option (List ℕ)) (answe
     none_dropped = λ none. absurd (none-some failure (sym none));
     records = subst (λ (given : Option (List ℕ)). TookRecords (Some failure) before given w.written) (sym same) w.records;
   }
+
+  pub dropped_after : (failure : Option AnswerError) → is_some failure ≡ true → WritesRecords first taken before old failure
+      → new ≡ old → WritesRecords first (taken ++ answer ∷ []) before new failure
+  dropped_after None some w same = absurd (false≢true some)
+  dropped_after (Some failure) some w same = dropped_also failure w same
 
   -- it is written
   pub written_also : WritesRecords first taken before old None → Appends old new (answer_record answer)
