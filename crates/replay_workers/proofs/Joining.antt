@@ -1,5 +1,5 @@
 -- What was joined of a proxy, and the outcome with it.
-use Rattle.std.specs.Prelude.{◌≡◌, ℕ, ◌+◌, Bool, true, false, List, [], ◌∷◌, ◌++◌, length, map, Option, None, Some}
+use Rattle.std.specs.Prelude.{◌≡◌, ℕ, ◌+◌, Bool, true, false, List, [], ◌∷◌, ◌++◌, length, map, Option, None, Some, slice_get}
 use Rattle.std.proofs.Common.{refl, sym, ap, subst, ◌∙◌, append-nil, length-append, arith, inl, inr}
 use Rattle.std.proofs.lemmas.Bool.{false≢true}
 use Rattle.std.proofs.lemmas.List.{map-append}
@@ -12,6 +12,11 @@ use Rattle.replay_workers.specs.declared.stream.streamed.Streamed.{Streamed}
 use Rattle.replay_workers.specs.Proxies.{IsStreamedOf, Joined, JoinsRecorder, LeavesUnsent, SendsAll, client_of, failure_with}
 use Rattle.replay_workers.specs.Recorder.{HasRecorded, WritesRecords, is_unwritten, unwritten_cause}
 use Rattle.replay_workers.proofs.Working.{at_also, at_last}
+
+-- what follows some items is at the place of their number
+pub at_middle : {X : Type 0} (done rest : List X) (x : X) → slice_get (done ++ x ∷ rest) (length done) ≡ Some x
+at_middle [] rest x = refl
+at_middle (d ∷ done) rest x = at_middle done rest x
 
 -- an intake that has ended has taken all that was sent
 pub all_taken : {T : Type 0} (port : PortView T) (intake : IntakeView T) → Lane port intake → HasEnded intake

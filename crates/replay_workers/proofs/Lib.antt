@@ -11,6 +11,7 @@ pub mod Ending
 pub mod Recording
 pub mod Outlets
 pub mod Passing
+pub mod Rounds
 pub mod Streams
 pub mod Places
 pub mod Joining

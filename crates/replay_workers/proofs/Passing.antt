@@ -39,15 +39,16 @@ passes_waiting (Some a) (Some b) now answer passed = (
   passed.1 ∙ ap (λ (l : List Answer). l ++ answer ∷ []) (append-nil a.sent) ∙ sym (append-nil (a.sent ++ answer ∷ [])),
 )
 
--- the recorder's lane was closed
+-- a port that was closed
+pub port_closed : {T : Type 0} (a b : PortView T) → PortGoesOn a b → PortGoesOn a (record b { closed = true })
+port_closed a b goes =
+    record { lane = goes.lane; capacity = goes.capacity; seen_taken = goes.seen_taken; looks = goes.looks }
+
 pub passes_closed : (a b : PortView Answer) (waits : Option Answer) → b ≡ record a { closed = true }
     → PassesOn (Some a) (Some b) waits waits []
 passes_closed a b waits is =
     subst (λ (b : PortView Answer). PassesOn (Some a) (Some b) waits waits []) (sym is)
-    (closes, sym (append-nil (a.sent ++ option_to_list waits)))
-  where
-    closes : PortGoesOn a (record a { closed = true })
-    closes = record { lane = refl; capacity = refl; seen_taken = (port_same a).seen_taken; looks = (port_same a).looks }
+    (port_closed a a (port_same a), sym (append-nil (a.sent ++ option_to_list waits)))
 
 -- nothing was taken, and nothing printed
 pub passes_nothing : (form : Form) (failed : Bool) (given : Option (List ℕ)) (old new : Outlet)
