@@ -202,7 +202,7 @@ module _ (form : Form) (start mid now : Bool) (first before after : Option (List
     (x d : Outlet) (inside : i < length outlets) (numbered : (get_or outlets i d).proxy ≡ i)
     (so_far : StreamGoesOn form start mid first before old outlets)
     (step : PassesSome form mid now before after (get_or outlets i d) x) where
-  more : List Printed
+  abbrev more : List Printed
   more = map (of_proxy i) step.printed
 
   stays : mid ≡ true → now ≡ true

@@ -4,13 +4,13 @@ use Rattle.std.specs.List.{flat_map}
 use Rattle.std.proofs.Common.{refl, sym, ap, subst, ◌∙◌, append-nil}
 use Rattle.std.proofs.lemmas.Bool.{false≢true}
 use Rattle.keyspace.specs.declared.answer.Answer.{Answer}
-use Rattle.lane.specs.Lane.{IntakeGoesOn, PortGoesOn, PortView}
+use Rattle.lane.specs.Lane.{IntakeGoesOn, IntakeView, PortGoesOn, PortView}
 use Rattle.wire.proofs.callers.Given.{appends_none}
 use Rattle.replay_output.specs.declared.options.form.Form.{Form}
 use Rattle.replay_output.specs.Lines.{line}
 use Rattle.replay_workers.specs.declared.stream.outlet.Outlet.{Outlet}
 use Rattle.replay_workers.specs.Outlet.{is_whole, PassesOn, TookText, PassesSome}
-use Rattle.replay_workers.proofs.Outlets.{broken, port_same}
+use Rattle.replay_workers.proofs.Outlets.{broken, passes_then, port_same}
 
 -- an answer was sent to the recorder, or it waits
 pub passes_sent : (a b : PortView Answer) (answer : Answer) → PortGoesOn a b → b.sent ≡ a.sent ++ answer ∷ []
@@ -140,3 +140,36 @@ passes_answer form had has before after old new answer replies taken proxy passe
       text = one.text;
       nothing = nothing;
     }
+
+-- none waited any more, an answer was taken, printed or dropped, and passed on
+pub passes_after : (form : Form) (had has : Bool) (before after : Option (List ℕ)) (old behind printed new : Outlet)
+    (replies : IntakeView Answer) (answer : Answer)
+    → behind ≡ record old { records = behind.records; waiting = behind.waiting } → behind.waiting ≡ None
+    → IntakeGoesOn behind.replies replies → replies.taken ≡ behind.replies.taken ++ answer ∷ []
+    → printed ≡ record behind { replies = replies; lost = printed.lost }
+    → new ≡ record printed { records = new.records; waiting = new.waiting }
+    → PassesOn old.records behind.records old.waiting behind.waiting []
+    → PassesOn printed.records new.records None new.waiting (answer ∷ [])
+    → (is_whole behind.lost had ≡ true → printed.lost ≡ false → TookText has before after (line form behind.proxy answer))
+    → (behind.lost ≡ true → printed.lost ≡ true) → (printed.lost ≡ true → (has ≡ had) × (after ≡ before))
+    → (had ≡ true → (has ≡ true) × (after ≡ before)) → PassesSome form had has before after old new
+passes_after form had has before after old behind printed new replies answer first none on took second third one two text stays lost
+    nothing =
+    let proxy : behind.proxy ≡ old.proxy = ap (λ (o : Outlet). o.proxy) first in
+    let was_lost : behind.lost ≡ old.lost = ap (λ (o : Outlet). o.lost) first in
+    let same : behind.replies ≡ old.replies = ap (λ (o : Outlet). o.replies) first in
+    let is_lost : new.lost ≡ printed.lost = ap (λ (o : Outlet). o.lost) third in
+    let now : new.replies ≡ replies = ap (λ (o : Outlet). o.replies) third ∙ ap (λ (o : Outlet). o.replies) second in
+    let records : printed.records ≡ behind.records = ap (λ (o : Outlet). o.records) second in
+    let passed : PassesOn behind.records new.records behind.waiting new.waiting (answer ∷ []) =
+    subst (λ (w : Option Answer). PassesOn behind.records new.records w new.waiting (answer ∷ [])) (sym none)
+    (subst (λ (r : Option (PortView Answer)). PassesOn r new.records None new.waiting (answer ∷ [])) records two) in
+    passes_answer form had has before after old new answer
+    (subst (λ (i : IntakeView Answer). IntakeGoesOn i new.replies) same
+    (subst (λ (i : IntakeView Answer). IntakeGoesOn behind.replies i) (sym now) on))
+    (ap (λ (i : IntakeView Answer). i.taken) now ∙ took ∙ ap (λ (i : IntakeView Answer). i.taken ++ answer ∷ []) same)
+    (ap (λ (o : Outlet). o.proxy) third ∙ ap (λ (o : Outlet). o.proxy) second ∙ proxy)
+    (passes_then old.records behind.records new.records old.waiting behind.waiting new.waiting [] (answer ∷ []) one passed)
+    (λ whole not_lost. subst (λ (p : ℕ). TookText has before after (line form p answer)) proxy
+    (text (ap (λ (l : Bool). is_whole l had) was_lost ∙ whole) (sym is_lost ∙ not_lost)))
+    (λ was. is_lost ∙ stays (was_lost ∙ was)) (λ is. lost (sym is_lost ∙ is)) nothing

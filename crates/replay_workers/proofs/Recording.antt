@@ -1,19 +1,19 @@
 -- What a recorder has written as it takes one answer more.
-use Rattle.std.specs.Prelude.{◌≡◌, ℕ, zero, ◌+◌, true, List, [], ◌∷◌, ◌++◌, length, take, Option, None, Some, IfSome, is_some}
+use Rattle.std.specs.Prelude.{◌≡◌, ℕ, zero, ◌+◌, true, false, List, [], ◌∷◌, ◌++◌, length, take, Option, None, Some, IfSome, is_some}
 use Rattle.std.specs.Io.KnownBytes.{Appends}
 use Rattle.std.proofs.Common.{refl, sym, ap, subst, ◌∙◌, append_assoc, append-nil}
 use Rattle.std.proofs.Math.Seq.{take-append-add}
 use Rattle.std.proofs.lemmas.List.{flat_map_more}
 use Rattle.std.proofs.lemmas.Bool.{false≢true}
 use Rattle.std.proofs.lemmas.Option.{none-some}
-use Rattle.wire.proofs.callers.Given.{appends_then}
+use Rattle.wire.proofs.callers.Given.{appends_none, appends_then}
 use Rattle.keyspace.specs.declared.answer.Answer.{Answer}
-use Rattle.lane.specs.Lane.{IntakeView, IntakeGoesOn}
+use Rattle.lane.specs.Lane.{HasEnded, IntakeView, IntakeGoesOn}
 use Rattle.replay_output.specs.declared.stream.AnswerError.{AnswerError}
 use Rattle.replay_output.specs.declared.stream.AnswerError.TheVariants.{Memory, Write}
 use Rattle.replay_output.specs.Record.{answer_record, answer_records}
 use Rattle.replay_workers.specs.declared.stream.recorder.Recorder.{Recorder}
-use Rattle.replay_workers.specs.Recorder.{TookRecords, WritesRecords, RecorderGoesOn}
+use Rattle.replay_workers.specs.Recorder.{HasRecorded, TookRecords, WritesRecords, RecorderGoesOn}
 use Rattle.replay_workers.proofs.SameLanes.{intake_goes_on}
 
 -- a prefix of this text, if the writer still reports its bytes
@@ -21,7 +21,7 @@ abbrev pub Begins : Option (List ℕ) → Option (List ℕ) → List ℕ → Typ
 Begins old new text = IfSome new (λ _. (n : ℕ) × Appends old new (take n text))
 
 -- complete texts, and then a prefix of the next
-begins_then : (old between new : Option (List ℕ)) (first next : List ℕ) → Appends old between first
+pub begins_then : (old between new : Option (List ℕ)) (first next : List ℕ) → Appends old between first
     → Begins between new next → Begins old new (first ++ next)
 begins_then old between None first next whole begins = tt
 begins_then None between (Some zs) first next whole begins = (zero, tt)
@@ -102,6 +102,23 @@ module _ (first taken : List Answer) (before old new : Option (List ℕ)) (answe
         (begins_then before old new (answer_records w.written) (answer_record answer) w.records begins);
   }
 
+pub none_yet : (failure : Option AnswerError) → is_some failure ≡ false → failure ≡ None
+none_yet None none = refl
+none_yet (Some failure) none = absurd (false≢true (sym none))
+
+module _ (first taken : List Answer) (before old new : Option (List ℕ)) (answer : Answer) (failure : Option AnswerError)
+    (none : failure ≡ None) (w : WritesRecords first taken before old failure) where
+  was : WritesRecords first taken before old None
+  was = subst (λ (f : Option AnswerError). WritesRecords first taken before old f) none w
+
+  pub written_after : Appends old new (answer_record answer) → WritesRecords first (taken ++ answer ∷ []) before new failure
+  written_after appends =
+      subst (λ (f : Option AnswerError). WritesRecords first (taken ++ answer ∷ []) before new f) (sym none)
+      (written_also first taken before old new answer was appends)
+
+  pub failed_after : Begins old new (answer_record answer) → WritesRecords first (taken ++ answer ∷ []) before new (Some Write)
+  failed_after begins = failed_also first taken before old new answer was begins
+
 -- a recorder has written nothing yet
 pub nothing_recorded : (taken : List Answer) (before : Option (List ℕ)) → Appends before before []
     → WritesRecords taken taken before before None
@@ -133,4 +150,27 @@ module _ {W : Type 0} (given_to : W → Option (List ℕ)) where
         subst (λ (now : List Answer). WritesRecords first now before (given_to new.out) new.failure)
         (sym took ∙ ap (λ (r : IntakeView Answer). r.taken) (sym same))
         (writes first old.answers.taken before (goes.writes first before was));
+  }
+
+  -- no answer has come
+  pub recorder_waits : (start old : Recorder W) (answers : IntakeView Answer) → RecorderGoesOn given_to start old
+      → IntakeGoesOn old.answers answers → answers.taken ≡ old.answers.taken ++ []
+      → RecorderGoesOn given_to start (record old { answers = answers })
+  recorder_waits start old answers goes on took = record {
+    answers = intake_goes_on start.answers old.answers answers goes.answers on;
+    writes = λ first before was.
+        subst (λ (now : List Answer). WritesRecords first now before (given_to old.out) old.failure)
+        (sym (took ∙ append-nil old.answers.taken)) (goes.writes first before was);
+  }
+
+  -- the answers have ended
+  pub has_recorded : (start last : Recorder W) → start.failure ≡ None → RecorderGoesOn given_to start last → HasEnded last.answers
+      → HasRecorded given_to start.answers start.out last
+  has_recorded start last none goes ended = record {
+    answers = goes.answers;
+    ended = ended;
+    writes =
+        goes.writes start.answers.taken (given_to start.out)
+        (subst (λ (f : Option AnswerError). WritesRecords start.answers.taken start.answers.taken (given_to start.out) (given_to start.out) f)
+        (sym none) (nothing_recorded start.answers.taken (given_to start.out) (appends_none (given_to start.out))));
   }

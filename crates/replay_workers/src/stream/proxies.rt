@@ -52,6 +52,7 @@ pub fn connect_all<S: Drop, W: Drop, G: Drop>(
     clients: Vec<Client>,
     gatekeeper: &Arc<G, Global>,
 ) -> Result<Vec<Task<S, W, G>>, AllocError>
+    requires some { 1 ≤ vec_len readers }
     requires readers { vec_len readers ≡ vec_len clients }
     requires records { vec_len records ≡ vec_len clients }
     ensures given { IfOk result (λ tasks.

@@ -19,3 +19,28 @@ loop-proxy-init g c =
       room = grind (arith, common_steps);
       failed = search rules;
     }
+
+pub loop-proxy-preserved : goal.loop-proxy-preserved
+loop-proxy-preserved g c =
+    let before = c.loop-proxy.invariant.joined in
+    let proxy = c.in-Some.proxy in
+    let rest = into_iter_items c.next.new.self in
+    let joins = c.join_recorder-recorder.ensures in
+    let j : Joined g.row.W.Denot = record {
+      sent = c.join.result;
+      outlet = c.join_recorder-recorder.new.outlet;
+      recorder = c.join_recorder-recorder.result;
+    } in
+    record {
+      joined = (
+        before.0 ++ proxy ∷ [],
+        before.1 ++ j ∷ [],
+        append_assoc before.0 (proxy ∷ []) rest ∙ ap (λ l. before.0 ++ l) (sym c.in-Some.ensures.steps.0) ∙ before.2,
+        AllZip-also (IsJoined g.S.Source.remaining g.W.Sink.given) before.0 before.1 proxy j before.3
+            (record { sent = c.join.ensures.sent; outlet_is = joins.outlet; recorder = joins.joins }),
+        streamed_also before.1 c.loop-proxy.streamed c.push.new.self j before.4 c.push.ensures.clients c.push.ensures.failures
+            c.push.ensures.recorders c.push.ensures.unwritten c.push.ensures.all_sent c.push.ensures.sends_all,
+      );
+      room = grind (arith, common_steps);
+      failed = search rules;
+    }

@@ -7,8 +7,8 @@ use Rattle.replay_workers.proofs.Ending.{sends_moved}
 use Rattle.replay_workers.proofs.Passing.{port_closed}
 use Rattle.replay_workers.proofs.stream.sender.send_all.Goals as goal
 
-pub returns-clause-sent : goal.returns-clause-sent
-returns-clause-sent g c =
+pub returns : goal.returns
+returns g c =
     let sent = c.send_frames-end.ensures in
     let done = c.finish.ensures in
     let end = c.send_frames-end.result in
@@ -17,6 +17,7 @@ returns-clause-sent g c =
     let finished = c.finish.result in
     let closed = done.requests ∙ c.close.ensures.closed in
     record {
+      sent = record {
       requests = subst (λ (r : PortView Batch). PortGoesOn given r) (sym closed) (port_closed given after sent.requests);
       sends =
           sends_moved (g.S.Source.remaining (frames_reader c.read_frames.result)) (g.S.Source.remaining c.args.reader) given.sent
@@ -24,4 +25,5 @@ returns-clause-sent g c =
           (ap g.S.Source.remaining c.read_frames.ensures.reader) refl (sym (ap (λ (r : PortView Batch). r.sent) closed))
           (sym done.fault) (sym done.unsent) sent.sent;
       closed = ap (λ (r : PortView Batch). r.closed) closed;
+      };
     }
