@@ -11,6 +11,7 @@ use Rattle.replay_workers.specs.declared.stream.recorder.Recorder.{Recorder}
 use Rattle.replay_workers.specs.declared.stream.streamed.Streamed.{Streamed}
 use Rattle.replay_workers.specs.Proxies.{IsStreamedOf, Joined, JoinsRecorder, LeavesUnsent, SendsAll, client_of, failure_with}
 use Rattle.replay_workers.specs.Recorder.{HasRecorded, WritesRecords, is_unwritten, unwritten_cause}
+use Rattle.replay_workers.specs.Sinks.{SinkState}
 use Rattle.replay_workers.proofs.Working.{at_also, at_last}
 
 -- what follows some items is at the place of their number
@@ -31,17 +32,17 @@ all_taken {T} port intake lane ended =
     whole (x ∷ rest) is none = absurd (omega (arith, none))
 
 -- both ends of the lane to a recorder have looked at each other, once it had ended
-pub agreed : {W : Type 0} (given_to : W → Option (List ℕ)) (out : W) (given : IntakeView Answer) (old new : PortView Answer)
-    (first last : Recorder W) → HasRecorded given_to given out first → Lane old first.answers → new.sent ≡ old.sent
+pub agreed : {W : Type 0} (state_of : W → SinkState) (out : W) (given : IntakeView Answer) (old new : PortView Answer)
+    (first last : Recorder W) → HasRecorded state_of given out first → Lane old first.answers → new.sent ≡ old.sent
     → new.closed ≡ old.closed → last.answers.taken ≡ first.answers.taken → last.out ≡ first.out → last.failure ≡ first.failure
-    → JoinsRecorder given_to (Some out) (Some given) (Some old) (Some new) (Some last)
-agreed {W} given_to out given old new first last has lane sent closed taken same_out same_failure = (
+    → JoinsRecorder state_of (Some out) (Some given) (Some old) (Some new) (Some last)
+agreed {W} state_of out given old new first last has lane sent closed taken same_out same_failure = (
   sent,
   closed,
   taken ∙ all_taken old first.answers lane has.ended ∙ sym sent,
-  subst (λ (now : List Answer). WritesRecords given.taken now (given_to out) (given_to last.out) last.failure) (sym taken)
-      (subst (λ (o : W). WritesRecords given.taken first.answers.taken (given_to out) (given_to o) last.failure) (sym same_out)
-      (subst (λ f. WritesRecords given.taken first.answers.taken (given_to out) (given_to first.out) f) (sym same_failure)
+  subst (λ (now : List Answer). WritesRecords given.taken now (state_of out) (state_of last.out) last.failure) (sym taken)
+      (subst (λ (o : W). WritesRecords given.taken first.answers.taken (state_of out) (state_of o) last.failure) (sym same_out)
+      (subst (λ f. WritesRecords given.taken first.answers.taken (state_of out) (state_of first.out) f) (sym same_failure)
       has.writes)),
 )
 

@@ -8,6 +8,7 @@ pub mod Stopping
 pub mod Runs
 pub mod Keeping
 pub mod Ending
+pub mod Writing
 pub mod Recording
 pub mod Outlets
 pub mod Passing

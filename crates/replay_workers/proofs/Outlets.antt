@@ -1,7 +1,6 @@
 -- What the outlets have printed and passed on, from one step to the next.
 use Rattle.std.specs.Prelude.{◌≡◌, ◌≢◌, ℕ, ◌<◌, ◌+◌, ◌==◌, Bool, true, false, List, [], ◌∷◌, ◌++◌, length, map, set, take, Option, None, Some, IfSome, option_to_list, slice_get, slice_index_or as get_or}
 use Rattle.std.specs.List.{All, flat_map}
-use Rattle.std.specs.Io.KnownBytes.{Appends}
 use Rattle.std.proofs.Common.{refl, sym, ap, subst, ◌∙◌, append_assoc, append-nil, arith, inl, inr}
 use Rattle.std.proofs.lemmas.Bool.{false≢true, cases_eq, eq-eqb, ne_eqb}
 use Rattle.std.proofs.lemmas.List.{get_or-set_same, get_or-set_other, length-set}
@@ -10,14 +9,14 @@ use Rattle.std.proofs.lemmas.List.Elements.{All-append, All-nil, All-cons}
 use Rattle.std.proofs.lemmas.Option.{same_Some, slice_get-get_or, slice_get_within, get_or_from_slice_get}
 use Rattle.keyspace.specs.declared.answer.Answer.{Answer}
 use Rattle.lane.specs.Lane.{PortView, PortGoesOn, IntakeView, IntakeGoesOn}
-use Rattle.wire.proofs.callers.Given.{appends_then, appends_none}
 use Rattle.replay_output.specs.declared.options.form.Form.{Form}
 use Rattle.replay_output.specs.Lines.{line}
 use Rattle.replay_output.specs.Streamed.{Printed, answer_for, printed_for, printed_line, stream_text}
 use Rattle.replay_workers.specs.declared.stream.outlet.Outlet.{Outlet}
 use Rattle.replay_workers.specs.Outlet.{is_whole, PassesOn, OutletGoesOn, TookText, PassesSome, EachOutlet, StreamGoesOn, AreNumbered, HasPassedAll, StreamsOn}
-use Rattle.replay_workers.proofs.Recording.{Begins, begins_then}
+use Rattle.replay_workers.specs.Sinks.{FailsIn, SinkState}
 use Rattle.replay_workers.proofs.SameLanes.{port_goes_on, intake_goes_on}
+use Rattle.replay_workers.proofs.Writing.{fails_then, takes_nothing, takes_then}
 
 pub port_same : {T : Type 0} (a : PortView T) → PortGoesOn a a
 port_same a = record { lane = refl; capacity = refl; seen_taken = omega arith; looks = omega arith }
@@ -115,15 +114,15 @@ outlet_same had has l stays = record {
 }
 
 -- one text after another
-pub took_then : (mid has : Bool) (a b c : Option (List ℕ)) (first next : List ℕ) → TookText mid a b first
+pub took_then : (mid has : Bool) (a b c : SinkState) (first next : List ℕ) → TookText mid a b first
     → (mid ≡ false → TookText has b c next) → (mid ≡ true → (has ≡ true) × (c ≡ b)) → (mid ≡ true → next ≡ [])
     → TookText has a c (first ++ next)
-took_then false false a b c first next h k nothing none = appends_then a b c first next h (k refl)
-took_then false true a b c first next h k nothing none = begins_then a b c first next h (k refl)
+took_then false false a b c first next h k nothing none = takes_then a b c first next h (k refl)
+took_then false true a b c first next h k nothing none = fails_then a b c first next h (k refl)
 took_then true has a b c first next h k nothing none =
     subst (λ (has : Bool). TookText has a c (first ++ next)) (sym (nothing refl).0)
-    (subst (λ (c : Option (List ℕ)). Begins a c (first ++ next)) (sym (nothing refl).1)
-    (subst (Begins a b) (sym (ap (λ (l : List ℕ). first ++ l) (none refl) ∙ append-nil first)) h))
+    (subst (λ (c : SinkState). FailsIn a c (first ++ next)) (sym (nothing refl).1)
+    (subst (FailsIn a b) (sym (ap (λ (l : List ℕ). first ++ l) (none refl) ∙ append-nil first)) h))
 
 -- the answers of one outlet, as the stream has them
 abbrev pub of_proxy : ℕ → Answer → Printed
@@ -180,7 +179,7 @@ each_set P Q old now i x d inside here others e = record {
 }
 
 -- nothing has happened
-pub stream_same : (form : Form) (failed : Bool) (given : Option (List ℕ)) (outlets : List Outlet)
+pub stream_same : (form : Form) (failed : Bool) (given : SinkState) (outlets : List Outlet)
     → StreamGoesOn form failed failed given given outlets outlets
 stream_same form failed given outlets = record {
   printed = [];
@@ -193,12 +192,12 @@ stream_same form failed given outlets = record {
           (same_Some l m (sym was ∙ is)) (outlet_same failed failed l (λ same. same)),
     );
   };
-  text = λ whole. subst (λ (failed : Bool). TookText failed given given []) (sym whole) (appends_none given);
+  text = λ whole. subst (λ (failed : Bool). TookText failed given given []) (sym whole) (takes_nothing given);
   nothing = λ failed. (refl, (failed, refl));
 }
 
 -- the outlet at an index has passed some answers on
-module _ (form : Form) (start mid now : Bool) (first before after : Option (List ℕ)) (old outlets : List Outlet) (i : ℕ)
+module _ (form : Form) (start mid now : Bool) (first before after : SinkState) (old outlets : List Outlet) (i : ℕ)
     (x d : Outlet) (inside : i < length outlets) (numbered : (get_or outlets i d).proxy ≡ i)
     (so_far : StreamGoesOn form start mid first before old outlets)
     (step : PassesSome form mid now before after (get_or outlets i d) x) where
@@ -269,7 +268,7 @@ module _ (form : Form) (start mid now : Bool) (first before after : Option (List
   }
 
 -- one round after another
-pub numbered_later : (form : Form) (start now : Bool) (first after : Option (List ℕ)) (old outlets : List Outlet)
+pub numbered_later : (form : Form) (start now : Bool) (first after : SinkState) (old outlets : List Outlet)
     → StreamGoesOn form start now first after old outlets → AreNumbered old → AreNumbered outlets
 numbered_later form start now first after old outlets goes numbered q m at =
     let l = get_or old q m in
@@ -311,13 +310,13 @@ passed_set outlets i x inside before now q m below at =
     ]
 
 -- a stream that goes on by two steps
-pub streams_then : (form later : Form) (first mid now : Bool) (a b c : Option (List ℕ)) (old between new : List Outlet) → later ≡ form
+pub streams_then : (form later : Form) (first mid now : Bool) (a b c : SinkState) (old between new : List Outlet) → later ≡ form
     → StreamsOn form first mid a b old between → StreamsOn later mid now b c between new → StreamsOn form first now a c old new
 streams_then form later first mid now a b c old between new same one two = λ failed given outlets was.
     subst (λ (form : Form). StreamGoesOn form failed now given c outlets new) same
     (two failed given outlets (subst (λ (form : Form). StreamGoesOn form failed mid given b outlets between) (sym same)
     (one failed given outlets was)))
 
-pub streams_same : (form : Form) (failed : Bool) (given : Option (List ℕ)) (outlets : List Outlet)
+pub streams_same : (form : Form) (failed : Bool) (given : SinkState) (outlets : List Outlet)
     → StreamsOn form failed failed given given outlets outlets
 streams_same form failed given outlets = λ first before old was. was

@@ -5,12 +5,13 @@ use Rattle.std.proofs.Common.{refl, sym, ap, subst, ◌∙◌, append-nil}
 use Rattle.std.proofs.lemmas.Bool.{false≢true}
 use Rattle.keyspace.specs.declared.answer.Answer.{Answer}
 use Rattle.lane.specs.Lane.{IntakeGoesOn, IntakeView, PortGoesOn, PortView}
-use Rattle.wire.proofs.callers.Given.{appends_none}
 use Rattle.replay_output.specs.declared.options.form.Form.{Form}
 use Rattle.replay_output.specs.Lines.{line}
 use Rattle.replay_workers.specs.declared.stream.outlet.Outlet.{Outlet}
 use Rattle.replay_workers.specs.Outlet.{is_whole, PassesOn, TookText, PassesSome}
+use Rattle.replay_workers.specs.Sinks.{SinkState}
 use Rattle.replay_workers.proofs.Outlets.{broken, passes_then, port_same}
+use Rattle.replay_workers.proofs.Writing.{takes_nothing}
 
 -- an answer was sent to the recorder, or it waits
 pub passes_sent : (a b : PortView Answer) (answer : Answer) → PortGoesOn a b → b.sent ≡ a.sent ++ answer ∷ []
@@ -51,7 +52,7 @@ passes_closed a b waits is =
     (port_closed a a (port_same a), sym (append-nil (a.sent ++ option_to_list waits)))
 
 -- nothing was taken, and nothing printed
-pub passes_nothing : (form : Form) (failed : Bool) (given : Option (List ℕ)) (old new : Outlet)
+pub passes_nothing : (form : Form) (failed : Bool) (given : SinkState) (old new : Outlet)
     → IntakeGoesOn old.replies new.replies → new.replies.taken ≡ old.replies.taken → new.proxy ≡ old.proxy → new.lost ≡ old.lost
     → PassesOn old.records new.records old.waiting new.waiting [] → PassesSome form failed failed given given old new
 passes_nothing form failed given old new replies taken proxy lost passed = record {
@@ -66,12 +67,12 @@ passes_nothing form failed given old new replies taken proxy lost passed = recor
     none_printed = λ _. refl;
     stays = λ whole. sym (ap (λ (l : Bool). is_whole l failed) lost) ∙ whole;
   };
-  text = λ well. subst (λ (failed : Bool). TookText failed given given []) (sym well) (appends_none given);
+  text = λ well. subst (λ (failed : Bool). TookText failed given given []) (sym well) (takes_nothing given);
   nothing = λ failed. (failed, refl);
 }
 
 -- what becomes of an answer: it is printed, or dropped
-record Split (form : Form) (proxy : ℕ) (answer : Answer) (was_lost had is_lost has : Bool) (before after : Option (List ℕ))
+record Split (form : Form) (proxy : ℕ) (answer : Answer) (was_lost had is_lost has : Bool) (before after : SinkState)
     : Type 0 where
   pub printed : List Answer
   pub dropped : List Answer
@@ -81,7 +82,7 @@ record Split (form : Form) (proxy : ℕ) (answer : Answer) (was_lost had is_lost
   pub stays : is_whole is_lost has ≡ true → is_whole was_lost had ≡ true
   pub text : had ≡ false → TookText has before after (flat_map (line form proxy) printed)
 
-module _ (form : Form) (proxy : ℕ) (answer : Answer) (before after : Option (List ℕ)) where
+module _ (form : Form) (proxy : ℕ) (answer : Answer) (before after : SinkState) where
   dropped_one : (was_lost had is_lost has : Bool) → is_whole is_lost has ≡ false
       → (had ≡ false → (has ≡ had) × (after ≡ before)) → Split form proxy answer was_lost had is_lost has before after
   dropped_one was_lost had is_lost has not_whole same = record {
@@ -93,7 +94,7 @@ module _ (form : Form) (proxy : ℕ) (answer : Answer) (before after : Option (L
     stays = λ whole. absurd (false≢true (sym not_whole ∙ whole));
     text = λ well.
         subst (λ (has : Bool). TookText has before after []) (sym ((same well).0 ∙ well))
-        (subst (λ (given : Option (List ℕ)). TookText false before given []) (sym (same well).1) (appends_none before));
+        (subst (λ (given : SinkState). TookText false before given []) (sym (same well).1) (takes_nothing before));
   }
 
   split : (was_lost had is_lost has : Bool)
@@ -117,7 +118,7 @@ module _ (form : Form) (proxy : ℕ) (answer : Answer) (before after : Option (L
   }
 
 -- an answer was taken, printed or dropped, and passed on
-pub passes_answer : (form : Form) (had has : Bool) (before after : Option (List ℕ)) (old new : Outlet) (answer : Answer)
+pub passes_answer : (form : Form) (had has : Bool) (before after : SinkState) (old new : Outlet) (answer : Answer)
     → IntakeGoesOn old.replies new.replies → new.replies.taken ≡ old.replies.taken ++ answer ∷ [] → new.proxy ≡ old.proxy
     → PassesOn old.records new.records old.waiting new.waiting (answer ∷ [])
     → (is_whole old.lost had ≡ true → new.lost ≡ false → TookText has before after (line form old.proxy answer))
@@ -142,7 +143,7 @@ passes_answer form had has before after old new answer replies taken proxy passe
     }
 
 -- none waited any more, an answer was taken, printed or dropped, and passed on
-pub passes_after : (form : Form) (had has : Bool) (before after : Option (List ℕ)) (old behind printed new : Outlet)
+pub passes_after : (form : Form) (had has : Bool) (before after : SinkState) (old behind printed new : Outlet)
     (replies : IntakeView Answer) (answer : Answer)
     → behind ≡ record old { records = behind.records; waiting = behind.waiting } → behind.waiting ≡ None
     → IntakeGoesOn behind.replies replies → replies.taken ≡ behind.replies.taken ++ answer ∷ []

@@ -9,6 +9,7 @@ use Rattle.resolver.specs.declared.client.Client.{Client}
 use Rattle.replay_workers.specs.declared.stream.recorder.Recorder.{Recorder}
 use Rattle.replay_workers.specs.Proxies.{GivenProxy, JoinsRecorder, given_proxies}
 use Rattle.replay_workers.specs.Streaming.{Recorded, recorded_each}
+use Rattle.replay_workers.specs.Sinks.{SinkState}
 use Rattle.replay_workers.proofs.Streams.{recorded_of}
 
 -- what holds at each place holds of the lists
@@ -87,48 +88,48 @@ from_map f (x ∷ xs) zero y at = (x, refl, same_Some (f x) y at)
 from_map f (x ∷ xs) (suc place) y at = from_map f xs place y at
 
 -- the writers with their recorders, place by place
-pub recorded_at : {W : Type 0} (given_to : W → Option (List ℕ)) (outs : List (Option W)) (recorders : List (Option (Recorder W)))
+pub recorded_at : {W : Type 0} (state_of : W → SinkState) (outs : List (Option W)) (recorders : List (Option (Recorder W)))
     (place : ℕ) (o : Option W) (r : Option (Recorder W)) → slice_get outs place ≡ Some o → slice_get recorders place ≡ Some r
-    → slice_get (recorded_each given_to outs recorders) place ≡ Some (recorded_of given_to o r)
-recorded_at given_to [] recorders place o r at there = absurd (none-some o at)
-recorded_at given_to (o ∷ outs) [] place p r at there = absurd (none-some r there)
-recorded_at {W} given_to (None ∷ outs) (q ∷ recorders) zero o r at there =
-    subst (λ (o : Option W). ◌≡◌ {A = Option (Option Recorded)} (Some None) (Some (recorded_of given_to o r))) (same_Some None o at) refl
-recorded_at {W} given_to (Some w ∷ outs) (None ∷ recorders) zero o r at there =
-    subst (λ (o : Option W). ◌≡◌ {A = Option (Option Recorded)} (Some None) (Some (recorded_of given_to o r))) (same_Some (Some w) o at)
-    (subst (λ (r : Option (Recorder W)). ◌≡◌ {A = Option (Option Recorded)} (Some None) (Some (recorded_of given_to (Some w) r)))
+    → slice_get (recorded_each state_of outs recorders) place ≡ Some (recorded_of state_of o r)
+recorded_at state_of [] recorders place o r at there = absurd (none-some o at)
+recorded_at state_of (o ∷ outs) [] place p r at there = absurd (none-some r there)
+recorded_at {W} state_of (None ∷ outs) (q ∷ recorders) zero o r at there =
+    subst (λ (o : Option W). ◌≡◌ {A = Option (Option Recorded)} (Some None) (Some (recorded_of state_of o r))) (same_Some None o at) refl
+recorded_at {W} state_of (Some w ∷ outs) (None ∷ recorders) zero o r at there =
+    subst (λ (o : Option W). ◌≡◌ {A = Option (Option Recorded)} (Some None) (Some (recorded_of state_of o r))) (same_Some (Some w) o at)
+    (subst (λ (r : Option (Recorder W)). ◌≡◌ {A = Option (Option Recorded)} (Some None) (Some (recorded_of state_of (Some w) r)))
     (same_Some None r there) refl)
-recorded_at {W} given_to (Some w ∷ outs) (Some q ∷ recorders) zero o r at there =
-    subst (λ (o : Option W). Some (recorded_of given_to (Some w) (Some q)) ≡ Some (recorded_of given_to o r)) (same_Some (Some w) o at)
-    (subst (λ (r : Option (Recorder W)). Some (recorded_of given_to (Some w) (Some q)) ≡ Some (recorded_of given_to (Some w) r))
+recorded_at {W} state_of (Some w ∷ outs) (Some q ∷ recorders) zero o r at there =
+    subst (λ (o : Option W). Some (recorded_of state_of (Some w) (Some q)) ≡ Some (recorded_of state_of o r)) (same_Some (Some w) o at)
+    (subst (λ (r : Option (Recorder W)). Some (recorded_of state_of (Some w) (Some q)) ≡ Some (recorded_of state_of (Some w) r))
     (same_Some (Some q) r there) refl)
-recorded_at given_to (None ∷ outs) (q ∷ recorders) (suc place) o r at there = recorded_at given_to outs recorders place o r at there
-recorded_at given_to (Some w ∷ outs) (None ∷ recorders) (suc place) o r at there =
-    recorded_at given_to outs recorders place o r at there
-recorded_at given_to (Some w ∷ outs) (Some q ∷ recorders) (suc place) o r at there =
-    recorded_at given_to outs recorders place o r at there
+recorded_at state_of (None ∷ outs) (q ∷ recorders) (suc place) o r at there = recorded_at state_of outs recorders place o r at there
+recorded_at state_of (Some w ∷ outs) (None ∷ recorders) (suc place) o r at there =
+    recorded_at state_of outs recorders place o r at there
+recorded_at state_of (Some w ∷ outs) (Some q ∷ recorders) (suc place) o r at there =
+    recorded_at state_of outs recorders place o r at there
 
-pub length_recorded : {W : Type 0} (given_to : W → Option (List ℕ)) (outs : List (Option W)) (recorders : List (Option (Recorder W)))
-    → length recorders ≡ length outs → length (recorded_each given_to outs recorders) ≡ length outs
-length_recorded given_to [] recorders same = refl
-length_recorded given_to (o ∷ outs) [] same = absurd (omega (arith, same))
-length_recorded given_to (None ∷ outs) (q ∷ recorders) same =
-    let rest = length_recorded given_to outs recorders (omega (arith, same)) in
+pub length_recorded : {W : Type 0} (state_of : W → SinkState) (outs : List (Option W)) (recorders : List (Option (Recorder W)))
+    → length recorders ≡ length outs → length (recorded_each state_of outs recorders) ≡ length outs
+length_recorded state_of [] recorders same = refl
+length_recorded state_of (o ∷ outs) [] same = absurd (omega (arith, same))
+length_recorded state_of (None ∷ outs) (q ∷ recorders) same =
+    let rest = length_recorded state_of outs recorders (omega (arith, same)) in
     omega (arith, rest)
-length_recorded given_to (Some w ∷ outs) (None ∷ recorders) same =
-    let rest = length_recorded given_to outs recorders (omega (arith, same)) in
+length_recorded state_of (Some w ∷ outs) (None ∷ recorders) same =
+    let rest = length_recorded state_of outs recorders (omega (arith, same)) in
     omega (arith, rest)
-length_recorded given_to (Some w ∷ outs) (Some q ∷ recorders) same =
-    let rest = length_recorded given_to outs recorders (omega (arith, same)) in
+length_recorded state_of (Some w ∷ outs) (Some q ∷ recorders) same =
+    let rest = length_recorded state_of outs recorders (omega (arith, same)) in
     omega (arith, rest)
 
 -- a proxy has records if it has a writer
-pub is_recorded : {W : Type 0} (given_to : W → Option (List ℕ)) (out : Option W) (given : Option (IntakeView Answer))
-    (old new : Option (PortView Answer)) (recorder : Option (Recorder W)) → JoinsRecorder given_to out given old new recorder
-    → is_some (recorded_of given_to out recorder) ≡ is_some out
-is_recorded given_to None given old new recorder joins = refl
-is_recorded given_to (Some out) given old new (Some recorder) joins = refl
-is_recorded given_to (Some out) (Some given) (Some old) (Some new) None joins = absurd joins
-is_recorded given_to (Some out) (Some given) (Some old) None None joins = absurd joins
-is_recorded given_to (Some out) (Some given) None new None joins = absurd joins
-is_recorded given_to (Some out) None old new None joins = absurd joins
+pub is_recorded : {W : Type 0} (state_of : W → SinkState) (out : Option W) (given : Option (IntakeView Answer))
+    (old new : Option (PortView Answer)) (recorder : Option (Recorder W)) → JoinsRecorder state_of out given old new recorder
+    → is_some (recorded_of state_of out recorder) ≡ is_some out
+is_recorded state_of None given old new recorder joins = refl
+is_recorded state_of (Some out) given old new (Some recorder) joins = refl
+is_recorded state_of (Some out) (Some given) (Some old) (Some new) None joins = absurd joins
+is_recorded state_of (Some out) (Some given) (Some old) None None joins = absurd joins
+is_recorded state_of (Some out) (Some given) None new None joins = absurd joins
+is_recorded state_of (Some out) None old new None joins = absurd joins

@@ -9,6 +9,7 @@ use Rattle.replay_workers.specs.declared.stream.outlet.Outlet.{Outlet}
 use Rattle.replay_workers.specs.declared.stream.proxies.Proxy.{Proxy}
 use Rattle.replay_workers.specs.Outlet.{AreNumbered, HasPassedAll, PassesSome, StreamGoesOn, StreamsOn}
 use Rattle.replay_workers.specs.Proxies.{outlets_of, threads_of}
+use Rattle.replay_workers.specs.Sinks.{SinkState}
 use Rattle.replay_workers.proofs.Outlets.{numbered_set, passed_set, stream_at}
 use Rattle.replay_workers.proofs.Runs.{mapped_at}
 
@@ -45,7 +46,7 @@ module _ {S W : Type 0} (proxies : List (Proxy S W)) (i : ℕ) (d : Proxy S W) (
       passed_set (outlets_of proxies) i x within before now q m below (ap (λ l. slice_get l q) (sym outlets_are) ∙ there)
 
   -- the outlet at this place has passed some answers on
-  pub streams_at : (form : Form) (start mid now : Bool) (first before after : Option (List ℕ)) (old : List Outlet)
+  pub streams_at : (form : Form) (start mid now : Bool) (first before after : SinkState) (old : List Outlet)
       → AreNumbered (outlets_of proxies) → StreamsOn form start mid first before old (outlets_of proxies)
       → PassesSome form mid now before after here.outlet x → StreamsOn form start now first after old (outlets_of with_outlet)
   streams_at form start mid now first before after old numbered streams step = λ failed given outlets was.

@@ -44,6 +44,7 @@ use Rattle.replay_workers.specs.Proxies.{
 use Rattle.replay_workers.specs.Stops.{IsStopOf}
 use Rattle.replay_workers.specs.Streaming.{IsStreamed, IsStreamedFor, LeavesLast, Recorded, recorded_each}
 use Rattle.replay_workers.specs.Worker.{ClientGoesOn, TakesFrames}
+use Rattle.replay_workers.specs.Sinks.{SinkState}
 use Rattle.replay_workers.proofs.callers.Lists.{all_at, found}
 use Rattle.replay_workers.proofs.Places.{all_of, from_map, given_at, given_number, is_recorded, length_given, length_recorded, recorded_at, zip_at, zip_of}
 use Rattle.replay_workers.proofs.Runs.{mapped_at}
@@ -99,7 +100,7 @@ module _ {S W G : Type 0} (readers : List S) (outs : List (Option W)) (clients :
       let number = given_number 0 clients readers outs proxy _ (given_here proxy t.0 t.1) in
       ap (λ (l : Outlet). l.proxy) (sym t.2) ∙ number ∙ omega arith
 
-  module _ (form : Form) (has_failed : Bool) (before after : Option (List ℕ)) (ended : List (Proxy S W))
+  module _ (form : Form) (has_failed : Bool) (before after : SinkState) (ended : List (Proxy S W))
       (fresh : All (λ (t : Task S W G). IsNewOutlet t.outlet (threads_by t).answers) tasks)
       (threads : map threads_of ended ≡ map (λ (t : Task S W G). threads_by t) tasks)
       (goes : StreamGoesOn form false has_failed before after (map (λ (t : Task S W G). t.outlet) tasks) (outlets_of ended))
@@ -146,17 +147,17 @@ module _ {S W G : Type 0} (readers : List S) (outs : List (Option W)) (clients :
         (ends_of ran.task.outlet.records p.outlet.records (threads_by ran.task).answers ran.task.outlet.waiting p.outlet.waiting _
         ran.is_new.ends ran.goes_on.passed))
 
-    module _ (remaining : S → Option (List ℕ)) (given_to : W → Option (List ℕ)) (joined : List (Joined W))
-        (worked : AllZip (IsJoined remaining given_to) ended joined) where
+    module _ (remaining : S → Option (List ℕ)) (state_of : W → SinkState) (joined : List (Joined W))
+        (worked : AllZip (IsJoined remaining state_of) ended joined) where
       pub joined_count : length joined ≡ length clients
-      joined_count = AllZip-long (IsJoined remaining given_to) ended joined worked ∙ ended_count
+      joined_count = AllZip-long (IsJoined remaining state_of) ended joined worked ∙ ended_count
 
       -- all that is known of one proxy
       pub record Known (proxy : ℕ) (j : Joined W) : Type 0 where
         pub running : Proxy S W
         pub ran : Ran proxy running
         pub place : Place proxy ran.task
-        pub has : HasJoined remaining given_to running.outlet (threads_by ran.task) j
+        pub has : HasJoined remaining state_of running.outlet (threads_by ran.task) j
         pub requests : (threads_by ran.task).requests ≡ place.client.requests
         pub replies : ran.task.outlet.replies ≡ place.client.replies
         pub reader : (threads_by ran.task).reader ≡ place.reader
@@ -172,8 +173,8 @@ module _ {S W G : Type 0} (readers : List S) (outs : List (Option W)) (clients :
             ran = ran;
             place = place;
             has =
-                subst (λ (given : GivenThreads S W). HasJoined remaining given_to p.0.outlet given j) ran.same_threads
-                (zip_at (IsJoined remaining given_to) ended joined proxy p.0 j worked p.1 at);
+                subst (λ (given : GivenThreads S W). HasJoined remaining state_of p.0.outlet given j) ran.same_threads
+                (zip_at (IsJoined remaining state_of) ended joined proxy p.0 j worked p.1 at);
             requests = ap (λ (g : GivenProxy S W). g.client.requests) place.was_given;
             replies = ap (λ (g : GivenProxy S W). g.client.replies) place.was_given;
             reader = ap (λ (g : GivenProxy S W). g.reader) place.was_given;
@@ -219,17 +220,17 @@ module _ {S W G : Type 0} (readers : List S) (outs : List (Option W)) (clients :
 
         streamed_at : (proxy : ℕ) (j : Joined W) (at : slice_get joined proxy ≡ Some j) (known : Known proxy j)
             → IsStreamedFor options.window log complete has_failed account.stop (bytes_of proxy j known) proxy
-            (printed_for proxy goes.printed) (failure_with j) (recorded_of given_to known.place.out j.recorder)
+            (printed_for proxy goes.printed) (failure_with j) (recorded_of state_of known.place.out j.recorder)
         streamed_at proxy j at known =
             let ran = known.ran in
             let client = all_at (IsNewClient options.capacity) clients proxy known.place.client new known.place.at_client in
             let here = mapped_at client_of joined proxy j at in
             subst (λ (o : Option W). IsStreamedFor options.window log complete has_failed account.stop (bytes_of proxy j known)
-            proxy (printed_for proxy goes.printed) (failure_with j) (recorded_of given_to o j.recorder)) known.out
+            proxy (printed_for proxy goes.printed) (failure_with j) (recorded_of state_of o j.recorder)) known.out
             (subst (λ (r : S). IsStreamedFor options.window log complete has_failed account.stop (remaining r)
-            proxy (printed_for proxy goes.printed) (failure_with j) (recorded_of given_to (threads_by ran.task).out j.recorder))
+            proxy (printed_for proxy goes.printed) (failure_with j) (recorded_of state_of (threads_by ran.task).out j.recorder))
             known.reader
-            (streamed_for given_to remaining options.window log (has_ended lanes proxy) streamed.all_sent has_failed (sent_to lanes proxy) account
+            (streamed_for state_of remaining options.window log (has_ended lanes proxy) streamed.all_sent has_failed (sent_to lanes proxy) account
             proxy (threads_by ran.task) ran.task.outlet known.running.outlet j (printed_for proxy goes.printed) ran.dropped
             (ap (λ (p : PortView Batch). p.sent) (known.requests ∙ client.requests))
             (ap (λ (i : IntakeView Answer). i.taken) (known.replies ∙ client.replies)) ran.is_new.none_waits ran.is_new.ends ran.goes_on
@@ -270,10 +271,10 @@ module _ {S W G : Type 0} (readers : List S) (outs : List (Option W)) (clients :
             }
 
         recorded_here : (proxy : ℕ) (j : Joined W) → slice_get joined proxy ≡ Some j → (known : Known proxy j)
-            → slice_get (recorded_each given_to outs streamed.recorders.items) proxy
-            ≡ Some (recorded_of given_to known.place.out j.recorder)
+            → slice_get (recorded_each state_of outs streamed.recorders.items) proxy
+            ≡ Some (recorded_of state_of known.place.out j.recorder)
         recorded_here proxy j at known =
-            recorded_at given_to outs streamed.recorders.items proxy known.place.out j.recorder known.place.at_out
+            recorded_at state_of outs streamed.recorders.items proxy known.place.out j.recorder known.place.at_out
             (ap (λ l. slice_get l proxy) of_joined.recorders ∙ mapped_at (λ (j : Joined W). j.recorder) joined proxy j at)
 
         -- the proxy's place among those that were joined
@@ -281,15 +282,15 @@ module _ {S W G : Type 0} (readers : List S) (outs : List (Option W)) (clients :
             → (j : Joined W) × (slice_get joined proxy ≡ Some j)
         joined_for xs proxy x count at = found xs joined proxy x (joined_count ∙ sym count) at
 
-        recorded_count : length (recorded_each given_to outs streamed.recorders.items) ≡ length clients
+        recorded_count : length (recorded_each state_of outs streamed.recorders.items) ≡ length clients
         recorded_count =
-            length_recorded given_to outs streamed.recorders.items
+            length_recorded state_of outs streamed.recorders.items
             (ap length of_joined.recorders ∙ length-map joined (λ (j : Joined W). j.recorder) ∙ joined_count ∙ sym as_many)
             ∙ as_many
 
         pub is_streamed : IfSome account.stop (IsStopOf options.limit options.window log)
             → IsStreamed options (map remaining readers) (map is_some outs) before after has_failed streamed.failures.items
-            (recorded_each given_to outs streamed.recorders.items) complete account.stop
+            (recorded_each state_of outs streamed.recorders.items) complete account.stop
         is_streamed met =
             let clients_same : length clients ≡ length (map remaining readers) = sym same ∙ sym (length-map readers remaining) in
             let tasks_same : length (map (λ (t : Task S W G). t.outlet) tasks) ≡ length (map remaining readers) =
@@ -302,13 +303,13 @@ module _ {S W G : Type 0} (readers : List S) (outs : List (Option W)) (clients :
               failures_count = ap length of_joined.failures ∙ length-map joined failure_with ∙ joined_count ∙ clients_same;
               recorded_count = recorded_count ∙ clients_same;
               writers = λ proxy has r has_at r_at.
-                  let j = joined_for (recorded_each given_to outs streamed.recorders.items) proxy r recorded_count r_at in
+                  let j = joined_for (recorded_each state_of outs streamed.recorders.items) proxy r recorded_count r_at in
                   let known = known_at proxy j.0 j.1 in
                   let o = from_map is_some outs proxy has has_at in
                   let out_is : known.place.out ≡ o.0 = same_Some _ o.0 (sym known.place.at_out ∙ o.1) in
                   ap is_some (same_Some r _ (sym r_at ∙ recorded_here proxy j.0 j.1 known))
-                  ∙ ap (λ (o : Option W). is_some (recorded_of given_to o j.0.recorder)) (sym known.out)
-                  ∙ is_recorded given_to (threads_by known.ran.task).out (threads_by known.ran.task).answers _ _ j.0.recorder
+                  ∙ ap (λ (o : Option W). is_some (recorded_of state_of o j.0.recorder)) (sym known.out)
+                  ∙ is_recorded state_of (threads_by known.ran.task).out (threads_by known.ran.task).answers _ _ j.0.recorder
                   known.has.recorder ∙ ap is_some (known.out ∙ out_is) ∙ o.2;
               known = subst (λ (n : ℕ). All (λ (p : Printed). p.proxy < n) goes.printed) tasks_same goes.known;
               each = λ proxy bytes failure r at failure_at r_at.
@@ -319,10 +320,10 @@ module _ {S W G : Type 0} (readers : List S) (outs : List (Option W)) (clients :
                   subst (λ (r : Option Recorded). IsStreamedFor options.window log complete has_failed account.stop bytes proxy
                   (printed_for proxy goes.printed) failure r) (same_Some _ r (sym (recorded_here proxy j.0 j.1 known) ∙ r_at))
                   (subst (λ (failure : ProxyFailure). IsStreamedFor options.window log complete has_failed account.stop bytes proxy
-                  (printed_for proxy goes.printed) failure (recorded_of given_to known.place.out j.0.recorder))
+                  (printed_for proxy goes.printed) failure (recorded_of state_of known.place.out j.0.recorder))
                   (same_Some (failure_with j.0) failure (sym failure_here ∙ failure_at))
                   (subst (λ (bytes : Option (List ℕ)). IsStreamedFor options.window log complete has_failed account.stop bytes proxy
-                  (printed_for proxy goes.printed) (failure_with j.0) (recorded_of given_to known.place.out j.0.recorder))
+                  (printed_for proxy goes.printed) (failure_with j.0) (recorded_of state_of known.place.out j.0.recorder))
                   (bytes_are proxy bytes j.0 known at) (streamed_at proxy j.0 j.1 known)));
               text = subst (λ (f : Form). TookText has_failed before after (stream_text f goes.printed)) form_is (goes.text refl);
               chain = settled.chain;

@@ -20,14 +20,15 @@ use Rattle.replay_workers.specs.Outlet.{is_whole, PassesOn, OutletGoesOn, HasPas
 use Rattle.replay_workers.specs.Proxies.{AreEnds, AreNewEnds, GivenThreads, HasJoined, Joined, JoinsRecorder, SendsAll, client_of, failure_with}
 use Rattle.replay_workers.specs.Recorder.{WritesRecords, is_refused, unwritten_cause}
 use Rattle.replay_workers.specs.Streaming.{HasRecords, IsStreamedFor, Recorded}
+use Rattle.replay_workers.specs.Sinks.{SinkState}
 use Rattle.replay_workers.proofs.Serving.{both, none_left}
 
 -- the writer of a proxy with its recorder
-abbrev pub recorded_of : {W : Type 0} → (W → Option (List ℕ)) → Option W → Option (Recorder W) → Option Recorded
-recorded_of given_to (Some out) (Some recorder) =
-    Some (record { before = given_to out; after = given_to recorder.out; failure = recorder.failure })
-recorded_of given_to (Some out) None = None
-recorded_of given_to None recorder = None
+abbrev pub recorded_of : {W : Type 0} → (W → SinkState) → Option W → Option (Recorder W) → Option Recorded
+recorded_of state_of (Some out) (Some recorder) =
+    Some (record { before = state_of out; after = state_of recorder.out; failure = recorder.failure })
+recorded_of state_of (Some out) None = None
+recorded_of state_of None recorder = None
 
 -- the ends of a lane to a recorder stay its ends
 pub ends_of : (first new : Option (PortView Answer)) (answers : Option (IntakeView Answer)) (was waits : Option Answer)
@@ -40,12 +41,12 @@ ends_of (Some first) (Some new) None was waits taken ends passed = absurd ends
 ends_of (Some first) (Some new) (Some answers) was waits taken ends passed =
     record { lane = passed.0.lane ∙ ends.0.lane; capacity = passed.0.capacity ∙ ends.0.capacity }
 
-module _ {W : Type 0} (given_to : W → Option (List ℕ)) where
+module _ {W : Type 0} (state_of : W → SinkState) where
   -- the records are of what the outlet has passed on
   pub records_of_taken : (out : Option W) (given : Option (IntakeView Answer)) (first old new : Option (PortView Answer))
       (recorder : Option (Recorder W)) (waits : Option Answer) (taken : List Answer) → AreNewEnds first given
-      → PassesOn first old None waits taken → waits ≡ None → JoinsRecorder given_to out given old new recorder
-      → IfSome (recorded_of given_to out recorder) (HasRecords taken)
+      → PassesOn first old None waits taken → waits ≡ None → JoinsRecorder state_of out given old new recorder
+      → IfSome (recorded_of state_of out recorder) (HasRecords taken)
   records_of_taken None given first old new recorder waits taken ends passed none joins = tt
   records_of_taken (Some out) given first old new None waits taken ends passed none joins = tt
   records_of_taken (Some out) (Some given) (Some first) (Some old) (Some new) (Some recorder) waits taken ends passed none joins =
@@ -68,23 +69,23 @@ module _ {W : Type 0} (given_to : W → Option (List ℕ)) where
 
   -- a proxy whose records could be written has sent all
   sends_all : {S : Type 0} (out : Option W) (given : Option (IntakeView Answer)) (old new : Option (PortView Answer))
-      (joined : Joined W) → JoinsRecorder given_to out given old new joined.recorder → SendsAll joined
-      → IfSome (recorded_of given_to out joined.recorder) (λ r. r.failure ≢ Some answer.Write) → joined.sent.unsent ≡ None
+      (joined : Joined W) → JoinsRecorder state_of out given old new joined.recorder → SendsAll joined
+      → IfSome (recorded_of state_of out joined.recorder) (λ r. r.failure ≢ Some answer.Write) → joined.sent.unsent ≡ None
   sends_all {S} out given old new joined joins (inl none) written = none
   sends_all {S} out given old new joined joins (inr failed) written =
       absurd (no_write out given old new joined.recorder joins failed written)
     where
       no_write : (out : Option W) (given : Option (IntakeView Answer)) (old new : Option (PortView Answer))
-          (recorder : Option (Recorder W)) → JoinsRecorder given_to out given old new recorder
+          (recorder : Option (Recorder W)) → JoinsRecorder state_of out given old new recorder
           → unwritten_cause recorder ≡ Some answer.Write
-          → IfSome (recorded_of given_to out recorder) (λ r. r.failure ≢ Some answer.Write) → ⊥
+          → IfSome (recorded_of state_of out recorder) (λ r. r.failure ≢ Some answer.Write) → ⊥
       no_write out given old new None joins failed written = none-some answer.Write failed
       no_write (Some out) given old new (Some recorder) joins failed written = written failed
       no_write None given old new (Some recorder) joins failed written = absurd joins
 
   -- if nothing was lost, memory was refused for no record
   pub none_refused : (out : Option W) (recorder : Option (Recorder W)) → is_refused (unwritten_cause recorder) ≡ false
-      → IfSome (recorded_of given_to out recorder) (λ r. r.failure ≢ Some answer.Memory)
+      → IfSome (recorded_of state_of out recorder) (λ r. r.failure ≢ Some answer.Memory)
   none_refused None recorder none = tt
   none_refused (Some out) None none = tt
   none_refused (Some out) (Some recorder) none = λ is. false≢true (sym none ∙ ap is_refused is)
@@ -95,13 +96,13 @@ module _ {W : Type 0} (given_to : W → Option (List ℕ)) where
       (joined : Joined W) (printed dropped : List Answer) → threads.requests.sent ≡ [] → first.replies.taken ≡ []
       → first.waiting ≡ None → AreNewEnds first.records threads.answers
       → OutletGoesOn printed dropped (is_whole first.lost false) (is_whole old.lost has_failed) first old → HasPassedAll old
-      → HasJoined remaining given_to old threads joined
+      → HasJoined remaining state_of old threads joined
       → SettledFor window log ended answers_sent account proxy (client_of joined)
       → ((version : ℤ) (j : ℕ) → ReportsCommitted (client_of joined).replies.taken version j
       → IsCommittedAt (run window log).processed proxy version j)
       → (all_sent ≡ true → SendsAll joined) → (account.stop ≡ None → account.complete ≡ true)
       → IsStreamedFor window log (account.complete && all_sent) has_failed account.stop (remaining threads.reader) proxy printed
-      (failure_with joined) (recorded_of given_to threads.out joined.recorder)
+      (failure_with joined) (recorded_of state_of threads.out joined.recorder)
   streamed_for {S} remaining window log ended all_sent has_failed answers_sent account proxy threads first old joined printed dropped
       none_sent none_taken none_waited ends goes passed has settled reported sent_all whole =
       let sends = has.sent.sends in
@@ -146,7 +147,7 @@ module _ {W : Type 0} (given_to : W → Option (List ℕ)) where
             sym (append-nil printed) ∙ ap (λ (l : List Answer). printed ++ l) (sym (goes.none_dropped stays)) ∙ sym taken;
         none_refused = λ not_lost. none_refused threads.out joined.recorder (or_parts joined.outlet.lost _ not_lost).1;
         records =
-            subst (λ (l : List Answer). IfSome (recorded_of given_to threads.out joined.recorder) (HasRecords l)) (sym taken)
+            subst (λ (l : List Answer). IfSome (recorded_of state_of threads.out joined.recorder) (HasRecords l)) (sym taken)
             (records_of_taken threads.out threads.answers first.records old.records joined.outlet.records joined.recorder old.waiting
             (printed ++ dropped) ends
             (subst (λ (w : Option Answer). PassesOn first.records old.records w old.waiting (printed ++ dropped)) none_waited goes.passed)

@@ -3,6 +3,7 @@ pub mod Ends
 pub mod Inbox
 pub mod Worker
 pub mod Sender
+pub mod Sinks
 pub mod Recorder
 pub mod Outlet
 pub mod Proxies

@@ -1,13 +1,13 @@
 -- What the outlets of the proxies have printed and passed on. This project's own.
-use Rattle.std.specs.Prelude.{◌≡◌, ℕ, ◌<◌, Bool, true, false, List, [], ◌++◌, length, take, Option, None, Some, IfSome, option_to_list, slice_get}
+use Rattle.std.specs.Prelude.{◌≡◌, ℕ, ◌<◌, Bool, true, false, List, [], ◌++◌, length, Option, None, Some, option_to_list, slice_get}
 use Rattle.std.specs.List.{All, flat_map}
-use Rattle.std.specs.Io.KnownBytes.{Appends}
 use Rattle.keyspace.specs.declared.answer.Answer.{Answer}
 use Rattle.lane.specs.Lane.{PortView, PortGoesOn, IntakeGoesOn, HasEnded}
 use Rattle.replay_output.specs.declared.options.form.Form.{Form}
 use Rattle.replay_output.specs.Lines.{line}
 use Rattle.replay_output.specs.Streamed.{Printed, printed_for, stream_text}
 use Rattle.replay_workers.specs.declared.stream.outlet.Outlet.{Outlet}
+use Rattle.replay_workers.specs.Sinks.{FailsIn, SinkState, Takes}
 
 -- no line of this proxy was lost, and standard output hasn't failed
 abbrev pub is_whole : Bool → Bool → Bool
@@ -41,12 +41,12 @@ pub record OutletGoesOn (printed dropped : List Answer) (was is : Bool) (old new
   pub stays : is ≡ true → was ≡ true
 
 -- What a writer was given of this text: all of it, or a prefix if it has failed.
-abbrev pub TookText : Bool → Option (List ℕ) → Option (List ℕ) → List ℕ → Type 0
-TookText false before after text = Appends before after text
-TookText true before after text = IfSome after (λ _. (n : ℕ) × Appends before after (take n text))
+abbrev pub TookText : Bool → SinkState → SinkState → List ℕ → Type 0
+TookText false before after text = Takes before after text
+TookText true before after text = FailsIn before after text
 
 -- One outlet has passed some answers on, and printed them by a writer that had failed or not.
-pub record PassesSome (form : Form) (had_failed has_failed : Bool) (before after : Option (List ℕ)) (old new : Outlet) : Type 0 where
+pub record PassesSome (form : Form) (had_failed has_failed : Bool) (before after : SinkState) (old new : Outlet) : Type 0 where
   pub printed : List Answer
   pub dropped : List Answer
   pub goes_on : OutletGoesOn printed dropped (is_whole old.lost had_failed) (is_whole new.lost has_failed) old new
@@ -59,7 +59,7 @@ pub record EachOutlet (P : ℕ → Outlet → Outlet → Type 0) (old new : List
   pub each : (proxy : ℕ) (l m : Outlet) → slice_get old proxy ≡ Some l → slice_get new proxy ≡ Some m → P proxy l m
 
 -- All outlets have passed some answers on, and printed them in this order.
-pub record StreamGoesOn (form : Form) (had_failed has_failed : Bool) (before after : Option (List ℕ)) (old new : List Outlet)
+pub record StreamGoesOn (form : Form) (had_failed has_failed : Bool) (before after : SinkState) (old new : List Outlet)
     : Type 0 where
   pub printed : List Printed
   pub known : All (λ (p : Printed). p.proxy < length old) printed
@@ -84,8 +84,8 @@ abbrev pub HavePassedAll : List Outlet → Type 0
 HavePassedAll outlets = (proxy : ℕ) (l : Outlet) → slice_get outlets proxy ≡ Some l → HasPassedAll l
 
 -- However a stream has come to the old outlets, it has come to the new ones.
-abbrev pub StreamsOn : Form → Bool → Bool → Option (List ℕ) → Option (List ℕ) → List Outlet → List Outlet → Type 0
+abbrev pub StreamsOn : Form → Bool → Bool → SinkState → SinkState → List Outlet → List Outlet → Type 0
 StreamsOn form had_failed has_failed before after old new =
-    (failed_first : Bool) (first : Option (List ℕ)) (outlets : List Outlet)
+    (failed_first : Bool) (first : SinkState) (outlets : List Outlet)
     → StreamGoesOn form failed_first had_failed first before outlets old
     → StreamGoesOn form failed_first has_failed first after outlets new

@@ -15,6 +15,7 @@ use Rattle.replay_output.specs.declared.failures.ProxyFailure.{ProxyFailure}
 use Rattle.replay_output.specs.declared.stream.AnswerError.TheVariants.{Write}
 use Rattle.replay_workers.specs.Recorder.{WritesRecords, is_refused, is_unwritten, unwritten_cause}
 use Rattle.replay_workers.specs.Sender.{HasSent}
+use Rattle.replay_workers.specs.Sinks.{SinkState}
 
 -- what a proxy is given: its client, the reader of its file, and the writer of its records, if there is one
 pub record GivenProxy (S W : Type 0) : Type 0 where
@@ -91,13 +92,13 @@ AreEnds (Some records) (Some answers) = SameLane records answers
 
 -- What a recorder has done by the time its outlet has ended: it has taken all that was sent to it, and written records of it. `old` and
 -- `new` are the port to it before and after both ends looked at each other.
-abbrev pub JoinsRecorder : {W : Type 0} → (W → Option (List ℕ)) → Option W → Option (IntakeView Answer)
+abbrev pub JoinsRecorder : {W : Type 0} → (W → SinkState) → Option W → Option (IntakeView Answer)
     → Option (PortView Answer) → Option (PortView Answer) → Option (Recorder W) → Type 0
-JoinsRecorder given_to (Some out) (Some answers) (Some old) (Some new) (Some recorder) =
+JoinsRecorder state_of (Some out) (Some answers) (Some old) (Some new) (Some recorder) =
     (new.sent ≡ old.sent) × (new.closed ≡ old.closed) × (recorder.answers.taken ≡ new.sent)
-    × WritesRecords answers.taken recorder.answers.taken (given_to out) (given_to recorder.out) recorder.failure
-JoinsRecorder given_to None None None None None = Unit {0}
-JoinsRecorder given_to _ _ _ _ _ = ⊥
+    × WritesRecords answers.taken recorder.answers.taken (state_of out) (state_of recorder.out) recorder.failure
+JoinsRecorder state_of None None None None None = Unit {0}
+JoinsRecorder state_of _ _ _ _ _ = ⊥
 
 -- what was joined of a proxy
 pub record Joined (W : Type 0) : Type 0 where
@@ -105,13 +106,13 @@ pub record Joined (W : Type 0) : Type 0 where
   pub outlet : Outlet
   pub recorder : Option (Recorder W)
 
-module _ {S W : Type 0} (remaining : S → Option (List ℕ)) (given_to : W → Option (List ℕ)) where
+module _ {S W : Type 0} (remaining : S → Option (List ℕ)) (state_of : W → SinkState) where
   -- what the threads of a proxy have done, and its outlet
   pub record HasJoined (outlet : Outlet) (threads : GivenThreads S W) (joined : Joined W) : Type 0 where
     pub sent : HasSent (remaining threads.reader) threads.requests joined.sent
     pub outlet_is : joined.outlet ≡ record outlet { records = joined.outlet.records }
     pub recorder :
-        JoinsRecorder given_to threads.out threads.answers outlet.records joined.outlet.records joined.recorder
+        JoinsRecorder state_of threads.out threads.answers outlet.records joined.outlet.records joined.recorder
 
   -- the same of a proxy whose threads were started
   abbrev pub IsJoined : Proxy S W → Joined W → Type 0

@@ -21,24 +21,25 @@ use Rattle.replay_output.specs.Streamed.{Printed, printed_for, stream_text}
 use Rattle.replay_workers.specs.Recorder.{TookRecords}
 use Rattle.replay_workers.specs.declared.stream.recorder.Recorder.{Recorder}
 use Rattle.replay_workers.specs.Outlet.{TookText}
+use Rattle.replay_workers.specs.Sinks.{SinkState}
 use Rattle.replay_workers.specs.Stops.{IsStopOf}
 use Rattle.replay_workers.specs.Worker.{TakesFrames}
 
--- the writer of a proxy's records: what it had been given, what it has been given since, and why a record was not written
+-- the writer of a proxy's records: what it reported before and after, and why a record was not written
 pub record Recorded : Type 0 where
-  pub before : Option (List ℕ)
-  pub after : Option (List ℕ)
+  pub before : SinkState
+  pub after : SinkState
   pub failure : Option AnswerError
 
 -- the writers of a run, at its begin and with their recorders at its end
-abbrev pub recorded_each : {W : Type 0} → (W → Option (List ℕ)) → List (Option W) → List (Option (Recorder W)) → List (Option Recorded)
-recorded_each given_to [] recorders = []
-recorded_each given_to (out ∷ outs) [] = []
-recorded_each given_to (Some out ∷ outs) (Some recorder ∷ recorders) =
-    Some (record { before = given_to out; after = given_to recorder.out; failure = recorder.failure })
-    ∷ recorded_each given_to outs recorders
-recorded_each given_to (Some out ∷ outs) (None ∷ recorders) = None ∷ recorded_each given_to outs recorders
-recorded_each given_to (None ∷ outs) (recorder ∷ recorders) = None ∷ recorded_each given_to outs recorders
+abbrev pub recorded_each : {W : Type 0} → (W → SinkState) → List (Option W) → List (Option (Recorder W)) → List (Option Recorded)
+recorded_each state_of [] recorders = []
+recorded_each state_of (out ∷ outs) [] = []
+recorded_each state_of (Some out ∷ outs) (Some recorder ∷ recorders) =
+    Some (record { before = state_of out; after = state_of recorder.out; failure = recorder.failure })
+    ∷ recorded_each state_of outs recorders
+recorded_each state_of (Some out ∷ outs) (None ∷ recorders) = None ∷ recorded_each state_of outs recorders
+recorded_each state_of (None ∷ outs) (recorder ∷ recorders) = None ∷ recorded_each state_of outs recorders
 
 -- The records that were written are those of the first answers, in order and once; of all answers unless a record could not be
 -- written.
@@ -99,7 +100,7 @@ HaveRecords has_writer recorded =
 
 -- What became of all files, whose readers reported these bytes, beside one log of the reference resolver. `printed` is the answers
 -- in the order of their lines. `failures` and `recorded` are of each proxy, at its number, and so is whether it has a writer of records.
-pub record IsStreamed (options : Options) (files : List (Option (List ℕ))) (has_writer : List Bool) (before after : Option (List ℕ))
+pub record IsStreamed (options : Options) (files : List (Option (List ℕ))) (has_writer : List Bool) (before after : SinkState)
     (failed : Bool) (failures : List ProxyFailure) (recorded : List (Option Recorded)) (complete : Bool) (stop : Option Stop) : Type 0 where
   pub log : List Step
   pub printed : List Printed

@@ -4,6 +4,7 @@ ghost use Rattle.std.specs.Prelude.{◌≡◌, [], ◌∷◌, true, false, None}
 ghost use Rattle.replay_output.specs.Lines.{line};
 ghost use Rattle.replay_workers.specs.Outlet.{HasPassedAll, IsClosed, PassesOn, PassesSome};
 ghost use Rattle.replay_workers.specs.Outlet.{TookText, is_whole};
+ghost use Rattle.replay_workers.specs.Sinks.{state_by};
 
 use crate::gatekeeper::Gatekeeper;
 use crate::stream::progress::Progress;
@@ -66,11 +67,14 @@ impl Printer {
     fn print<O: Sink>(&mut self, proxy: usize, answer: &Answer, out: &mut O) -> bool
         ensures form { self.new.form ≡ self.old.form }
         ensures text { self.old.failed ≡ false → result ≡ false → TookText self.new.failed
-            (O.given out.old) (O.given out.new) (line self.old.form proxy answer.now) }
+            (state_by O.given O.failures out.old)
+            (state_by O.given O.failures out.new) (line self.old.form proxy answer.now) }
         ensures lost { result ≡ true → (self.new.failed ≡ self.old.failed)
-            × (O.given out.new ≡ O.given out.old) }
+            × (state_by O.given O.failures out.new
+            ≡ state_by O.given O.failures out.old) }
         ensures nothing { self.old.failed ≡ true → (self.new.failed ≡ true)
-            × (O.given out.new ≡ O.given out.old) }
+            × (state_by O.given O.failures out.new
+            ≡ state_by O.given O.failures out.old) }
     {
         if self.failed {
             return false;
@@ -95,7 +99,8 @@ impl Outlet {
         gatekeeper: &G,
     ) -> Passed
         ensures passes { PassesSome printer.old.form printer.old.failed printer.new.failed
-            (O.given out.old) (O.given out.new) self.old self.new }
+            (state_by O.given O.failures out.old)
+            (state_by O.given O.failures out.new) self.old self.new }
         ensures form { printer.new.form ≡ printer.old.form }
         ensures ended { result ≡ Passed.Ended → HasPassedAll self.new }
     {
@@ -138,13 +143,16 @@ impl Outlet {
         ensures others { self.new ≡ record self.old { lost = self.new.lost } }
         ensures form { printer.new.form ≡ printer.old.form }
         ensures text { is_whole self.old.lost printer.old.failed ≡ true → self.new.lost ≡ false
-            → TookText printer.new.failed (O.given out.old) (O.given out.new)
+            → TookText printer.new.failed (state_by O.given O.failures out.old)
+            (state_by O.given O.failures out.new)
             (line printer.old.form self.old.proxy answer.now) }
         ensures stays { self.old.lost ≡ true → self.new.lost ≡ true }
         ensures lost { self.new.lost ≡ true → (printer.new.failed ≡ printer.old.failed)
-            × (O.given out.new ≡ O.given out.old) }
+            × (state_by O.given O.failures out.new
+            ≡ state_by O.given O.failures out.old) }
         ensures nothing { printer.old.failed ≡ true → (printer.new.failed ≡ true)
-            × (O.given out.new ≡ O.given out.old) }
+            × (state_by O.given O.failures out.new
+            ≡ state_by O.given O.failures out.old) }
     {
         if !self.lost {
             self.lost = printer.print(self.proxy, answer, out);

@@ -8,6 +8,7 @@ ghost use Rattle.replay_workers.specs.Outlet.{HavePassedAll, IsClosed};
 ghost use Rattle.replay_workers.specs.Proxies.{AreEnds, IsJoined, IsNewOutlet, IsStreamedOf};
 ghost use Rattle.replay_workers.specs.Proxies.{Joined, JoinsRecorder, given_proxies, given_with};
 ghost use Rattle.replay_workers.specs.Proxies.{outlets_of, threads_by, threads_of};
+ghost use Rattle.replay_workers.specs.Sinks.{state_by};
 
 use crate::gatekeeper::{Gatekeeper, ShareKeeper};
 use crate::stream::outlet::Outlet;
@@ -207,7 +208,7 @@ pub fn join_all<S: Source, W: Sink + Drop, R: Threads>(
         proxies.items }
     requires passed { HavePassedAll (outlets_of proxies.items) }
     ensures joined { (joined : List (Joined W))
-        × AllZip (IsJoined S.remaining W.given) proxies.items joined × IsStreamedOf joined result }
+        × AllZip (IsJoined S.remaining (state_by W.given W.failures)) proxies.items joined × IsStreamedOf joined result }
     ensures failed { result.failed ≡ streamed.failed }
 {
     let mut streamed = streamed;
@@ -234,7 +235,7 @@ fn join_recorder<W: Sink + Drop, R: Threads>(
         recorder) }
     requires closed { IsClosed outlet.old.records }
     ensures outlet { outlet.new ≡ record outlet.old { records = outlet.new.records } }
-    ensures joins { JoinsRecorder W.given (option_map (λ r. r.handle.promise.out.value) recorder)
+    ensures joins { JoinsRecorder (state_by W.given W.failures) (option_map (λ r. r.handle.promise.out.value) recorder)
         (option_map (λ r. r.handle.promise.answers.value) recorder) outlet.old.records
         outlet.new.records result }
 {

@@ -1,8 +1,9 @@
 //! A recorder writes the records of the answers to one proxy, in its own thread.
 
-ghost use Rattle.std.specs.Prelude.{◌≡◌, ℕ, List, [], ◌∷◌, ◌++◌, Option};
+ghost use Rattle.std.specs.Prelude.{◌≡◌, List, [], ◌∷◌, ◌++◌};
 ghost use Rattle.keyspace.specs.declared.answer.Answer.{Answer as AnswerValue};
 ghost use Rattle.replay_workers.specs.Recorder.{HasRecorded, WritesRecords};
+ghost use Rattle.replay_workers.specs.Sinks.{SinkState, state_by};
 
 use crate::pause::pause;
 use crate::stream::progress::Progress;
@@ -31,7 +32,7 @@ pub fn record_all<W: Sink + Drop, R: Wait>(
     out: W,
     progress: &Progress,
 ) -> Recorder<W>
-    ensures recorded { HasRecorded W.given answers out result }
+    ensures recorded { HasRecorded (state_by W.given W.failures) answers out result }
 {
     let mut recorder = Recorder {
         answers,
@@ -52,9 +53,9 @@ impl<W: Sink> Recorder<W> {
     // Writes the record of an answer, unless one was not written before.
     fn write(&mut self, alloc: Global, answer: &Answer, progress: &Progress)
         ensures answers { self.new.answers ≡ self.old.answers }
-        ensures writes { (first taken : List AnswerValue) (before : Option (List ℕ))
-            → WritesRecords first taken before (W.given self.old.out) self.old.failure
-            → WritesRecords first (taken ++ answer.now ∷ []) before (W.given self.new.out)
+        ensures writes { (first taken : List AnswerValue) (before : SinkState)
+            → WritesRecords first taken before (state_by W.given W.failures self.old.out) self.old.failure
+            → WritesRecords first (taken ++ answer.now ∷ []) before (state_by W.given W.failures self.new.out)
             self.new.failure }
     {
         if self.failure.is_some() {

@@ -11,6 +11,7 @@ ghost use Rattle.resolver.specs.Lanes.{Lanes, Each, LanesGoOn};
 ghost use Rattle.resolver.specs.Resolver.{IsResolving, IsThrough};
 ghost use Rattle.replay_workers.specs.Outlet.{AreNumbered, HavePassedAll, StreamsOn};
 ghost use Rattle.replay_workers.specs.Proxies.{outlets_of, threads_of};
+ghost use Rattle.replay_workers.specs.Sinks.{state_by};
 ghost use Rattle.replay_workers.specs.Stops.{IsAccountedFor};
 
 use crate::gatekeeper::{Gatekeeper, ShareKeeper};
@@ -53,12 +54,14 @@ pub fn run_stream<
     requires most_readers { vec_len readers ≤ MAX_PROXIES }
     requires as_many { vec_len records ≡ vec_len readers }
     ensures run { IfOk result (λ ended. IsStreamed options (map S.remaining readers.items)
-        (map is_some records.items) (O.given out.old) (O.given out.new) ended.0.failed ended.0.failures.items
-        (recorded_each W.given records.items ended.0.recorders.items)
+        (map is_some records.items) (state_by O.given O.failures out.old)
+        (state_by O.given O.failures out.new) ended.0.failed ended.0.failures.items
+        (recorded_each (state_by W.given W.failures) records.items ended.0.recorders.items)
         (ended.1.complete && ended.0.all_sent) ended.1.stop) }
     ensures unwritten { IfOk result (λ ended. ended.0.unwritten.items
         ≡ map (λ recorder. is_unwritten (unwritten_cause recorder)) ended.0.recorders.items) }
-    ensures nothing { OnErr result (O.given out.new ≡ O.given out.old) }
+    ensures nothing { OnErr result (state_by O.given O.failures out.new
+        ≡ state_by O.given O.failures out.old) }
 {
     let mut streamed = Streamed::with_room(alloc, readers.len())?;
     let mut watch = Watch::new(alloc, readers.len())?;
@@ -108,7 +111,8 @@ fn turn_to_end<S: Source, W: Sink, G: Gatekeeper + ShareKeeper, R: Wait, O: Sink
     ensures goes_on { GoesOn resolver.old.core resolver.new.core }
     ensures lanes { Each (λ _ l m. LanesGoOn l m) resolver.old.lanes resolver.new.lanes }
     ensures streams { StreamsOn printer.old.form printer.old.failed printer.new.failed
-        (O.given out.old) (O.given out.new) (outlets_of proxies.old) (outlets_of proxies.new) }
+        (state_by O.given O.failures out.old)
+        (state_by O.given O.failures out.new) (outlets_of proxies.old) (outlets_of proxies.new) }
     ensures threads { map threads_of proxies.new ≡ map threads_of proxies.old }
     ensures passed { HavePassedAll (outlets_of proxies.new) }
 {
@@ -140,7 +144,8 @@ fn pass_each<S: Source, W: Sink, G: Gatekeeper, O: Sink>(
     ensures numbered { AreNumbered (outlets_of proxies.new) }
     ensures threads { map threads_of proxies.new ≡ map threads_of proxies.old }
     ensures streams { StreamsOn printer.old.form printer.old.failed printer.new.failed
-        (O.given out.old) (O.given out.new) (outlets_of proxies.old) (outlets_of proxies.new) }
+        (state_by O.given O.failures out.old)
+        (state_by O.given O.failures out.new) (outlets_of proxies.old) (outlets_of proxies.new) }
     ensures passed { IsTrue result → HavePassedAll (outlets_of proxies.new) }
 {
     let mut ended = true;

@@ -3,6 +3,7 @@
 ghost use Rattle.std.specs.Prelude.{◌≡◌, IfOk, IfErr};
 ghost use Rattle.replay_workers.specs.Sender.{HasSent};
 ghost use Rattle.replay_workers.specs.Recorder.{HasRecorded};
+ghost use Rattle.replay_workers.specs.Sinks.{state_by};
 
 use crate::gatekeeper::{Gatekeeper, ShareKeeper};
 use crate::stream::progress::Progress;
@@ -58,7 +59,7 @@ struct Recording<W> {
 
 impl<W: Sink> Promise<Recorder<W>> for Recording<W> {
     ghost kept_by = { λ work recorder.
-        HasRecorded W.given work.answers.value work.out.value recorder };
+        HasRecorded (state_by W.given W.failures) work.answers.value work.out.value recorder };
 }
 
 /// A sender that was started, and what it was given.
@@ -98,7 +99,7 @@ impl<S: Source + Drop, G: Gatekeeper + ShareKeeper + Drop> SenderTask<S, G> {
 
 impl<W: Sink + Drop> RecorderTask<W> {
     fn run<R: Wait>(self, rt: &R, alloc: Global) -> Recorder<W>
-        ensures recorded { HasRecorded W.given self.answers self.out result }
+        ensures recorded { HasRecorded (state_by W.given W.failures) self.answers self.out result }
     {
         let RecorderTask {
             answers,
@@ -151,7 +152,7 @@ pub fn start_recorder<W: Sink + Send + Drop + 'static, R: Threads + Wait + Copy 
         out: Snapshot::of(&task.out),
     };
     let run = move || -> Recorder<W>
-        ensures recorded { HasRecorded W.given task.answers task.out result }
+        ensures recorded { HasRecorded (state_by W.given W.failures) task.answers task.out result }
     { task.run(&there, alloc) };
     match thread::spawn_with(rt, promise, run) {
         Ok(handle) => Ok(StartedRecorder { handle }),
@@ -172,7 +173,7 @@ impl<S: Source> StartedSender<S> {
 impl<W: Sink> StartedRecorder<W> {
     /// Waits for the recorder to end.
     pub fn join<R: Threads>(self, rt: &R) -> Recorder<W>
-        ensures recorded { HasRecorded W.given self.handle.promise.answers.value
+        ensures recorded { HasRecorded (state_by W.given W.failures) self.handle.promise.answers.value
             self.handle.promise.out.value result }
     {
         self.handle.join(rt)

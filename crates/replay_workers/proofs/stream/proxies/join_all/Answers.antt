@@ -6,6 +6,7 @@ use Rattle.std.proofs.lemmas.Grind.{common_steps}
 use Rattle.replay_workers.specs.declared.stream.outlet.Outlet.{Outlet}
 use Rattle.replay_workers.specs.declared.stream.proxies.Proxy.{Proxy}
 use Rattle.replay_workers.specs.Proxies.{AreEnds, IsJoined, Joined, threads_of}
+use Rattle.replay_workers.specs.Sinks.{state_by}
 use Rattle.replay_workers.proofs.callers.Lists.{AllZip-also, all_at}
 use Rattle.replay_workers.proofs.Joining.{at_middle, streamed_also}
 use Rattle.replay_workers.proofs.Runs.{mapped_at}
@@ -36,7 +37,7 @@ loop-proxy-preserved g c =
         before.0 ++ proxy ∷ [],
         before.1 ++ j ∷ [],
         append_assoc before.0 (proxy ∷ []) rest ∙ ap (λ l. before.0 ++ l) (sym c.in-Some.ensures.steps.0) ∙ before.2,
-        AllZip-also (IsJoined g.S.Source.remaining g.W.Sink.given) before.0 before.1 proxy j before.3
+        AllZip-also (IsJoined g.S.Source.remaining (state_by g.W.Sink.given g.W.Sink.failures)) before.0 before.1 proxy j before.3
             (record { sent = c.join.ensures.sent; outlet_is = joins.outlet; recorder = joins.joins }),
         streamed_also before.1 c.loop-proxy.streamed c.push.new.self j before.4 c.push.ensures.clients c.push.ensures.failures
             c.push.ensures.recorders c.push.ensures.unwritten c.push.ensures.all_sent c.push.ensures.sends_all,

@@ -1,5 +1,6 @@
 use Rattle.std.proofs.Common.{◌∙◌}
 use Rattle.replay_workers.specs.Proxies.{outlets_of}
+use Rattle.replay_workers.specs.Sinks.{state_by}
 use Rattle.replay_workers.proofs.Outlets.{streams_then}
 use Rattle.replay_workers.proofs.SameLanes.{lanes_go_on}
 use Rattle.replay_workers.proofs.Stopping.{accounted_turn, core_goes_on}
@@ -8,7 +9,7 @@ use Rattle.replay_workers.proofs.stream.running.turn_to_end.Goals as goal
 pub loop-preserved-in-Ok-Took : goal.loop-preserved-in-Ok-Took
 loop-preserved-in-Ok-Took g c =
     let round = c.pass_each-ended.ensures in
-    let given = g.O.Sink.given in
+    let state = state_by g.O.Sink.given g.O.Sink.failures in
     record {
       resolving = λ first. c.turn.ensures.resolving (c.loop.invariant.resolving first);
       accounted = λ first.
@@ -21,7 +22,7 @@ loop-preserved-in-Ok-Took g c =
       numbered = round.numbered;
       threads = round.threads ∙ c.loop.invariant.threads;
       streams = streams_then c.args.printer.now.form c.loop.printer.form c.args.printer.now.failed c.loop.printer.failed
-          c.pass_each-ended.new.printer.failed (given c.args.out.now) (given c.loop.out) (given c.pass_each-ended.new.out)
+          c.pass_each-ended.new.printer.failed (state c.args.out.now) (state c.loop.out) (state c.pass_each-ended.new.out)
           (outlets_of c.args.proxies.now) (outlets_of c.loop.proxies) (outlets_of c.pass_each-ended.new.proxies)
           c.loop.invariant.form c.loop.invariant.streams round.streams;
     }
@@ -29,7 +30,7 @@ loop-preserved-in-Ok-Took g c =
 pub loop-preserved-in-Ok-Idle : goal.loop-preserved-in-Ok-Idle
 loop-preserved-in-Ok-Idle g c =
     let round = c.pass_each-ended.ensures in
-    let given = g.O.Sink.given in
+    let state = state_by g.O.Sink.given g.O.Sink.failures in
     record {
       resolving = λ first. c.turn.ensures.resolving (c.loop.invariant.resolving first);
       accounted = λ first.
@@ -42,7 +43,7 @@ loop-preserved-in-Ok-Idle g c =
       numbered = round.numbered;
       threads = round.threads ∙ c.loop.invariant.threads;
       streams = streams_then c.args.printer.now.form c.loop.printer.form c.args.printer.now.failed c.loop.printer.failed
-          c.pass_each-ended.new.printer.failed (given c.args.out.now) (given c.loop.out) (given c.pass_each-ended.new.out)
+          c.pass_each-ended.new.printer.failed (state c.args.out.now) (state c.loop.out) (state c.pass_each-ended.new.out)
           (outlets_of c.args.proxies.now) (outlets_of c.loop.proxies) (outlets_of c.pass_each-ended.new.proxies)
           c.loop.invariant.form c.loop.invariant.streams round.streams;
     }
@@ -50,7 +51,7 @@ loop-preserved-in-Ok-Idle g c =
 pub loop-preserved : goal.loop-preserved
 loop-preserved g c =
     let round = c.pass_each-ended.ensures in
-    let given = g.O.Sink.given in
+    let state = state_by g.O.Sink.given g.O.Sink.failures in
     record {
       resolving = λ first. c.turn.ensures.resolving (c.loop.invariant.resolving first);
       accounted = λ first.
@@ -63,7 +64,7 @@ loop-preserved g c =
       numbered = round.numbered;
       threads = round.threads ∙ c.loop.invariant.threads;
       streams = streams_then c.args.printer.now.form c.loop.printer.form c.args.printer.now.failed c.loop.printer.failed
-          c.pass_each-ended.new.printer.failed (given c.args.out.now) (given c.loop.out) (given c.pass_each-ended.new.out)
+          c.pass_each-ended.new.printer.failed (state c.args.out.now) (state c.loop.out) (state c.pass_each-ended.new.out)
           (outlets_of c.args.proxies.now) (outlets_of c.loop.proxies) (outlets_of c.pass_each-ended.new.proxies)
           c.loop.invariant.form c.loop.invariant.streams round.streams;
     }
@@ -84,9 +85,9 @@ returns-in-Ok-Done-clause-lanes g c =
 pub returns-in-Ok-Done-clause-streams : goal.returns-in-Ok-Done-clause-streams
 returns-in-Ok-Done-clause-streams g c =
     let round = c.pass_each-ended.ensures in
-    let given = g.O.Sink.given in
+    let state = state_by g.O.Sink.given g.O.Sink.failures in
     streams_then c.args.printer.now.form c.loop.printer.form c.args.printer.now.failed c.loop.printer.failed
-    c.pass_each-ended.new.printer.failed (given c.args.out.now) (given c.loop.out) (given c.pass_each-ended.new.out)
+    c.pass_each-ended.new.printer.failed (state c.args.out.now) (state c.loop.out) (state c.pass_each-ended.new.out)
     (outlets_of c.args.proxies.now) (outlets_of c.loop.proxies) (outlets_of c.pass_each-ended.new.proxies) c.loop.invariant.form
     c.loop.invariant.streams round.streams
 
@@ -106,8 +107,8 @@ returns-in-Err-clause-lanes g c =
 pub returns-in-Err-clause-streams : goal.returns-in-Err-clause-streams
 returns-in-Err-clause-streams g c =
     let round = c.pass_each-ended.ensures in
-    let given = g.O.Sink.given in
+    let state = state_by g.O.Sink.given g.O.Sink.failures in
     streams_then c.args.printer.now.form c.loop.printer.form c.args.printer.now.failed c.loop.printer.failed
-    c.pass_each-ended.new.printer.failed (given c.args.out.now) (given c.loop.out) (given c.pass_each-ended.new.out)
+    c.pass_each-ended.new.printer.failed (state c.args.out.now) (state c.loop.out) (state c.pass_each-ended.new.out)
     (outlets_of c.args.proxies.now) (outlets_of c.loop.proxies) (outlets_of c.pass_each-ended.new.proxies) c.loop.invariant.form
     c.loop.invariant.streams round.streams

@@ -6,6 +6,7 @@ use Rattle.resolver.specs.Resolver.{IsResolving}
 use Rattle.replay_workers.specs.Outlet.{AreNumbered, StreamsOn}
 use Rattle.replay_workers.specs.Proxies.{outlets_of, threads_of}
 use Rattle.replay_workers.specs.Stops.{IsAccountedFor}
+use Rattle.replay_workers.specs.Sinks.{state_by}
 use Rattle.replay_workers.proofs.stream.running.turn_to_end.Given as goal
 
 abbrev pub invariant-loop : goal.invariant-loop
@@ -18,6 +19,7 @@ invariant-loop g l = record {
   numbered : AreNumbered (outlets_of l.proxies);
   threads : map threads_of l.proxies ≡ map threads_of l.fn.proxies;
   streams :
-      StreamsOn l.fn.printer.form l.fn.printer.failed l.printer.failed (g.O.Sink.given l.fn.out) (g.O.Sink.given l.out)
+      StreamsOn l.fn.printer.form l.fn.printer.failed l.printer.failed 
+      (state_by g.O.Sink.given g.O.Sink.failures l.fn.out) (state_by g.O.Sink.given g.O.Sink.failures l.out)
       (outlets_of l.fn.proxies) (outlets_of l.proxies);
 }
