@@ -1,8 +1,8 @@
 -- What was streamed, from what was run.
-use Rattle.std.specs.Prelude.{◌≡◌, ◌≢◌, ℕ, zero, suc, ◌+◌, ◌<◌, Bool, true, false, List, [], ◌∷◌, ◌++◌, length, map, Option, Some, None, IfSome, slice_get}
+use Rattle.std.specs.Prelude.{◌≡◌, ◌≢◌, ℕ, zero, suc, ◌+◌, ◌<◌, Bool, true, false, ◌⊎◌, List, [], ◌∷◌, ◌++◌, length, map, Option, Some, None, IfSome, IsErr, IsOk, OnOk, Result, Ok, Err, slice_get}
 use Rattle.std.specs.List.{All, range_with_len}
 use Rattle.std.specs.Io.KnownBytes.{Appends, Keeps}
-use Rattle.std.proofs.Common.{refl, sym, ap, subst, ◌∙◌, append-nil, arith}
+use Rattle.std.proofs.Common.{refl, sym, ap, subst, ◌∙◌, append-nil, inl, inr, arith}
 use Rattle.std.proofs.lemmas.Bool.{false≢true}
 use Rattle.std.proofs.lemmas.List.{length-map}
 use Rattle.std.proofs.lemmas.List.Elements.{All-head, All-tail}
@@ -26,11 +26,12 @@ use Rattle.replay_output.proofs.callers.Quiet.{no_lines, no_unwritten_lines}
 use Rattle.replay_workers.specs.declared.stream.recorder.Recorder.{Recorder}
 use Rattle.replay_workers.specs.Outlet.{TookText}
 use Rattle.replay_workers.specs.Recorder.{TookRecords, is_unwritten, unwritten_cause}
+use Rattle.replay_workers.specs.Sinks.{SinkState, Takes}
 use Rattle.replay_workers.specs.Streaming.{HasRecords, IsStreamed, IsStreamedFor, Recorded, recorded_each}
 use Rattle.replay_workers.specs.Worker.{TakesFrames}
 use Rattle.replay_workers.proofs.callers.Lists.{all_at, found}
-use Rattle.replay_program.specs.Replayed.{answers_each, ending_of}
-use Rattle.replay_program.specs.Streamed.{IsStreamDone, PrintsAll, RecordsAll}
+use Rattle.replay_program.specs.Replayed.{HasFailed, Took, Written, answers_each, ending_of}
+use Rattle.replay_program.specs.Streamed.{IsStreamDone, PrintsAll, RecordsAll, StreamedAndFailed, state_after, state_before}
 use Rattle.replay_program.proofs.Replaying.{complete_from}
 use Rattle.replay_program.proofs.Reporting.{all_said, each_said, from_one, value_at}
 
@@ -52,28 +53,28 @@ keeps_error old new unwritten failures ending all nothing appends =
     appends_nothing old new (subst (Appends old new) none appends)
 
 -- if all records were written, no writer of records has failed
-pub none_unwritten : {W : Type 0} (given_to : W → Option (List ℕ)) (outs : List (Option W)) (recorders : List (Option (Recorder W)))
+pub none_unwritten : {W : Type 0} (state_of : W → SinkState) (outs : List (Option W)) (recorders : List (Option (Recorder W)))
     → All (λ failed. failed ≡ false) (map (λ (r : Option (Recorder W)). is_unwritten (unwritten_cause r)) recorders)
-    → (place : ℕ) (r : Option Recorded) → slice_get (recorded_each given_to outs recorders) place ≡ Some r
+    → (place : ℕ) (r : Option Recorded) → slice_get (recorded_each state_of outs recorders) place ≡ Some r
     → IfSome r (λ r. r.failure ≢ Some Write)
-none_unwritten given_to [] recorders all place r at = absurd (none-some r at)
-none_unwritten given_to (o ∷ outs) [] all place r at = absurd (none-some r at)
-none_unwritten {W} given_to (Some o ∷ outs) (Some q ∷ recorders) all zero r at =
+none_unwritten state_of [] recorders all place r at = absurd (none-some r at)
+none_unwritten state_of (o ∷ outs) [] all place r at = absurd (none-some r at)
+none_unwritten {W} state_of (Some o ∷ outs) (Some q ∷ recorders) all zero r at =
     subst (λ (r : Option Recorded). IfSome r (λ r. r.failure ≢ Some Write)) (same_Some _ r at)
     (not_write q.failure (All-head (λ failed. failed ≡ false) (is_unwritten q.failure)
     (map (λ (r : Option (Recorder W)). is_unwritten (unwritten_cause r)) recorders) all))
-none_unwritten given_to (Some o ∷ outs) (None ∷ recorders) all zero r at =
+none_unwritten state_of (Some o ∷ outs) (None ∷ recorders) all zero r at =
     subst (λ (r : Option Recorded). IfSome r (λ r. r.failure ≢ Some Write)) (same_Some None r at) tt
-none_unwritten given_to (None ∷ outs) (q ∷ recorders) all zero r at =
+none_unwritten state_of (None ∷ outs) (q ∷ recorders) all zero r at =
     subst (λ (r : Option Recorded). IfSome r (λ r. r.failure ≢ Some Write)) (same_Some None r at) tt
-none_unwritten {W} given_to (Some o ∷ outs) (Some q ∷ recorders) all (suc place) r at =
-    none_unwritten given_to outs recorders (All-tail (λ failed. failed ≡ false) (is_unwritten q.failure)
+none_unwritten {W} state_of (Some o ∷ outs) (Some q ∷ recorders) all (suc place) r at =
+    none_unwritten state_of outs recorders (All-tail (λ failed. failed ≡ false) (is_unwritten q.failure)
     (map (λ (r : Option (Recorder W)). is_unwritten (unwritten_cause r)) recorders) all) place r at
-none_unwritten {W} given_to (Some o ∷ outs) (None ∷ recorders) all (suc place) r at =
-    none_unwritten given_to outs recorders (All-tail (λ failed. failed ≡ false) false
+none_unwritten {W} state_of (Some o ∷ outs) (None ∷ recorders) all (suc place) r at =
+    none_unwritten state_of outs recorders (All-tail (λ failed. failed ≡ false) false
     (map (λ (r : Option (Recorder W)). is_unwritten (unwritten_cause r)) recorders) all) place r at
-none_unwritten {W} given_to (None ∷ outs) (q ∷ recorders) all (suc place) r at =
-    none_unwritten given_to outs recorders (All-tail (λ failed. failed ≡ false) (is_unwritten (unwritten_cause q))
+none_unwritten {W} state_of (None ∷ outs) (q ∷ recorders) all (suc place) r at =
+    none_unwritten state_of outs recorders (All-tail (λ failed. failed ≡ false) (is_unwritten (unwritten_cause q))
     (map (λ (r : Option (Recorder W)). is_unwritten (unwritten_cause r)) recorders) all) place r at
 
 answers_count : (F : ℕ → List Answer) (first n : ℕ) → length (map F (range_with_len first n)) ≡ n
@@ -84,18 +85,18 @@ answers_count F first (suc n) =
 
 -- all answers were taken, and no record failed: those of all were written
 all_recorded : (taken own : List Answer) (r : Recorded) → HasRecords taken r → taken ≡ own → r.failure ≢ Some Memory
-    → r.failure ≢ Some Write → Appends r.before r.after (answer_records own)
+    → r.failure ≢ Some Write → Takes r.before r.after (answer_records own)
 all_recorded taken own r has same memory write =
     let none = no_failure r.failure memory write in
-    subst (λ (l : List Answer). Appends r.before r.after (answer_records l)) (has.all none ∙ same)
+    subst (λ (l : List Answer). Takes r.before r.after (answer_records l)) (has.all none ∙ same)
     (subst (λ (f : Option AnswerError). TookRecords f r.before r.after has.written) none has.given)
 
-module _ (options : Options) (files : List (Option (List ℕ))) (has_writer : List Bool) (before after : Option (List ℕ)) (failed : Bool)
+module _ (options : Options) (files : List (Option (List ℕ))) (has_writer : List Bool) (before after : SinkState) (failed : Bool)
     (failures : List ProxyFailure) (recorded : List (Option Recorded)) (complete : Bool) (stop : Option Stop)
     (run : IsStreamed options files has_writer before after failed failures recorded complete stop) where
   pub is_stream_done : AnswersTellVerdicts → NothingFailed failures (ending_of complete stop) → failed ≡ false
       → ((place : ℕ) (r : Option Recorded) → slice_get recorded place ≡ Some r → IfSome r (λ r. r.failure ≢ Some Write))
-      → IsStreamDone options files has_writer recorded before after
+      → IsStreamDone options files has_writer recorded before.given after.given
   is_stream_done tell nothing well written =
       let whole = complete_from complete stop nothing.complete in
       let proxies = length files in
@@ -144,7 +145,7 @@ module _ (options : Options) (files : List (Option (List ℕ))) (has_writer : Li
                     ∙ ap (answers options.window run.log) (omega arith) ∙ sym is;
                 text_is = refl;
               },
-              subst (λ (failed : Bool). TookText failed before after (stream_text options.form run.printed)) well run.text,
+              (subst (λ (failed : Bool). TookText failed before after (stream_text options.form run.printed)) well run.text).0,
             ),
             λ proxy own r at r_at.
                 let is = value_at (answers options.window run.log) 0 proxies proxy own at in
@@ -157,3 +158,32 @@ module _ (options : Options) (files : List (Option (List ℕ))) (has_writer : Li
           );
         };
       }
+
+  -- the lines on standard error, and why it failed
+  pub streamed_and_failed : {T E : Type 0} (out error : Written) (unwritten : List Bool) (told : Result T E) → before ≡ state_before out
+      → after ≡ state_after out → OnOk told (Took error (unwritten_lines unwritten ++ failure_lines failures (ending_of complete stop)))
+      → (IsErr told → HasFailed error)
+      → ¬ ((All (λ failed. failed ≡ false) unwritten × NothingFailed failures (ending_of complete stop)) × (failed ≡ false) × IsOk told)
+      → StreamedAndFailed options files has_writer recorded out error
+  streamed_and_failed {T} {E} out error unwritten told is_before is_after lines error_failed not_done = record {
+    failed = failed;
+    failures = failures;
+    unwritten = unwritten;
+    complete = complete;
+    stop = stop;
+    run =
+        subst (λ (s : SinkState). IsStreamed options files has_writer (state_before out) s failed failures recorded complete stop) is_after
+        (subst (λ (s : SinkState). IsStreamed options files has_writer s after failed failures recorded complete stop) is_before run);
+    lines_of_failures = told_of told lines error_failed;
+    why = λ well written nothing. why_of told error_failed (λ ok. not_done ((written, nothing), well, ok));
+  }
+    where
+      told_of : (told : Result T E) → OnOk told (Took error (unwritten_lines unwritten ++ failure_lines failures (ending_of complete stop)))
+          → (IsErr told → HasFailed error)
+          → HasFailed error ⊎ Took error (unwritten_lines unwritten ++ failure_lines failures (ending_of complete stop))
+      told_of (Ok u) took failed = inr took
+      told_of (Err e) took failed = inl (failed refl)
+
+      why_of : (told : Result T E) → (IsErr told → HasFailed error) → (IsOk told → ⊥) → HasFailed error
+      why_of (Ok u) failed not_ok = absurd (not_ok refl)
+      why_of (Err e) failed not_ok = failed refl

@@ -6,6 +6,7 @@ use Rattle.std.proofs.lemmas.List.{length-map}
 use Rattle.std.proofs.lemmas.Option.{none-some, same_Some, slice_get-map}
 use Rattle.replay_arguments.specs.Opening.{contents_each}
 use Rattle.replay_workers.specs.declared.stream.recorder.Recorder.{Recorder}
+use Rattle.replay_workers.specs.Sinks.{SinkState, state_by}
 use Rattle.replay_workers.specs.Streaming.{HaveRecords, Recorded, recorded_each}
 use Rattle.replay_workers.proofs.callers.Lists.{found}
 use Rattle.replay_program.specs.Program.{AreBegun, HaveWriters}
@@ -54,46 +55,47 @@ have_writers {W} given_to begun names opened places are few proxy name at =
     ∙ ap (λ (b : Option (List ℕ)). Some (Some b)) w.2
 
 -- what was recorded at a place began with its writer
-begun_at : {W : Type 0} (given_to : W → Option (List ℕ)) (outs : List (Option W)) (recorders : List (Option (Recorder W)))
+begun_at : {W : Type 0} (state_of : W → SinkState) (outs : List (Option W)) (recorders : List (Option (Recorder W)))
     (place : ℕ) (w : W) (r : Option Recorded) → slice_get outs place ≡ Some (Some w)
-    → slice_get (recorded_each given_to outs recorders) place ≡ Some r → is_some r ≡ true
-    → (q : Recorded) × (r ≡ Some q) × (q.before ≡ given_to w)
-begun_at given_to [] recorders place w r at there some = absurd (none-some (Some w) at)
-begun_at given_to (o ∷ outs) [] place w r at there some = absurd (none-some r there)
-begun_at given_to (None ∷ outs) (q ∷ recorders) zero w r at there some =
+    → slice_get (recorded_each state_of outs recorders) place ≡ Some r → is_some r ≡ true
+    → (q : Recorded) × (r ≡ Some q) × (q.before ≡ state_of w)
+begun_at state_of [] recorders place w r at there some = absurd (none-some (Some w) at)
+begun_at state_of (o ∷ outs) [] place w r at there some = absurd (none-some r there)
+begun_at state_of (None ∷ outs) (q ∷ recorders) zero w r at there some =
     let bad : None ≡ Some w = same_Some None (Some w) at in
     cc
-begun_at given_to (Some o ∷ outs) (None ∷ recorders) zero w r at there some =
+begun_at state_of (Some o ∷ outs) (None ∷ recorders) zero w r at there some =
     let is : None ≡ r = same_Some None r there in
     absurd (false≢true (ap is_some is ∙ some))
-begun_at given_to (Some o ∷ outs) (Some q ∷ recorders) zero w r at there some = (
-  record { before = given_to o; after = given_to q.out; failure = q.failure },
+begun_at state_of (Some o ∷ outs) (Some q ∷ recorders) zero w r at there some = (
+  record { before = state_of o; after = state_of q.out; failure = q.failure },
   sym (same_Some _ r there),
-  ap given_to (same_Some o w (same_Some (Some o) (Some w) at)),
+  ap state_of (same_Some o w (same_Some (Some o) (Some w) at)),
 )
-begun_at given_to (None ∷ outs) (q ∷ recorders) (suc place) w r at there some =
-    begun_at given_to outs recorders place w r at there some
-begun_at given_to (Some o ∷ outs) (None ∷ recorders) (suc place) w r at there some =
-    begun_at given_to outs recorders place w r at there some
-begun_at given_to (Some o ∷ outs) (Some q ∷ recorders) (suc place) w r at there some =
-    begun_at given_to outs recorders place w r at there some
+begun_at state_of (None ∷ outs) (q ∷ recorders) (suc place) w r at there some =
+    begun_at state_of outs recorders place w r at there some
+begun_at state_of (Some o ∷ outs) (None ∷ recorders) (suc place) w r at there some =
+    begun_at state_of outs recorders place w r at there some
+begun_at state_of (Some o ∷ outs) (Some q ∷ recorders) (suc place) w r at there some =
+    begun_at state_of outs recorders place w r at there some
 
 -- each file for records has been recorded, from its writer on
-pub are_begun : {W : Type 0} (given_to : W → Option (List ℕ)) (begun : List ℕ → Option (List ℕ)) (names : List (List ℕ))
-    (outs : List (Option W)) (recorders : List (Option (Recorder W)))
+pub are_begun : {W : Type 0} (given_to : W → Option (List ℕ)) (failures_of : W → ℕ) (begun : List ℕ → Option (List ℕ))
+    (names : List (List ℕ)) (outs : List (Option W)) (recorders : List (Option (Recorder W)))
     → HaveWriters begun names (map (option_map given_to) outs)
-    → HaveRecords (map is_some outs) (recorded_each given_to outs recorders)
-    → length (recorded_each given_to outs recorders) ≡ length outs
-    → AreBegun begun names (recorded_each given_to outs recorders)
-are_begun {W} given_to begun names outs recorders have records count proxy name at =
+    → HaveRecords (map is_some outs) (recorded_each (state_by given_to failures_of) outs recorders)
+    → length (recorded_each (state_by given_to failures_of) outs recorders) ≡ length outs
+    → AreBegun begun names (recorded_each (state_by given_to failures_of) outs recorders)
+are_begun {W} given_to failures_of begun names outs recorders have records count proxy name at =
+    let state_of = state_by given_to failures_of in
     let there = have proxy name at in
     let o = item_of_map (option_map given_to) outs proxy (Some (begun name)) there in
     let w = some_of o.0 o.2 in
     let out_at : slice_get outs proxy ≡ Some (Some w.0) = o.1 ∙ ap (λ (o : Option W). Some o) w.1 in
-    let r = found outs (recorded_each given_to outs recorders) proxy o.0 count o.1 in
+    let r = found outs (recorded_each state_of outs recorders) proxy o.0 count o.1 in
     let some = records proxy true r.0 (slice_get-map is_some outs proxy ∙ ap (option_map is_some) out_at) r.1 in
-    let q = begun_at given_to outs recorders proxy w.0 r.0 out_at r.1 some in
-    (q.0, r.1 ∙ ap (λ (r : Option Recorded). Some r) q.1, q.2 ∙ w.2)
+    let q = begun_at state_of outs recorders proxy w.0 r.0 out_at r.1 some in
+    (q.0, r.1 ∙ ap (λ (r : Option Recorded). Some r) q.1, ap (λ (s : SinkState). s.given) q.2 ∙ w.2)
   where
     some_of : (o : Option W) → option_map given_to o ≡ Some (begun name) → (w : W) × (o ≡ Some w) × (given_to w ≡ begun name)
     some_of None is = absurd (none-some (begun name) is)

@@ -145,7 +145,7 @@ HaveWriters begun names writers =
 abbrev pub AreBegun : (List ℕ → Option (List ℕ)) → List (List ℕ) → List (Option Recorded) → Type 0
 AreBegun begun names recorded =
     (proxy : ℕ) (name : List ℕ) → slice_get names proxy ≡ Some name
-    → (r : Recorded) × (slice_get recorded proxy ≡ Some (Some r)) × (r.before ≡ begun name)
+    → (r : Recorded) × (slice_get recorded proxy ≡ Some (Some r)) × (r.before.given ≡ begun name)
 
 -- The files of these names were read and resolved. The lines are those of all answers, and so are the records in the files of those
 -- names, if there are any.

@@ -11,6 +11,7 @@ use Rattle.replay_output.specs.Failures.{failure_lines, NothingFailed}
 use Rattle.replay_output.specs.Record.{answer_records}
 use Rattle.replay_output.specs.Streamed.{Printed, printed_for, stream_text}
 use Rattle.replay_output.specs.Unwritten.{unwritten_lines}
+use Rattle.replay_workers.specs.Sinks.{SinkState, Takes}
 use Rattle.replay_workers.specs.Streaming.{HaveRecords, IsStreamed, Recorded}
 use Rattle.replay_program.specs.Replayed.{DidNotStart, HasFailed, IsReplayedBy, Took, Written, ending_of}
 
@@ -27,7 +28,7 @@ pub record PrintsAll (form : Form) (answers : List (List Answer)) (text : List �
 abbrev pub RecordsAll : List (List Answer) → List (Option Recorded) → Type 0
 RecordsAll answers recorded =
     (proxy : ℕ) (own : List Answer) (r : Recorded) → slice_get answers proxy ≡ Some own
-    → slice_get recorded proxy ≡ Some (Some r) → Appends r.before r.after (answer_records own)
+    → slice_get recorded proxy ≡ Some (Some r) → Takes r.before r.after (answer_records own)
 
 -- All was read and resolved. What was printed are the lines of all answers, and what was recorded are the records of all.
 abbrev pub PrintsAndRecords : Options → List (Option (List ℕ)) → List (Option Recorded) → Option (List ℕ) → Option (List ℕ) → Type 0
@@ -42,6 +43,13 @@ pub record IsStreamDone (options : Options) (files : List (Option (List ℕ))) (
   pub writers : HaveRecords has_writer recorded
   pub whole : PrintsAndRecords options files recorded before after
 
+-- what a writer reported before and after
+abbrev pub state_before : Written → SinkState
+state_before writer = record { given = writer.before; failures = writer.failures_before }
+
+abbrev pub state_after : Written → SinkState
+state_after writer = record { given = writer.after; failures = writer.failures_after }
+
 -- The files were replayed, and something failed: a file, a line, a record, the run, or a write.
 pub record StreamedAndFailed (options : Options) (files : List (Option (List ℕ))) (has_writer : List Bool)
     (recorded : List (Option Recorded)) (out error : Written) : Type 0 where
@@ -50,7 +58,7 @@ pub record StreamedAndFailed (options : Options) (files : List (Option (List ℕ
   pub unwritten : List Bool
   pub complete : Bool
   pub stop : Option Stop
-  pub run : IsStreamed options files has_writer out.before out.after failed failures recorded complete stop
+  pub run : IsStreamed options files has_writer (state_before out) (state_after out) failed failures recorded complete stop
   pub lines_of_failures :
       HasFailed error ⊎ Took error (unwritten_lines unwritten ++ failure_lines failures (ending_of complete stop))
   pub why :

@@ -1,10 +1,12 @@
 //! All that follows the opening of the files where answers are printed as they come.
 
-ghost use Rattle.std.specs.Prelude.{◌≡◌, ◌≤◌, ◌<◌, ◌≢◌, ◌↔◌, ◌++◌, is_some, map, vec_len, IsErr};
-ghost use Rattle.std.specs.Prelude.{OnOk};
+ghost use Rattle.std.specs.Prelude.{◌≡◌, ◌≤◌, ◌<◌, ◌≢◌, ◌↔◌, ◌++◌, false, is_some, map, vec_len};
+ghost use Rattle.std.specs.Prelude.{IsErr, IsOk, IsTrue, OnOk};
+ghost use Rattle.std.specs.List.{All};
 ghost use Rattle.std.specs.Io.KnownBytes.{Appends, Keeps};
-ghost use Rattle.replay_output.specs.Failures.{failure_lines};
+ghost use Rattle.replay_output.specs.Failures.{NothingFailed, failure_lines};
 ghost use Rattle.replay_output.specs.Unwritten.{unwritten_lines};
+ghost use Rattle.replay_workers.specs.Sinks.{state_by};
 ghost use Rattle.replay_workers.specs.Streaming.{recorded_each};
 ghost use Rattle.replay_program.specs.Replayed.{written};
 ghost use Rattle.replay_program.specs.Streamed.{FailsToStream, IsStreamDone};
@@ -60,7 +62,7 @@ pub fn stream_over<
     // that log, in order, and so are its records.
     ensures done { result.status ≡ Status.Done
         → IsStreamDone options (map S.remaining readers.items) (map is_some records.items)
-        (recorded_each W.given records.items result.recorders.items)
+        (recorded_each (state_by W.given W.failures) records.items result.recorders.items)
         (O.given out.old) (O.given out.new) }
     ensures quiet { result.status ≡ Status.Done → Keeps (E.given error.old) (E.given error.new) }
 
@@ -68,7 +70,7 @@ pub fn stream_over<
     // of each proxy are those of its first answers.
     ensures failed { result.status ≡ Status.Failed
         → FailsToStream options (map S.remaining readers.items) (map is_some records.items)
-        (recorded_each W.given records.items result.recorders.items)
+        (recorded_each (state_by W.given W.failures) records.items result.recorders.items)
         (written (O.given out.old) (O.given out.new) (O.failures out.old) (O.failures out.new))
         (written (E.given error.old) (E.given error.new) (E.failures error.old)
         (E.failures error.new)) }
@@ -97,11 +99,29 @@ pub fn stream_over<
     } = streamed;
     let ending = Ending::new(account.complete && all_sent, account.stop);
     let told = print_all(error, &unwritten, &failures, ending);
-    let clean = nothing_failed(&failures, ending) && all_written(&unwritten);
+    let is_clean = is_clean(&unwritten, &failures, ending);
     StreamReport {
-        status: Status::of(clean && !failed && told.is_ok()),
+        status: status_of(is_clean, failed, told),
         recorders,
     }
+}
+
+// Returns whether all records were written and nothing failed.
+fn is_clean(unwritten: &[bool], failures: &[ProxyFailure], ending: Ending) -> bool
+    ensures clean { IsTrue result ↔ (All (λ failed. failed ≡ false) unwritten.now
+        × NothingFailed failures.now ending) }
+{
+    all_written(unwritten) && nothing_failed(failures, ending)
+}
+
+// Returns how the program ends, by whether all was clean, standard output has failed, and the lines
+// of failures were written.
+fn status_of(is_clean: bool, failed: bool, told: Result<(), Failed>) -> Status
+    ensures done { result ≡ Status.Done ↔ (IsTrue is_clean × (failed ≡ false) × IsOk told) }
+    ensures ends { result ≢ Status.Usage }
+    ensures same { result ≢ Status.Differs }
+{
+    Status::of(is_clean && !failed && told.is_ok())
 }
 
 // Prints the lines of the proxies whose records could not be written, and then of all else.
