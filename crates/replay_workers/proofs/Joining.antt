@@ -7,6 +7,7 @@ use Rattle.std.proofs.lemmas.List.Elements.{All-push}
 use Rattle.keyspace.specs.declared.answer.Answer.{Answer}
 use Rattle.keyspace.specs.declared.batch.Batch.{Batch}
 use Rattle.lane.specs.Lane.{HasEnded, IntakeView, Lane, PortView}
+use Rattle.replay_output.specs.declared.stream.AnswerError.{AnswerError}
 use Rattle.replay_workers.specs.declared.stream.recorder.Recorder.{Recorder}
 use Rattle.replay_workers.specs.declared.stream.streamed.Streamed.{Streamed}
 use Rattle.replay_workers.specs.Proxies.{IsStreamedOf, Joined, JoinsRecorder, LeavesUnsent, SendsAll, client_of, failure_with}
@@ -42,7 +43,7 @@ agreed {W} state_of out given old new first last has lane sent closed taken same
   taken ∙ all_taken old first.answers lane has.ended ∙ sym sent,
   subst (λ (now : List Answer). WritesRecords given.taken now (state_of out) (state_of last.out) last.failure) (sym taken)
       (subst (λ (o : W). WritesRecords given.taken first.answers.taken (state_of out) (state_of o) last.failure) (sym same_out)
-      (subst (λ f. WritesRecords given.taken first.answers.taken (state_of out) (state_of first.out) f) (sym same_failure)
+      (subst (λ (f : Option AnswerError). WritesRecords given.taken first.answers.taken (state_of out) (state_of first.out) f) (sym same_failure)
       has.writes)),
 )
 

@@ -26,6 +26,10 @@ zip_of R (x ∷ xs) (y ∷ ys) same each = (
   zip_of R xs ys (omega (arith, same)) (λ place x y at there. each (suc place) x y at there),
 )
 
+-- what one proxy is given
+abbrev pub given_one : {S W : Type 0} → ℕ → Client → S → Option W → GivenProxy S W
+given_one proxy client reader out = record { proxy = proxy; client = client; reader = reader; out = out }
+
 -- the number of the proxy at a place
 pub given_number : {S W : Type 0} (first : ℕ) (clients : List Client) (readers : List S) (outs : List (Option W)) (place : ℕ)
     (g : GivenProxy S W) → slice_get (given_proxies first clients readers outs) place ≡ Some g → g.proxy ≡ first + place
@@ -36,7 +40,8 @@ given_number {S} {W} first (c ∷ clients) (r ∷ readers) (o ∷ outs) zero g a
     let number : first ≡ first + 0 = omega arith in
     sym (ap (λ (g : GivenProxy S W). g.proxy) (same_Some _ g at)) ∙ number
 given_number first (c ∷ clients) (r ∷ readers) (o ∷ outs) (suc place) g at =
-    given_number (first + 1) clients readers outs place g at ∙ omega arith
+    let number : (first + 1) + place ≡ first + suc place = omega arith in
+    given_number (first + 1) clients readers outs place g at ∙ number
 
 -- both lists have something at a place, or neither
 pub length_given : {S W : Type 0} (first : ℕ) (clients : List Client) (readers : List S) (outs : List (Option W))
@@ -60,16 +65,13 @@ given_at first (d ∷ clients) [] outs same as_many place c r o at_c at_r at_o =
 given_at first (d ∷ clients) (s ∷ readers) [] same as_many place c r o at_c at_r at_o = absurd (omega (arith, as_many))
 given_at {S = S} {W = W} first (d ∷ clients) (s ∷ readers) (p ∷ outs) same as_many zero c r o at_c at_r at_o =
     let number : first ≡ first + 0 = omega arith in
-    ap (λ (n : ℕ). Some (the_given n d s p)) number
-    ∙ ap (λ (c : Client). Some (the_given (first + 0) c s p)) (same_Some d c at_c)
-    ∙ ap (λ (r : S). Some (the_given (first + 0) c r p)) (same_Some s r at_r)
-    ∙ ap (λ (o : Option W). Some (the_given (first + 0) c r o)) (same_Some p o at_o)
-  where
-    the_given : ℕ → Client → S → Option W → GivenProxy S W
-    the_given n c r o = record { proxy = n; client = c; reader = r; out = o }
+    ap (λ (n : ℕ). Some (given_one n d s p)) number
+    ∙ ap (λ (c : Client). Some (given_one (first + 0) c s p)) (same_Some d c at_c)
+    ∙ ap (λ (r : S). Some (given_one (first + 0) c r p)) (same_Some s r at_r)
+    ∙ ap (λ (o : Option W). Some (given_one (first + 0) c r o)) (same_Some p o at_o)
 given_at {S = S} {W = W} first (d ∷ clients) (s ∷ readers) (p ∷ outs) same as_many (suc place) c r o at_c at_r at_o =
     given_at (first + 1) clients readers outs (omega (arith, same)) (omega (arith, as_many)) place c r o at_c at_r at_o
-    ∙ ap (λ (n : ℕ). Some (record { proxy = n; client = c; reader = r; out = o })) (omega arith)
+    ∙ ap (λ (n : ℕ). Some (given_one n c r o)) (omega arith)
 
 -- what the relation says at a place
 pub zip_at : {X Y : Type 0} (R : X → Y → Type 0) (xs : List X) (ys : List Y) (place : ℕ) (x : X) (y : Y)

@@ -14,7 +14,7 @@ use Rattle.replay_workers.proofs.Outlets.{numbered_set, passed_set, stream_at}
 use Rattle.replay_workers.proofs.Runs.{mapped_at}
 
 module _ {S W : Type 0} (proxies : List (Proxy S W)) (i : ℕ) (d : Proxy S W) (x : Outlet) (inside : i < length proxies) where
-  abbrev here : Proxy S W
+  abbrev pub here : Proxy S W
   here = get_or proxies i d
 
   abbrev pub with_outlet : List (Proxy S W)

@@ -46,7 +46,7 @@ use Rattle.replay_workers.specs.Streaming.{IsStreamed, IsStreamedFor, LeavesLast
 use Rattle.replay_workers.specs.Worker.{ClientGoesOn, TakesFrames}
 use Rattle.replay_workers.specs.Sinks.{SinkState}
 use Rattle.replay_workers.proofs.callers.Lists.{all_at, found}
-use Rattle.replay_workers.proofs.Places.{all_of, from_map, given_at, given_number, is_recorded, length_given, length_recorded, recorded_at, zip_at, zip_of}
+use Rattle.replay_workers.proofs.Places.{all_of, from_map, given_at, given_one, given_number, is_recorded, length_given, length_recorded, recorded_at, zip_at, zip_of}
 use Rattle.replay_workers.proofs.Runs.{mapped_at}
 use Rattle.replay_workers.proofs.Serving.{both}
 use Rattle.replay_workers.proofs.Streams.{ends_of, recorded_of, streamed_for}
@@ -79,6 +79,7 @@ module _ {S W G : Type 0} (readers : List S) (outs : List (Option W)) (clients :
       let c = found tasks clients proxy task (sym tasks_count) at in
       let r = found clients readers proxy c.0 same c.1 in
       let o = found clients outs proxy c.0 as_many c.1 in
+      let number : 0 + proxy ≡ proxy = omega arith in
       record {
         client = c.0;
         at_client = c.1;
@@ -88,17 +89,15 @@ module _ {S W G : Type 0} (readers : List S) (outs : List (Option W)) (clients :
         at_out = o.1;
         was_given =
             same_Some _ _ (sym (given_here proxy task at) ∙ given_at 0 clients readers outs same as_many proxy c.0 r.0 o.0 c.1 r.1 o.1)
-            ∙ ap (λ (n : ℕ). the_given n c.0 r.0 o.0) (omega arith);
+            ∙ ap (λ (n : ℕ). given_one n c.0 r.0 o.0) number;
       }
-    where
-      the_given : ℕ → Client → S → Option W → GivenProxy S W
-      the_given n c r o = record { proxy = n; client = c; reader = r; out = o }
 
   pub are_numbered : AreNumbered (map (λ (t : Task S W G). t.outlet) tasks)
   are_numbered proxy l at =
       let t = from_map (λ (t : Task S W G). t.outlet) tasks proxy l at in
-      let number = given_number 0 clients readers outs proxy _ (given_here proxy t.0 t.1) in
-      ap (λ (l : Outlet). l.proxy) (sym t.2) ∙ number ∙ omega arith
+      let number : 0 + proxy ≡ proxy = omega arith in
+      ap (λ (l : Outlet). l.proxy) (sym t.2)
+      ∙ given_number 0 clients readers outs proxy (given_with t.0.outlet (threads_by t.0)) (given_here proxy t.0 t.1) ∙ number
 
   module _ (form : Form) (has_failed : Bool) (before after : SinkState) (ended : List (Proxy S W))
       (fresh : All (λ (t : Task S W G). IsNewOutlet t.outlet (threads_by t).answers) tasks)

@@ -63,15 +63,16 @@ pub fn run_stream<
     ensures nothing { OnErr result (state_by O.given O.failures out.new
         ≡ state_by O.given O.failures out.old) }
 {
-    let mut streamed = Streamed::with_room(alloc, readers.len())?;
-    let mut watch = Watch::new(alloc, readers.len())?;
+    let count = readers.len();
+    let mut streamed = Streamed::with_room(alloc, count)?;
+    let mut watch = Watch::new(alloc, count)?;
     let Options {
         capacity,
         window,
         limit,
         form,
     } = options;
-    let (mut resolver, clients) = open(alloc, readers.len(), capacity, window, limit)?;
+    let (mut resolver, clients) = open(alloc, count, capacity, window, limit)?;
     let tasks = connect_all(alloc, options, readers, records, clients, gatekeeper)?;
     let mut proxies = start_all(rt, alloc, tasks)?;
     let mut printer = Printer::new(alloc, form);
