@@ -87,15 +87,15 @@ pub fn read_words<'a>(alloc: Global, words: &'a [String]) -> Result<CommandLine<
         let message = "standard input (-) can be given only once";
         return Err(refuse(alloc, ErrorKind::ArgumentConflict, message)?);
     }
-    let replies = replies_of(alloc, &matches, form, files.len())?;
+    let count = files.len();
+    let replies = replies_of(alloc, &matches, form, count)?;
     let Some(is_streamed) = is_streamed(&matches, form) else {
         let message = "--stream is wanted without --check";
         return Err(refuse(alloc, ErrorKind::ArgumentConflict, message)?);
     };
-    let records = records_of(alloc, &matches, is_streamed, files.len())?;
-    let files = Vec::from_slice(alloc, files)?;
+    let records = records_of(alloc, &matches, is_streamed, count)?;
     Ok(CommandLine {
-        files,
+        files: Vec::from_slice(alloc, files)?,
         replies,
         is_streamed,
         records,

@@ -1,10 +1,10 @@
 //! The files of a command line, opened before anything else is done.
 
 ghost use Rattle.std.specs.Prelude.{◌≡◌, ◌↔◌, ◌<◌, ◌≤◌, ◌⊎◌, ℕ, [], map, length, vec_capacity};
-ghost use Rattle.std.specs.Prelude.{IfOk, IsErr, OnOk};
+ghost use Rattle.std.specs.Prelude.{IfOk, IsErr, OnErr, OnOk};
 ghost use Rattle.std.specs.Io.KnownBytes.{Appends};
 ghost use Rattle.replay_arguments.specs.Opening.{IsFirstRefused, contents_each, creating_line};
-ghost use Rattle.replay_arguments.specs.Opening.{opening_line};
+ghost use Rattle.replay_arguments.specs.Opening.{opening_line, replies_of};
 
 use itoa::Buffer;
 use replay_output::{StartError, Status, begin_line, print_start_error};
@@ -147,6 +147,18 @@ pub fn fail_to_create<W: Sink>(error: &mut W, cause: OpeningError) -> Status
     Status::Failed
 }
 
+// Writes `replay: replies ` and the number of the proxy.
+fn begin_replies<W: Sink>(error: &mut W, proxy: usize) -> Result<(), Failed>
+    ensures text { OnOk result (Appends (W.given error.old) (W.given error.new)
+        (replies_of proxy)) }
+    ensures ok { OnOk result (W.failures error.new ≡ W.failures error.old) }
+    ensures failed { OnErr result (W.failures error.old < W.failures error.new) }
+{
+    let mut buffer = Buffer::new();
+    write_all(error, b"replay: replies ")?;
+    write_all(error, buffer.format(proxy).as_bytes())
+}
+
 fn print_creating_error<W: Sink>(error: &mut W, cause: OpeningError) -> Result<(), Failed>
     ensures text { OnOk result (Appends (W.given error.old) (W.given error.new)
         (creating_line cause)) }
@@ -155,9 +167,7 @@ fn print_creating_error<W: Sink>(error: &mut W, cause: OpeningError) -> Result<(
 {
     match cause {
         OpeningError::CannotOpen(proxy) => {
-            let mut buffer = Buffer::new();
-            write_all(error, b"replay: replies ")?;
-            write_all(error, buffer.format(proxy).as_bytes())?;
+            begin_replies(error, proxy)?;
             write_all(error, b": cannot open\n")
         }
         OpeningError::Memory => print_start_error(error, StartError::Memory),

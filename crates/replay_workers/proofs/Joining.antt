@@ -6,11 +6,11 @@ use Rattle.std.proofs.lemmas.List.{map-append}
 use Rattle.std.proofs.lemmas.List.Elements.{All-push}
 use Rattle.keyspace.specs.declared.answer.Answer.{Answer}
 use Rattle.keyspace.specs.declared.batch.Batch.{Batch}
-use Rattle.lane.specs.Lane.{HasEnded, IntakeView, Lane, PortView}
+use Rattle.lane.specs.Lane.{HasEnded, IntakeGoesOn, IntakeView, Lane, PortView, SameLane}
 use Rattle.replay_output.specs.declared.stream.AnswerError.{AnswerError}
 use Rattle.replay_workers.specs.declared.stream.recorder.Recorder.{Recorder}
 use Rattle.replay_workers.specs.declared.stream.streamed.Streamed.{Streamed}
-use Rattle.replay_workers.specs.Proxies.{IsStreamedOf, Joined, JoinsRecorder, LeavesUnsent, SendsAll, client_of, failure_with}
+use Rattle.replay_workers.specs.Proxies.{AreEnds, IsStreamedOf, Joined, JoinsRecorder, LeavesUnsent, SendsAll, client_of, failure_with}
 use Rattle.replay_workers.specs.Recorder.{HasRecorded, WritesRecords, is_unwritten, unwritten_cause}
 use Rattle.replay_workers.specs.Sinks.{SinkState}
 use Rattle.replay_workers.proofs.Working.{at_also, at_last}
@@ -31,6 +31,18 @@ all_taken {T} port intake lane ended =
     whole : (rest : List T) → port.sent ≡ intake.taken ++ rest → length rest ≡ 0 → intake.taken ≡ port.sent
     whole [] is none = sym (append-nil intake.taken) ∙ sym is
     whole (x ∷ rest) is none = absurd (omega (arith, none))
+
+-- the intake that a recorder hands back is still that of its lane
+pub still_ends : {T : Type 0} (port : PortView T) (given now : IntakeView T) → SameLane port given → IntakeGoesOn given now
+    → SameLane port now
+still_ends port given now same goes =
+    record { lane = same.lane ∙ sym goes.lane; capacity = same.capacity ∙ sym goes.capacity }
+
+-- a proxy without a recorder
+pub joins_nothing : {W : Type 0} (state_of : W → SinkState) (records : Option (PortView Answer)) → AreEnds records None
+    → JoinsRecorder state_of None None records records None
+joins_nothing state_of None ends = tt
+joins_nothing state_of (Some records) ends = absurd ends
 
 -- both ends of the lane to a recorder have looked at each other, once it had ended
 pub agreed : {W : Type 0} (state_of : W → SinkState) (out : W) (given : IntakeView Answer) (old new : PortView Answer)

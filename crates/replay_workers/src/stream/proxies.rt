@@ -226,6 +226,7 @@ pub fn join_all<S: Source, W: Sink + Drop, R: Threads>(
 }
 
 // Joins the recorder of a proxy, if it has one. Both ends of its lane agree then.
+#[tactic(auto, using(crate::proofs::Joining::agreed, crate::proofs::Joining::joins_nothing, crate::proofs::Joining::still_ends))]
 fn join_recorder<W: Sink + Drop, R: Threads>(
     rt: &R,
     outlet: &mut Outlet,

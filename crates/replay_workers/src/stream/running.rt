@@ -1,8 +1,8 @@
 //! A stream: senders read and send, and recorders write records, while this thread turns the
 //! resolver and prints the answers.
 
-ghost use Rattle.std.specs.Prelude.{◌≡◌, ◌≤◌, ◌&&◌, ℕ, Some, is_some, map, slice_get, vec_len};
-ghost use Rattle.std.specs.Prelude.{IfOk, IsTrue, OnErr};
+ghost use Rattle.std.specs.Prelude.{◌≡◌, ◌≤◌, ◌&&◌, ℕ, true, Some, is_some, map, slice_get};
+ghost use Rattle.std.specs.Prelude.{vec_len, IfOk, IsTrue, OnErr};
 ghost use Rattle.resolver.specs.declared.resolver_core.TheConstants.{MAX_PROXIES};
 ghost use Rattle.replay_workers.specs.Recorder.{is_unwritten, unwritten_cause};
 ghost use Rattle.replay_workers.specs.Streaming.{IsStreamed, recorded_each};
@@ -134,6 +134,7 @@ fn turn_to_end<S: Source, W: Sink, G: Gatekeeper + ShareKeeper, R: Wait, O: Sink
 }
 
 // Passes on at most one answer of each proxy. Returns whether all outlets have ended.
+#[tactic(auto, using(crate::proofs::Rounds::numbered_stay, crate::proofs::Rounds::passed_to, crate::proofs::Rounds::streams_at, crate::proofs::Rounds::threads_stay))]
 fn pass_each<S: Source, W: Sink, G: Gatekeeper, O: Sink>(
     proxies: &mut [Proxy<S, W>],
     printer: &mut Printer,

@@ -1,6 +1,8 @@
-use Rattle.std.proofs.Common.{List, subst, inl, inr}
-use Rattle.clap.specs.Words.{Row}
-use Rattle.replay_arguments.specs.Words.{HasFiles, HasNumbers, HasStream}
+use Rattle.std.proofs.Common.{◌≡◌, ◌∙◌, Bor, List, ℕ, length, map, subst, sym, inl, inr}
+use Rattle.std.proofs.lemmas.List.{length-map}
+use Rattle.clap.specs.Words.{Row, found_of, rows_of}
+use Rattle.replay_arguments.specs.Words.{HasFiles, HasNumbers, HasRecords, HasRecordsEach, HasStream}
+use Rattle.replay_arguments.proofs.Refusals.{no_records_each}
 use Rattle.replay_arguments.proofs.arguments.read_words.Goals as goal
 
 pub returns-in_default-options_of-clause-refused : goal.returns-in_default-options_of-clause-refused
@@ -16,4 +18,15 @@ returns-in_default-files_of-clause-refused c = λ text is.
 pub returns-in_default-is_streamed-clause-refused : goal.returns-in_default-is_streamed-clause-refused
 returns-in_default-is_streamed-clause-refused c = λ text is.
     inr (inr (inr (inr (inr (inr (inl (subst (λ (rows : List Row). ¬ (HasStream rows)) c.in_ok-matches.ensures.rows
-    (c.is_streamed.ensures.none c.in_default-is_streamed.is c.in_ok-form.ensures.form))))))))
+    (c.is_streamed.ensures.none c.in_default-is_streamed.is c.in-Some.ensures.form))))))))
+
+pub returns-in_err-records-clause-refused : goal.returns-in_err-records-clause-refused
+returns-in_err-records-clause-refused c = λ text is.
+    let found = rows_of (found_of c.in_ok-matches.matches) in
+    let files = c.in-Some-files_of.files.now in
+    let names : List (List ℕ) = map (λ (v : Bor (List ℕ)). v.now) files in
+    let refused = c.records_of.ensures.refused text (c.in_err-records.was ∙ is) c.in-Some-is_streamed.ensures.stream in
+    let count : c.len-count.result ≡ length names = c.len-count.ensures ∙ sym (length-map files (λ (v : Bor (List ℕ)). v.now)) in
+    let none = subst (λ (n : ℕ). ¬ (HasRecords n found)) count refused.1 in
+    inr (inr (inr (inr (inr (inr (inr (subst (λ (rows : List Row). ¬ (HasRecordsEach rows)) c.in_ok-matches.ensures.rows
+    (no_records_each found names c.in-Some-files_of.ensures.files refused.0 none))))))))
