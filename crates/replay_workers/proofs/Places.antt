@@ -1,13 +1,15 @@
 -- The proxies of a stream, place by place: what each was given, and what was recorded of it.
-use Rattle.std.specs.Prelude.{◌≡◌, ℕ, zero, suc, ◌+◌, ◌<◌, Bool, List, [], ◌∷◌, length, map, Option, Some, None, is_some, slice_get, slice_index_or as get_or}
+use Rattle.std.specs.Prelude.{◌≡◌, ℕ, zero, suc, ◌+◌, ◌<◌, Bool, List, [], ◌∷◌, ◌++◌, length, map, Option, Some, None, is_some, slice_get, slice_index_or as get_or}
 use Rattle.std.specs.List.{AllZip, All}
-use Rattle.std.proofs.Common.{refl, sym, ap, subst, ◌∙◌, arith}
+use Rattle.std.proofs.Common.{refl, sym, ap, subst, ◌∙◌, append_assoc, arith}
+use Rattle.std.proofs.lemmas.List.{map-append}
 use Rattle.std.proofs.lemmas.Option.{none-some, same_Some, slice_get-get_or}
 use Rattle.keyspace.specs.declared.answer.Answer.{Answer}
 use Rattle.lane.specs.Lane.{PortView, IntakeView}
 use Rattle.resolver.specs.declared.client.Client.{Client}
+use Rattle.replay_workers.specs.declared.stream.proxies.Task.{Task}
 use Rattle.replay_workers.specs.declared.stream.recorder.Recorder.{Recorder}
-use Rattle.replay_workers.specs.Proxies.{GivenProxy, JoinsRecorder, given_proxies}
+use Rattle.replay_workers.specs.Proxies.{GivenProxy, JoinsRecorder, given_proxies, given_with, threads_by}
 use Rattle.replay_workers.specs.Streaming.{Recorded, recorded_each}
 use Rattle.replay_workers.specs.Sinks.{SinkState}
 use Rattle.replay_workers.proofs.Streams.{recorded_of}
@@ -29,6 +31,26 @@ zip_of R (x ∷ xs) (y ∷ ys) same each = (
 -- what one proxy is given
 abbrev pub given_one : {S W : Type 0} → ℕ → Client → S → Option W → GivenProxy S W
 given_one proxy client reader out = record { proxy = proxy; client = client; reader = reader; out = out }
+
+-- one proxy more has its outlet
+pub given_also : {S W G : Type 0} (tasks after : List (Task S W G)) (task : Task S W G) (clients rest_clients : List Client)
+    (client : Client) (readers rest_readers : List S) (reader : S) (outs rest_outs : List (Option W)) (out : Option W)
+    (all : List (GivenProxy S W)) (first next : ℕ)
+    → map (λ (t : Task S W G). given_with t.outlet (threads_by t)) tasks ++ given_proxies first clients readers outs ≡ all
+    → clients ≡ client ∷ rest_clients → readers ≡ reader ∷ rest_readers → outs ≡ out ∷ rest_outs → after ≡ tasks ++ task ∷ []
+    → next ≡ first + 1 → given_with task.outlet (threads_by task) ≡ given_one first client reader out
+    → map (λ (t : Task S W G). given_with t.outlet (threads_by t)) after ++ given_proxies next rest_clients rest_readers rest_outs ≡ all
+given_also {S} {W} {G} tasks after task clients rest_clients client readers rest_readers reader outs rest_outs out all first next before cs rs
+    os pushed number given =
+    let f = λ (t : Task S W G). given_with t.outlet (threads_by t) in
+    let done = map f tasks in
+    let rest = λ (n : ℕ). given_proxies n rest_clients rest_readers rest_outs in
+    ap (λ (l : List (Task S W G)). map f l ++ rest next) pushed ∙ ap (λ (l : List (GivenProxy S W)). l ++ rest next) (map-append f tasks (task ∷ []))
+    ∙ append_assoc done (f task ∷ []) (rest next) ∙ ap (λ (n : ℕ). done ++ f task ∷ rest n) number
+    ∙ ap (λ (g : GivenProxy S W). done ++ g ∷ rest (first + 1)) given
+    ∙ ap (λ (l : List Client). done ++ given_proxies first l (reader ∷ rest_readers) (out ∷ rest_outs)) (sym cs)
+    ∙ ap (λ (l : List S). done ++ given_proxies first clients l (out ∷ rest_outs)) (sym rs)
+    ∙ ap (λ (l : List (Option W)). done ++ given_proxies first clients readers l) (sym os) ∙ before
 
 -- the number of the proxy at a place
 pub given_number : {S W : Type 0} (first : ℕ) (clients : List Client) (readers : List S) (outs : List (Option W)) (place : ℕ)

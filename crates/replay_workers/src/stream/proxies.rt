@@ -79,7 +79,7 @@ pub fn connect_all<S: Drop, W: Drop, G: Drop>(
             form: options.form,
         };
         let gatekeeper = Arc::try_clone(gatekeeper)?;
-        tasks.push_reserved(connect(
+        let task = connect(
             alloc,
             options.capacity,
             assignment,
@@ -87,7 +87,8 @@ pub fn connect_all<S: Drop, W: Drop, G: Drop>(
             reader,
             out,
             gatekeeper,
-        )?);
+        )?;
+        tasks.push_reserved(task);
     }
     Ok(tasks)
 }

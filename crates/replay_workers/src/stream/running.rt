@@ -125,9 +125,18 @@ fn turn_to_end<S: Source, W: Sink, G: Gatekeeper + ShareKeeper, R: Wait, O: Sink
                 let_through(resolver, gatekeeper, watch);
                 thread::yield_now();
             }
-            Ok(Turn::Done) if ended => return,
-            Err(_) if ended && resolver.owed() == 0 => return,
-            Ok(Turn::Done) | Err(_) => thread::yield_now(),
+            Ok(Turn::Done) => {
+                if ended {
+                    return;
+                }
+                thread::yield_now();
+            }
+            Err(_) => {
+                if ended && resolver.owed() == 0 {
+                    return;
+                }
+                thread::yield_now();
+            }
         }
     }
     unreachable!()

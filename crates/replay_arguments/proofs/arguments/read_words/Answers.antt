@@ -1,5 +1,7 @@
-use Rattle.std.proofs.Common.{◌≡◌, ◌∙◌, Bor, List, ℕ, length, map, subst, sym, inl, inr}
+use Rattle.std.proofs.Common.{◌≡◌, ◌∙◌, Bor, Err, List, ℕ, length, map, subst, sym, inl, inr, rules, arith}
+use Rattle.std.proofs.lemmas.Grind.{common_steps}
 use Rattle.std.proofs.lemmas.List.{length-map}
+use Rattle.replay_arguments.specs.declared.arguments.refusal.Refusal.TheVariants.{Refused}
 use Rattle.clap.specs.Words.{Row, found_of, rows_of}
 use Rattle.replay_arguments.specs.Words.{HasFiles, HasNumbers, HasRecords, HasRecordsEach, HasStream}
 use Rattle.replay_arguments.proofs.Refusals.{no_records_each}
@@ -25,7 +27,8 @@ returns-in_err-records-clause-refused c = λ text is.
     let found = rows_of (found_of c.in_ok-matches.matches) in
     let files = c.in-Some-files_of.files.now in
     let names : List (List ℕ) = map (λ (v : Bor (List ℕ)). v.now) files in
-    let refused = c.records_of.ensures.refused text (c.in_err-records.was ∙ is) c.in-Some-is_streamed.ensures.stream in
+    let was : c.records_of.result ≡ Err (Refused text) = first_of (search rules, grind (arith, common_steps)) in
+    let refused = c.records_of.ensures.refused text was c.in-Some-is_streamed.ensures.stream in
     let count : c.len-count.result ≡ length names = c.len-count.ensures ∙ sym (length-map files (λ (v : Bor (List ℕ)). v.now)) in
     let none = subst (λ (n : ℕ). ¬ (HasRecords n found)) count refused.1 in
     inr (inr (inr (inr (inr (inr (inr (subst (λ (rows : List Row). ¬ (HasRecordsEach rows)) c.in_ok-matches.ensures.rows
