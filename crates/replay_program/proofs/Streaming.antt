@@ -1,5 +1,5 @@
 -- What was streamed, from what was run.
-use Rattle.std.specs.Prelude.{◌≡◌, ◌≢◌, ℕ, zero, suc, ◌+◌, ◌<◌, Bool, true, false, ◌⊎◌, List, [], ◌∷◌, ◌++◌, length, map, Option, Some, None, IfSome, IsErr, IsOk, OnOk, Result, Ok, Err, slice_get}
+use Rattle.std.specs.Prelude.{◌≡◌, ◌≢◌, ◌↔◌, ℕ, zero, suc, ◌+◌, ◌<◌, Bool, true, false, ◌⊎◌, List, [], ◌∷◌, ◌++◌, length, map, Option, Some, None, IfSome, IsErr, IsOk, IsTrue, OnOk, Result, Ok, Err, slice_get}
 use Rattle.std.specs.List.{All, range_with_len}
 use Rattle.std.specs.Io.KnownBytes.{Appends, Keeps}
 use Rattle.std.proofs.Common.{refl, sym, ap, subst, ◌∙◌, append-nil, inl, inr, arith}
@@ -42,6 +42,24 @@ no_failure : (f : Option AnswerError) → f ≢ Some Memory → f ≢ Some Write
 no_failure None memory write = refl
 no_failure (Some Memory) memory write = absurd (memory refl)
 no_failure (Some Write) memory write = absurd (write refl)
+
+-- the same of equal lists
+pub told_as : {T E : Type 0} (told : Result T E) (error : Written) (us unwritten : List Bool) (fs failures : List ProxyFailure)
+    (e ending : Ending) → us ≡ unwritten → fs ≡ failures → e ≡ ending
+    → OnOk told (Appends error.before error.after (unwritten_lines us ++ failure_lines fs e))
+    → OnOk told (Took error (unwritten_lines unwritten ++ failure_lines failures ending))
+told_as told error us unwritten fs failures e ending u f n holds =
+    subst (λ (e : Ending). OnOk told (Took error (unwritten_lines unwritten ++ failure_lines failures e))) n
+    (subst (λ (l : List ProxyFailure). OnOk told (Took error (unwritten_lines unwritten ++ failure_lines l e))) f
+    (subst (λ (l : List Bool). OnOk told (Took error (unwritten_lines l ++ failure_lines fs e))) u holds))
+
+pub clean_as : (is_clean : Bool) (us unwritten : List Bool) (fs failures : List ProxyFailure) (e ending : Ending) → us ≡ unwritten
+    → fs ≡ failures → e ≡ ending → (IsTrue is_clean ↔ (All (λ failed. failed ≡ false) us × NothingFailed fs e))
+    → (IsTrue is_clean ↔ (All (λ failed. failed ≡ false) unwritten × NothingFailed failures ending))
+clean_as is_clean us unwritten fs failures e ending u f n same =
+    subst (λ (e : Ending). IsTrue is_clean ↔ (All (λ failed. failed ≡ false) unwritten × NothingFailed failures e)) n
+    (subst (λ (l : List ProxyFailure). IsTrue is_clean ↔ (All (λ failed. failed ≡ false) unwritten × NothingFailed l e)) f
+    (subst (λ (l : List Bool). IsTrue is_clean ↔ (All (λ failed. failed ≡ false) l × NothingFailed fs e)) u same))
 
 -- where nothing failed, standard error was given nothing
 pub keeps_error : (old new : Option (List ℕ)) (unwritten : List Bool) (failures : List ProxyFailure) (ending : Ending)

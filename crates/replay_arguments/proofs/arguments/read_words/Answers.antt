@@ -29,7 +29,7 @@ returns-in_err-records-clause-refused c = λ text is.
     let names : List (List ℕ) = map (λ (v : Bor (List ℕ)). v.now) files in
     let was : c.records_of.result ≡ Err (Refused text) = first_of (search rules, grind (arith, common_steps)) in
     let refused = c.records_of.ensures.refused text was c.in-Some-is_streamed.ensures.stream in
-    let count : c.len-count.result ≡ length names = c.len-count.ensures ∙ sym (length-map files (λ (v : Bor (List ℕ)). v.now)) in
+    let count : length files ≡ length names = sym (length-map files (λ (v : Bor (List ℕ)). v.now)) in
     let none = subst (λ (n : ℕ). ¬ (HasRecords n found)) count refused.1 in
     inr (inr (inr (inr (inr (inr (inr (subst (λ (rows : List Row). ¬ (HasRecordsEach rows)) c.in_ok-matches.ensures.rows
     (no_records_each found names c.in-Some-files_of.ensures.files refused.0 none))))))))
