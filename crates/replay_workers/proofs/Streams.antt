@@ -67,21 +67,28 @@ module _ {W : Type 0} (state_of : W → SinkState) where
   records_of_taken (Some out) (Some given) (Some first) None new (Some recorder) waits taken ends passed none joins = absurd passed
   records_of_taken (Some out) (Some given) (Some first) (Some old) None (Some recorder) waits taken ends passed none joins = absurd joins
 
+  none_joined : (given : Option (IntakeView Answer)) (old new : Option (PortView Answer)) (recorder : Recorder W)
+      → JoinsRecorder state_of None given old new (Some recorder) → ⊥
+  none_joined None None None recorder joins = joins
+  none_joined None None (Some new) recorder joins = joins
+  none_joined None (Some old) new recorder joins = joins
+  none_joined (Some given) old new recorder joins = joins
+
+  no_write : (out : Option W) (given : Option (IntakeView Answer)) (old new : Option (PortView Answer))
+      (recorder : Option (Recorder W)) → JoinsRecorder state_of out given old new recorder
+      → unwritten_cause recorder ≡ Some answer.Write
+      → IfSome (recorded_of state_of out recorder) (λ r. r.failure ≢ Some answer.Write) → ⊥
+  no_write out given old new None joins failed written = none-some answer.Write failed
+  no_write (Some out) given old new (Some recorder) joins failed written = written failed
+  no_write None given old new (Some recorder) joins failed written = none_joined given old new recorder joins
+
   -- a proxy whose records could be written has sent all
-  sends_all : {S : Type 0} (out : Option W) (given : Option (IntakeView Answer)) (old new : Option (PortView Answer))
+  pub sends_all : (out : Option W) (given : Option (IntakeView Answer)) (old new : Option (PortView Answer))
       (joined : Joined W) → JoinsRecorder state_of out given old new joined.recorder → SendsAll joined
       → IfSome (recorded_of state_of out joined.recorder) (λ r. r.failure ≢ Some answer.Write) → joined.sent.unsent ≡ None
-  sends_all {S} out given old new joined joins (inl none) written = none
-  sends_all {S} out given old new joined joins (inr failed) written =
+  sends_all out given old new joined joins (inl none) written = none
+  sends_all out given old new joined joins (inr failed) written =
       absurd (no_write out given old new joined.recorder joins failed written)
-    where
-      no_write : (out : Option W) (given : Option (IntakeView Answer)) (old new : Option (PortView Answer))
-          (recorder : Option (Recorder W)) → JoinsRecorder state_of out given old new recorder
-          → unwritten_cause recorder ≡ Some answer.Write
-          → IfSome (recorded_of state_of out recorder) (λ r. r.failure ≢ Some answer.Write) → ⊥
-      no_write out given old new None joins failed written = none-some answer.Write failed
-      no_write (Some out) given old new (Some recorder) joins failed written = written failed
-      no_write None given old new (Some recorder) joins failed written = absurd joins
 
   -- if nothing was lost, memory was refused for no record
   pub none_refused : (out : Option W) (recorder : Option (Recorder W)) → is_refused (unwritten_cause recorder) ≡ false
@@ -126,7 +133,7 @@ module _ {W : Type 0} (state_of : W → SinkState) where
         );
         all_batches = λ all written.
             let parts = both account.complete all_sent all in
-            let none = sends_all {S = S} threads.out threads.answers old.records joined.outlet.records joined has.recorder
+            let none = sends_all threads.out threads.answers old.records joined.outlet.records joined has.recorder
             (sent_all parts.1) written in
             ap (λ (u : Option Batch). sends.batches ++ option_to_list u) none ∙ append-nil sends.batches ∙ sym sent
             ∙ sym (settled.all_batches (settled.all_ended parts.0));

@@ -27,16 +27,18 @@ use Rattle.replay_workers.proofs.Stopping.{accounted_new}
 use Rattle.replay_workers.proofs.StreamRuns.{are_numbered, clients_ended, clients_joined, ended_count, ends_each, is_streamed, tasks_count}
 use Rattle.replay_workers.proofs.stream.running.run_stream.Goals as goal
 
-pub turn_to_end-requires-clause-numbered : goal.turn_to_end-requires-clause-numbered
-turn_to_end-requires-clause-numbered g c =
+pub turn_to_end-requires : goal.turn_to_end-requires
+turn_to_end-requires g c =
     let readers = c.args.readers.items in
     let outs = c.args.records.items in
     let clients = c.in_ok-resolver.clients.items in
     let tasks = c.in_ok-tasks.tasks.items in
     let same : length readers ≡ length clients = omega (arith, c.in_ok-resolver.ensures.proxies, c.len-count.ensures) in
     let as_many : length outs ≡ length clients = omega (arith, same, c.requires.as_many) in
-    subst AreNumbered (sym (ap outlets_of c.deref_mut.ensures.value ∙ c.in_ok-proxies.ensures.outlets))
-    (are_numbered readers outs clients tasks same as_many c.in_ok-tasks.ensures.given)
+    record {
+      numbered = subst AreNumbered (sym (ap outlets_of c.deref_mut.ensures.value ∙ c.in_ok-proxies.ensures.outlets))
+          (are_numbered readers outs clients tasks same as_many c.in_ok-tasks.ensures.given);
+    }
 
 pub join_all-streamed-requires-clause-empty : goal.join_all-streamed-requires-clause-empty
 join_all-streamed-requires-clause-empty g c =
