@@ -1,6 +1,6 @@
 -- The writers of records, and the files that they are of.
-use Rattle.std.specs.Prelude.{◌≡◌, ℕ, zero, suc, ◌≤◌, true, List, [], ◌∷◌, ◌++◌, length, map, MatchOption, Option, Some, None, is_some, option_map, slice_get}
-use Rattle.std.proofs.Common.{refl, sym, ap, subst, ◌∙◌, append_assoc, arith}
+use Rattle.std.specs.Prelude.{◌≡◌, ◌⊎◌, ℕ, zero, suc, ◌≤◌, true, List, [], ◌∷◌, ◌++◌, length, map, MatchOption, Option, Some, None, is_some, option_map, slice_get}
+use Rattle.std.proofs.Common.{refl, sym, ap, subst, ◌∙◌, append_assoc, inl, inr, arith}
 use Rattle.std.proofs.lemmas.Bool.{false≢true}
 use Rattle.std.proofs.lemmas.List.{length-map}
 use Rattle.std.proofs.lemmas.Option.{none-some, same_Some, slice_get-map}
@@ -9,7 +9,10 @@ use Rattle.replay_workers.specs.declared.stream.recorder.Recorder.{Recorder}
 use Rattle.replay_workers.specs.Sinks.{SinkState, state_by}
 use Rattle.replay_workers.specs.Streaming.{HaveRecords, Recorded, recorded_each}
 use Rattle.replay_workers.proofs.callers.Lists.{found}
-use Rattle.replay_program.specs.Program.{AreBegun, HaveWriters}
+use Rattle.replay_output.specs.declared.options.Options.{Options}
+use Rattle.replay_program.specs.Program.{AreBegun, HaveWriters, StreamsAndFails, StreamsFiles}
+use Rattle.replay_program.specs.Replayed.{DidNotStart, Written}
+use Rattle.replay_program.specs.Streamed.{FailsToStream, IsStreamDone, PrintsAndRecords, StreamedAndFailed}
 
 -- so many places, of which the first have these items
 abbrev pub padded : {X : Type 0} → ℕ → List X → List (Option X)
@@ -100,3 +103,32 @@ are_begun {W} given_to failures_of begun names outs recorders have records count
     some_of : (o : Option W) → option_map given_to o ≡ Some (begun name) → (w : W) × (o ≡ Some w) × (given_to w ≡ begun name)
     some_of None is = absurd (none-some (begun name) is)
     some_of (Some w) is = (w, refl, same_Some (given_to w) (begun name) is)
+
+module _ {W : Type 0} (given_to : W → Option (List ℕ)) (failures_of : W → ℕ) (contents begun : List ℕ → Option (List ℕ))
+    (options : Options) (names records : List (List ℕ)) (files : List (Option (List ℕ))) (outs : List (Option W))
+    (recorders : List (Option (Recorder W))) (are : files ≡ contents_each contents names)
+    (have : HaveWriters begun records (map (option_map given_to) outs)) (count : length outs ≡ length files) where
+  abbrev recorded : List (Option Recorded)
+  recorded = recorded_each (state_by given_to failures_of) outs recorders
+
+  -- the files of these names, as their readers and writers were streamed
+  pub files_streamed : (before after : Option (List ℕ)) → IsStreamDone options files (map is_some outs) recorded before after
+      → StreamsFiles contents begun options names records before after
+  files_streamed before after done = record {
+    recorded = recorded;
+    begun_each =
+        are_begun given_to failures_of begun records outs recorders have done.writers (done.recorded_count ∙ sym count);
+    whole = subst (λ (l : List (Option (List ℕ))). PrintsAndRecords options l recorded before after) are done.whole;
+  }
+
+  pub files_failed : (out error : Written) → FailsToStream options files (map is_some outs) recorded out error
+      → DidNotStart out error ⊎ StreamsAndFails contents begun options names records out error
+  files_failed out error (inl not_started) = inl not_started
+  files_failed out error (inr ran) = inr (record {
+    recorded = recorded;
+    begun_each =
+        are_begun given_to failures_of begun records outs recorders have ran.run.writers (ran.run.recorded_count ∙ sym count);
+    has_writer = map is_some outs;
+    failed =
+        subst (λ (l : List (Option (List ℕ))). StreamedAndFailed options l (map is_some outs) recorded out error) are ran;
+  })

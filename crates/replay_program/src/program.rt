@@ -220,6 +220,7 @@ pub fn stream_files<R: Threads + Wait + Copy + Send + 'static, F: Files, O: Sink
 }
 
 // Opens the files for records, and returns the writer of each proxy, if there is one.
+#[tactic(auto, using(crate::proofs::Writers::padded_next, crate::proofs::Writers::have_writers))]
 fn records_of<F: Files>(
     alloc: Global,
     files: &F,
