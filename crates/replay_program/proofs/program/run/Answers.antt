@@ -77,7 +77,7 @@ returns-in-Ok-2 g c =
     let records : List (List ℕ) = map (λ name. name.now) line.records.items in
     let on = c.if-is_streamed.true in
     let each : (vec_len line.records ≡ 0) ⊎ (vec_len line.records ≡ vec_len line.files) =
-    elim c.in-Ok.ensures.records_each [ | inl none ↦ inl none | inr some ↦ inr some.1 ] in
+    elim c.in-Ok.ensures.records_each [ inl none ↦ inl none | inr some ↦ inr some.1 ] in
     let out = written (g.O.Sink.given c.args.out.now) (g.O.Sink.given c.stream_files.new.out)
     (g.O.Sink.failures c.args.out.now) (g.O.Sink.failures c.stream_files.new.out) in
     let error = written (g.E.Sink.given c.args.error.now) (g.E.Sink.given c.stream_files.new.error)

@@ -230,4 +230,3 @@ returns g c =
           ∙ ap (map cause) (sym joined.2.recorders);
       nothing = tt;
     }
-

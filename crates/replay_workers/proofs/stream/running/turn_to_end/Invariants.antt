@@ -19,7 +19,7 @@ invariant-loop g l = record {
   numbered : AreNumbered (outlets_of l.proxies);
   threads : map threads_of l.proxies ≡ map threads_of l.fn.proxies;
   streams :
-      StreamsOn l.fn.printer.form l.fn.printer.failed l.printer.failed 
+      StreamsOn l.fn.printer.form l.fn.printer.failed l.printer.failed
       (state_by g.O.Sink.given g.O.Sink.failures l.fn.out) (state_by g.O.Sink.given g.O.Sink.failures l.out)
       (outlets_of l.fn.proxies) (outlets_of l.proxies);
 }

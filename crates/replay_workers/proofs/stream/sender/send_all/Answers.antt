@@ -18,12 +18,12 @@ returns g c =
     let closed = done.requests ∙ c.close.ensures.closed in
     record {
       sent = record {
-      requests = subst (λ (r : PortView Batch). PortGoesOn given r) (sym closed) (port_closed given after sent.requests);
-      sends =
-          sends_moved (g.S.Source.remaining (frames_reader c.read_frames.result)) (g.S.Source.remaining c.args.reader) given.sent
-          given.sent after.sent finished.requests.sent (fault_of end) finished.fault (unsent_of end) finished.unsent
-          (ap g.S.Source.remaining c.read_frames.ensures.reader) refl (sym (ap (λ (r : PortView Batch). r.sent) closed))
-          (sym done.fault) (sym done.unsent) sent.sent;
-      closed = ap (λ (r : PortView Batch). r.closed) closed;
+        requests = subst (λ (r : PortView Batch). PortGoesOn given r) (sym closed) (port_closed given after sent.requests);
+        sends =
+            sends_moved (g.S.Source.remaining (frames_reader c.read_frames.result)) (g.S.Source.remaining c.args.reader) given.sent
+            given.sent after.sent finished.requests.sent (fault_of end) finished.fault (unsent_of end) finished.unsent
+            (ap g.S.Source.remaining c.read_frames.ensures.reader) refl (sym (ap (λ (r : PortView Batch). r.sent) closed))
+            (sym done.fault) (sym done.unsent) sent.sent;
+        closed = ap (λ (r : PortView Batch). r.closed) closed;
       };
     }
