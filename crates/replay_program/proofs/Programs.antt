@@ -12,8 +12,21 @@ use Rattle.replay_arguments.specs.declared.arguments.refusal.Refusal.TheVariants
 use Rattle.replay_output.specs.declared.start.StartError.TheVariants as start
 use Rattle.replay_output.specs.declared.status.Status.{Status}
 use Rattle.replay_output.specs.declared.status.Status.TheVariants.{Done, Failed, Usage, Differs}
-use Rattle.replay_arguments.specs.Opening.{IsFirstRefused, contents_each, opening_line}
-use Rattle.replay_program.specs.Program.{AsksToCheck, AsksToReplay, ChecksFiles, FailsOnFiles, FailsToCheck, HasDifferences, IsDone, IsFailed, Told}
+use Rattle.replay_arguments.specs.Opening.{IsFirstRefused, contents_each, creating_line, opening_line}
+use Rattle.replay_program.specs.Program.{
+  AsksToCheck,
+  AsksToReplay,
+  AsksToStream,
+  ChecksFiles,
+  FailsOnFiles,
+  FailsOnStream,
+  FailsToCheck,
+  HasDifferences,
+  IsDone,
+  IsFailed,
+  StreamsFiles,
+  Told,
+}
 use Rattle.replay_program.specs.Replayed.{HasFailed, IsReplayed, Took, Written}
 use Rattle.replay_output.specs.Start.{start_line}
 use Rattle.replay_arguments.specs.Words.{AsksForText, IsMistaken, is_kept}
@@ -50,11 +63,32 @@ module _ (has_opened cannot_open : List ℕ → Type 0) (contents : List ℕ →
   fails_to_open options names replies opening.Memory first nothing told =
       inr (inr (inl (record { cause = start.Memory; nothing_printed = nothing; told = told })))
 
-  module _ (words : List (List ℕ)) (status : Status) where
+  module _ (has_created cannot_create : List ℕ → Type 0) (begun : List ℕ → Option (List ℕ)) where
+    -- the files for the answers were not read, or those for records not opened
+    pub fails_to_stream : (options : Options) (names records : List (List ℕ)) (cause : OpeningError)
+        → ((proxy : ℕ) → cause ≡ opening.CannotOpen proxy → IsFirstRefused has_opened cannot_open names proxy)
+        → out.after ≡ out.before → Told error (opening_line cause)
+        → FailsOnStream has_opened cannot_open contents has_created cannot_create begun options names records out error
+    fails_to_stream options names records (opening.CannotOpen proxy) first nothing told =
+        inl (record { proxy = proxy; first = first proxy refl; nothing_printed = nothing; told = told })
+    fails_to_stream options names records opening.Memory first nothing told =
+        inr (inr (inl (record { cause = start.Memory; nothing_printed = nothing; told = told })))
+
+    pub fails_to_create : (options : Options) (names records : List (List ℕ)) (cause : OpeningError)
+        → ((proxy : ℕ) → cause ≡ opening.CannotOpen proxy → IsFirstRefused has_created cannot_create records proxy)
+        → out.after ≡ out.before → Told error (creating_line cause)
+        → FailsOnStream has_opened cannot_open contents has_created cannot_create begun options names records out error
+    fails_to_create options names records (opening.CannotOpen proxy) first nothing told =
+        inr (inl (record { proxy = proxy; first = first proxy refl; nothing_printed = nothing; told = told }))
+    fails_to_create options names records opening.Memory first nothing told =
+        inr (inr (inl (record { cause = start.Memory; nothing_printed = nothing; told = told })))
+
+  module _ (has_created cannot_create : List ℕ → Type 0) (begun : List ℕ → Option (List ℕ)) (words : List (List ℕ))
+      (status : Status) where
     pub record Ends : Type 0 where
-      pub done : status ≡ Done → IsDone contents words out
+      pub done : status ≡ Done → IsDone contents begun words out
       pub quiet : status ≡ Done → Keeps error.before error.after
-      pub failed : status ≡ Failed → IsFailed has_opened cannot_open contents words out error
+      pub failed : status ≡ Failed → IsFailed has_opened cannot_open contents has_created cannot_create begun words out error
       pub mistaken : status ≡ Usage → IsMistaken words
       pub nothing : status ≡ Usage → out.after ≡ out.before
       pub usage : status ≡ Usage → (text : List ℕ) × Told error text
@@ -137,15 +171,35 @@ module _ (has_opened cannot_open : List ℕ → Type 0) (contents : List ℕ →
         → (status ≡ Failed → FailsToCheck has_opened cannot_open contents options names replies out error)
         → status ≢ Usage → Ends
     ends_checked options names replies asked done differs quiet failed ends = record {
-      done = λ is. inr (inr (record { options = options; names = names; replies = replies; asked = asked; checked = done is }));
+      done = λ is.
+          inr (inr (inl (record { options = options; names = names; replies = replies; asked = asked; checked = done is })));
       quiet = λ is. quiet (λ other. let bad : Done ≡ Failed = sym is ∙ other in cc);
       failed = λ is.
-          inr (inr (inr (record { options = options; names = names; replies = replies; asked = asked; failed = failed is })));
+          inr (inr (inr (inl (record { options = options; names = names; replies = replies; asked = asked; failed = failed is }))));
       mistaken = λ is. absurd (ends is);
       nothing = λ is. absurd (ends is);
       usage = λ is. absurd (ends is);
       differs = λ is. record { options = options; names = names; replies = replies; asked = asked; checked = differs is };
       quiet_too = λ is. quiet (λ other. let bad : Differs ≡ Failed = sym is ∙ other in cc);
+    }
+
+    pub ends_streamed : (options : Options) (names records : List (List ℕ)) → AsksToStream words options names records
+        → (status ≡ Done → StreamsFiles contents begun options names records out.before out.after)
+        → (status ≡ Done → Keeps error.before error.after)
+        → (status ≡ Failed
+        → FailsOnStream has_opened cannot_open contents has_created cannot_create begun options names records out error)
+        → status ≢ Usage → status ≢ Differs → Ends
+    ends_streamed options names records asked done quiet failed ends same = record {
+      done = λ is.
+          inr (inr (inr (record { options = options; names = names; records = records; asked = asked; streamed = done is })));
+      quiet = quiet;
+      failed = λ is.
+          inr (inr (inr (inr (record { options = options; names = names; records = records; asked = asked; failed = failed is }))));
+      mistaken = λ is. absurd (ends is);
+      nothing = λ is. absurd (ends is);
+      usage = λ is. absurd (ends is);
+      differs = λ is. absurd (same is);
+      quiet_too = λ is. absurd (same is);
     }
 
     -- from what was refused, by the clauses of its end

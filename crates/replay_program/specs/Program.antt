@@ -1,5 +1,5 @@
 -- How the program ends, beside the words of its command line and the bytes of its files. This project's own.
-use Rattle.std.specs.Prelude.{◌≡◌, ◌≢◌, ◌⊎◌, ℕ, ◌≤◌, false, List, codes, length, Option, Some}
+use Rattle.std.specs.Prelude.{◌≡◌, ◌≢◌, ◌⊎◌, ℕ, ◌≤◌, Bool, true, false, List, codes, length, Option, Some, slice_get}
 use Rattle.std.specs.List.{AllZip}
 use Rattle.clap.specs.Words.{all_of}
 use Rattle.keyspace.specs.declared.reply.Reply.{Reply}
@@ -9,12 +9,14 @@ use Rattle.replay_output.specs.declared.options.form.Form.TheVariants.{Kept}
 use Rattle.replay_output.specs.declared.options.Options.{Options}
 use Rattle.replay_program.specs.declared.check.replies.RepliesError.{RepliesError}
 use Rattle.replay_output.specs.declared.start.StartError.TheVariants as start
-use Rattle.replay_arguments.specs.Opening.{IsFirstRefused, contents_each, opening_line}
+use Rattle.replay_arguments.specs.Opening.{IsFirstRefused, contents_each, creating_line, opening_line}
 use Rattle.replay_program.specs.Checked.{TakesToCompare, check_lines}
 use Rattle.replay_program.specs.Replayed.{DidNotStart, FailsToPrint, FailsToReplay, HasFailed, IsChecked, IsReplayed, Took, Written}
 use Rattle.replay_program.specs.Replies.{IsCauseOf, IsReplyFile, replies_line}
 use Rattle.replay_output.specs.Start.{start_line}
-use Rattle.replay_arguments.specs.Words.{AsksForText, HasInputOnce, HoldsOptions, IsTaken, is_kept, rows_of_words}
+use Rattle.replay_arguments.specs.Words.{AsksForText, HasInputOnce, HoldsOptions, HoldsStream, IsTaken, is_kept, named, rows_of_words}
+use Rattle.replay_workers.specs.Streaming.{Recorded}
+use Rattle.replay_program.specs.Streamed.{PrintsAndRecords, StreamedAndFailed}
 
 -- the line was printed, or standard error failed
 abbrev pub Told : Written → List ℕ → Type 0
@@ -71,6 +73,21 @@ pub record AsksToReplay (words : List (List ℕ)) (options : Options) (names : L
   pub most : length names ≤ MAX_PROXIES
   pub input : HasInputOnce (rows_of_words words)
   pub plain : is_kept options.form ≡ false
+  pub at_the_end : HoldsStream (rows_of_words words) false
+
+-- the words are taken, and ask that the answers to the files of these names are printed as they come, and recorded in files of these
+-- names, if there are any
+pub record AsksToStream (words : List (List ℕ)) (options : Options) (names records : List (List ℕ)) : Type 0 where
+  pub taken : IsTaken words
+  pub holds_options : HoldsOptions (rows_of_words words) options
+  pub holds_names : all_of (codes "FILE") (rows_of_words words) ≡ Some names
+  pub holds_records : named (all_of (codes "replies") (rows_of_words words)) ≡ records
+  pub least : 1 ≤ length names
+  pub most : length names ≤ MAX_PROXIES
+  pub input : HasInputOnce (rows_of_words words)
+  pub plain : is_kept options.form ≡ false
+  pub as_they_come : HoldsStream (rows_of_words words) true
+  pub records_each : (length records ≡ 0) ⊎ (length records ≡ length names)
 
 -- the words are taken, and ask for a check of the files of these names beside those of replies
 pub record AsksToCheck (words : List (List ℕ)) (options : Options) (names replies : List (List ℕ)) : Type 0 where
@@ -119,14 +136,68 @@ pub record HasChecked (So_many : ℕ → Type 0) (contents : List ℕ → Option
   pub asked : AsksToCheck words options names replies
   pub checked : ChecksFiles So_many contents options names replies out.before out.after
 
+-- each of these files for records has its writer, at the number of its proxy; of each writer, the bytes that it was given
+abbrev pub HaveWriters : (List ℕ → Option (List ℕ)) → List (List ℕ) → List (Option (Option (List ℕ))) → Type 0
+HaveWriters begun names writers =
+    (proxy : ℕ) (name : List ℕ) → slice_get names proxy ≡ Some name → slice_get writers proxy ≡ Some (Some (begun name))
+
+-- the proxy of each of these files for records has a writer, which began as that of its file
+abbrev pub AreBegun : (List ℕ → Option (List ℕ)) → List (List ℕ) → List (Option Recorded) → Type 0
+AreBegun begun names recorded =
+    (proxy : ℕ) (name : List ℕ) → slice_get names proxy ≡ Some name
+    → (r : Recorded) × (slice_get recorded proxy ≡ Some (Some r)) × (r.before.given ≡ begun name)
+
+-- The files of these names were read and resolved. The lines are those of all answers, and so are the records in the files of those
+-- names, if there are any.
+pub record StreamsFiles (contents begun : List ℕ → Option (List ℕ)) (options : Options) (names records : List (List ℕ))
+    (before after : Option (List ℕ)) : Type 0 where
+  pub recorded : List (Option Recorded)
+  pub begun_each : AreBegun begun records recorded
+  pub whole : PrintsAndRecords options (contents_each contents names) recorded before after
+
+-- all that the words ask for was read, resolved, printed and recorded
+pub record HasStreamed (contents begun : List ℕ → Option (List ℕ)) (words : List (List ℕ)) (out : Written) : Type 0 where
+  pub options : Options
+  pub names : List (List ℕ)
+  pub records : List (List ℕ)
+  pub asked : AsksToStream words options names records
+  pub streamed : StreamsFiles contents begun options names records out.before out.after
+
+-- a file for records can't be opened: nothing was printed, and the first such file was reported
+pub record DidNotCreate (has_created cannot_create : List ℕ → Type 0) (names : List (List ℕ)) (out error : Written) :
+    Type 0 where
+  pub proxy : ℕ
+  pub first : IsFirstRefused has_created cannot_create names proxy
+  pub nothing_printed : out.after ≡ out.before
+  pub told : Told error (creating_line (opening.CannotOpen proxy))
+
+-- The files of these names were read and resolved, and something failed. The lines are those of the first answers to each proxy, and
+-- so are the records in the files of those names, if there are any.
+pub record StreamsAndFails (contents begun : List ℕ → Option (List ℕ)) (options : Options) (names records : List (List ℕ))
+    (out error : Written) : Type 0 where
+  pub recorded : List (Option Recorded)
+  pub begun_each : AreBegun begun records recorded
+  pub has_writer : List Bool
+  pub failed : StreamedAndFailed options (contents_each contents names) has_writer recorded out error
+
+-- the files of these names were not streamed, or something failed
+abbrev pub FailsOnStream : (List ℕ → Type 0) → (List ℕ → Type 0) → (List ℕ → Option (List ℕ)) → (List ℕ → Type 0)
+    → (List ℕ → Type 0) → (List ℕ → Option (List ℕ)) → Options → List (List ℕ) → List (List ℕ) → Written → Written → Type 0
+FailsOnStream has_opened cannot_open contents has_created cannot_create begun options names records out error =
+    DidNotOpen has_opened cannot_open names out error
+    ⊎ (DidNotCreate has_created cannot_create records out error
+    ⊎ (DidNotStart out error ⊎ StreamsAndFails contents begun options names records out error))
+
 -- there are differences
 abbrev pub HasDifferences : (List ℕ → Option (List ℕ)) → List (List ℕ) → Written → Type 0
 HasDifferences = HasChecked (λ count. count ≢ 0)
 
 -- The program is done.
-abbrev pub IsDone : (List ℕ → Option (List ℕ)) → List (List ℕ) → Written → Type 0
-IsDone contents words out =
-    HasShown words out ⊎ (HasReplayed contents words out ⊎ HasChecked (λ count. count ≡ 0) contents words out)
+abbrev pub IsDone : (List ℕ → Option (List ℕ)) → (List ℕ → Option (List ℕ)) → List (List ℕ) → Written → Type 0
+IsDone contents begun words out =
+    HasShown words out
+    ⊎ (HasReplayed contents words out
+    ⊎ (HasChecked (λ count. count ≡ 0) contents words out ⊎ HasStreamed contents begun words out))
 
 -- what the words ask for failed on the files
 pub record HasFailedOnFiles (has_opened cannot_open : List ℕ → Type 0) (contents : List ℕ → Option (List ℕ))
@@ -145,6 +216,16 @@ pub record HasFailedToCheck (has_opened cannot_open : List ℕ → Type 0) (cont
   pub asked : AsksToCheck words options names replies
   pub failed : FailsToCheck has_opened cannot_open contents options names replies out error
 
+-- what the words ask to be streamed failed
+pub record HasFailedToStream (has_opened cannot_open : List ℕ → Type 0) (contents : List ℕ → Option (List ℕ))
+    (has_created cannot_create : List ℕ → Type 0) (begun : List ℕ → Option (List ℕ)) (words : List (List ℕ)) (out error : Written) :
+    Type 0 where
+  pub options : Options
+  pub names : List (List ℕ)
+  pub records : List (List ℕ)
+  pub asked : AsksToStream words options names records
+  pub failed : FailsOnStream has_opened cannot_open contents has_created cannot_create begun options names records out error
+
 -- help or the version was asked for, and standard output failed
 abbrev pub HasNotShown : List (List ℕ) → Written → Type 0
 HasNotShown words out = AsksForText words × HasFailed out
@@ -154,9 +235,10 @@ abbrev pub HasNoMemory : Written → Written → Type 0
 HasNoMemory out error = (out.after ≡ out.before) × Told error (start_line start.Memory)
 
 -- The program has failed.
-abbrev pub IsFailed : (List ℕ → Type 0) → (List ℕ → Type 0) → (List ℕ → Option (List ℕ)) → List (List ℕ)
-    → Written → Written → Type 0
-IsFailed has_opened cannot_open contents words out error =
+abbrev pub IsFailed : (List ℕ → Type 0) → (List ℕ → Type 0) → (List ℕ → Option (List ℕ)) → (List ℕ → Type 0)
+    → (List ℕ → Type 0) → (List ℕ → Option (List ℕ)) → List (List ℕ) → Written → Written → Type 0
+IsFailed has_opened cannot_open contents has_created cannot_create begun words out error =
     HasNoMemory out error
     ⊎ (HasNotShown words out ⊎ (HasFailedOnFiles has_opened cannot_open contents words out error
-    ⊎ HasFailedToCheck has_opened cannot_open contents words out error))
+    ⊎ (HasFailedToCheck has_opened cannot_open contents words out error
+    ⊎ HasFailedToStream has_opened cannot_open contents has_created cannot_create begun words out error)))

@@ -38,7 +38,7 @@ pub fn run_in<R: Threads + Wait + Copy + Send + 'static, V: Env, F: Files, O: Si
     error: &mut E,
 ) -> Status
     ensures done { result ≡ Status.Done → (words : List (List ℕ))
-        × IsDone (F.contents files.now) words
+        × IsDone (F.contents files.now) (F.begun files.now) words
         (written (O.given out.old) (O.given out.new) (O.failures out.old) (O.failures out.new)) }
     ensures quiet { result ≡ Status.Done → Keeps (E.given error.old) (E.given error.new) }
     ensures differs { result ≡ Status.Differs → (words : List (List ℕ))
@@ -49,7 +49,8 @@ pub fn run_in<R: Threads + Wait + Copy + Send + 'static, V: Env, F: Files, O: Si
         (written (O.given out.old) (O.given out.new) (O.failures out.old) (O.failures out.new))
         (written (E.given error.old) (E.given error.new) (E.failures error.old) (E.failures error.new))
         ⊎ ((words : List (List ℕ)) × IsFailed (F.has_opened files.now) (F.cannot_open files.now)
-        (F.contents files.now) words
+        (F.contents files.now) (F.has_created files.now) (F.cannot_create files.now)
+        (F.begun files.now) words
         (written (O.given out.old) (O.given out.new) (O.failures out.old) (O.failures out.new))
         (written (E.given error.old) (E.given error.new) (E.failures error.old)
         (E.failures error.new))) }
