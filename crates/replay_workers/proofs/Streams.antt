@@ -1,7 +1,6 @@
 -- What was read, sent, answered, printed and recorded of one proxy of a stream, put together.
-use Rattle.std.specs.Prelude.{◌≡◌, ◌≢◌, ◌⊎◌, ℕ, ℤ, Bool, true, false, ◌&&◌, ◌||◌, List, [], ◌∷◌, ◌++◌, Option, None, Some, IfSome, option_to_list}
-use Rattle.std.specs.Io.KnownBytes.{IsAtEnd}
-use Rattle.std.proofs.Common.{refl, sym, ap, subst, ◌∙◌, append_assoc, append-nil, inl, inr}
+use Rattle.std.specs.Prelude.{◌≡◌, ◌≢◌, ℕ, ℤ, Bool, true, false, ◌&&◌, List, [], ◌++◌, Option, None, Some, IfSome, option_to_list}
+use Rattle.std.proofs.Common.{sym, ap, subst, ◌∙◌, append_assoc, append-nil, inl, inr}
 use Rattle.std.proofs.lemmas.Bool.{false≢true, or_parts}
 use Rattle.std.proofs.lemmas.Option.{none-some}
 use Rattle.keyspace.specs.declared.batch.Batch.{Batch}
@@ -9,16 +8,14 @@ use Rattle.keyspace.specs.declared.answer.Answer.{Answer}
 use Rattle.keyspace.specs.Run.{Step, run, answers, part}
 use Rattle.lane.specs.Lane.{PortView, IntakeView, HasEnded}
 use Rattle.serial.specs.Replies.{IsCommittedAt, ReportsCommitted}
-use Rattle.resolver.specs.declared.client.Client.{Client}
 use Rattle.resolver.specs.declared.turn.Account.{Account}
-use Rattle.resolver.specs.Core.{IsBeginning}
 use Rattle.resolver.specs.Settled.{SettledFor}
 use Rattle.replay_output.specs.declared.stream.AnswerError.TheVariants as answer
 use Rattle.replay_workers.specs.declared.stream.outlet.Outlet.{Outlet}
 use Rattle.replay_workers.specs.declared.stream.recorder.Recorder.{Recorder}
 use Rattle.replay_workers.specs.Outlet.{is_whole, PassesOn, OutletGoesOn, HasPassedAll}
 use Rattle.replay_workers.specs.Proxies.{AreEnds, AreNewEnds, GivenThreads, HasJoined, Joined, JoinsRecorder, SendsAll, client_of, failure_with}
-use Rattle.replay_workers.specs.Recorder.{WritesRecords, is_refused, unwritten_cause}
+use Rattle.replay_workers.specs.Recorder.{is_refused, unwritten_cause}
 use Rattle.replay_workers.specs.Streaming.{HasRecords, IsStreamedFor, Recorded}
 use Rattle.replay_workers.specs.Sinks.{SinkState}
 use Rattle.replay_workers.proofs.Serving.{both, none_left}

@@ -1,7 +1,7 @@
 -- What a writer was given, one text after another.
 use Rattle.std.specs.Prelude.{◌≡◌, ℕ, zero, ◌+◌, ◌<◌, List, [], ◌++◌, length, take, Option, None, Some, IfSome}
 use Rattle.std.specs.Io.KnownBytes.{Appends}
-use Rattle.std.proofs.Common.{refl, sym, ap, subst, ◌∙◌, append_assoc, append-nil, arith}
+use Rattle.std.proofs.Common.{refl, sym, ap, subst, ◌∙◌, append_assoc}
 use Rattle.std.proofs.Math.Seq.{take-append-add}
 use Rattle.wire.proofs.callers.Given.{appends_none, appends_then}
 use Rattle.replay_workers.specs.Sinks.{FailsIn, SinkState, Takes}

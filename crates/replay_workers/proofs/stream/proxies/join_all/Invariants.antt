@@ -1,10 +1,9 @@
 use Rattle.std.proofs.Common.{◌≡◌, ◌≤◌, ◌+◌, ◌++◌, List}
 use Rattle.std.specs.Prelude.{vec_len, vec_capacity}
-use Rattle.std.specs.List.{All, AllZip}
+use Rattle.std.specs.List.{AllZip}
 use Rattle.std.specs.Vec.Iter.{into_iter_items, into_iter_len}
 use Rattle.replay_workers.specs.declared.stream.proxies.Proxy.{Proxy}
-use Rattle.replay_workers.specs.Outlet.{HavePassedAll}
-use Rattle.replay_workers.specs.Proxies.{AreEnds, IsJoined, IsStreamedOf, Joined, outlets_of, threads_of}
+use Rattle.replay_workers.specs.Proxies.{IsJoined, IsStreamedOf, Joined}
 use Rattle.replay_workers.specs.Sinks.{state_by}
 use Rattle.replay_workers.proofs.stream.proxies.join_all.Given as goal
 

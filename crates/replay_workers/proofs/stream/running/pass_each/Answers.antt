@@ -1,10 +1,9 @@
-use Rattle.std.proofs.Common.{◌≡◌, ◌<◌, ◌≤◌, ◌∙◌, length, rules, subst, sym, arith}
+use Rattle.std.proofs.Common.{◌<◌, ◌≤◌, ◌∙◌, length, rules, subst, sym, arith}
 use Rattle.std.proofs.lemmas.Bool.{false≢true}
 use Rattle.std.proofs.lemmas.Grind.{common_steps}
 use Rattle.std.proofs.lemmas.List.{length-map}
 use Rattle.std.proofs.lemmas.Option.{slice_get_within}
 use Rattle.replay_output.specs.declared.options.form.Form.{Form}
-use Rattle.replay_workers.specs.declared.stream.outlet.Outlet.{Outlet}
 use Rattle.replay_workers.specs.declared.stream.proxies.Proxy.{Proxy}
 use Rattle.replay_workers.specs.Outlet.{PassesSome}
 use Rattle.replay_workers.specs.Proxies.{outlets_of}

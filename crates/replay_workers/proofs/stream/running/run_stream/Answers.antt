@@ -1,9 +1,9 @@
-use Rattle.std.proofs.Common.{◌≡◌, ◌≤◌, ℕ, List, [], ap, sym, subst, ◌∙◌, arith, rules, ℤ, length, take, drop, ◌++◌, w64, to_z, of_z}
+use Rattle.std.proofs.Common.{◌≡◌, ℕ, List, ap, sym, subst, ◌∙◌, arith, rules, ℤ, length, w64, to_z, of_z}
 use Rattle.std.proofs.lemmas.Int.{ints, to_z-of_z}
 use Rattle.std.proofs.lemmas.List.{length-map}
 use Rattle.std.proofs.lemmas.Simd.{map-map}
 use Rattle.std.proofs.lemmas.List.Elements.{All-same}
-use Rattle.std.specs.Prelude.{◌&&◌, Bool, true, false, is_some, map, Option, None, IfSome, slice_get, vec_len}
+use Rattle.std.specs.Prelude.{◌&&◌, Bool, true, false, is_some, map, Option, None, IfSome, slice_get}
 use Rattle.std.specs.List.{AllZip}
 use Rattle.resolver.specs.declared.client.Client.{Client}
 use Rattle.resolver.specs.declared.stop.Stop.{Stop}
@@ -15,7 +15,7 @@ use Rattle.replay_workers.specs.declared.stream.proxies.Proxy.{Proxy}
 use Rattle.replay_workers.specs.declared.stream.proxies.Task.{Task}
 use Rattle.replay_workers.specs.declared.stream.recorder.Recorder.{Recorder}
 use Rattle.replay_workers.specs.Outlet.{AreNumbered, HavePassedAll, StreamGoesOn}
-use Rattle.replay_workers.specs.Proxies.{AreEnds, IsJoined, Joined, client_of, outlets_of, threads_by, threads_of}
+use Rattle.replay_workers.specs.Proxies.{AreEnds, IsJoined, Joined, client_of, outlets_of, threads_of}
 use Rattle.replay_workers.specs.Recorder.{is_unwritten, unwritten_cause}
 use Rattle.replay_workers.specs.Sinks.{state_by}
 use Rattle.replay_workers.specs.Stops.{IsStopOf}
@@ -24,7 +24,7 @@ use Rattle.replay_workers.proofs.Joining.{nothing_joined}
 use Rattle.replay_workers.proofs.Outlets.{stream_same}
 use Rattle.replay_workers.proofs.SameLanes.{clients_go_on}
 use Rattle.replay_workers.proofs.Stopping.{accounted_new}
-use Rattle.replay_workers.proofs.StreamRuns.{are_numbered, clients_ended, clients_joined, ended_count, ends_each, is_streamed, tasks_count}
+use Rattle.replay_workers.proofs.StreamRuns.{are_numbered, clients_ended, clients_joined, ends_each, is_streamed, tasks_count}
 use Rattle.replay_workers.proofs.stream.running.run_stream.Goals as goal
 
 pub turn_to_end-requires : goal.turn_to_end-requires
