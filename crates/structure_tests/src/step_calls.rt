@@ -103,11 +103,16 @@ fn prepare_after_raise(
     written.prepare(range)
 }
 
+// Writes [a,b), and prepares for [c,d).
+fn write_and_prepare(rt: &impl Abort, alloc: Global, written: &mut Written) -> Result<(), Fail> {
+    put(rt, alloc, written, ("a", "b"), 100, "")?;
+    Ok(prepare_after_raise(rt, written, &range(alloc, b"c", b"d")?)?)
+}
+
 #[test]
 fn limit_three_step_map(rt: HostRuntime) -> Result<(), Fail> {
     let mut written = Written::new(rt.alloc(), 3)?;
-    put(&rt, rt.alloc(), &mut written, ("a", "b"), 100, "")?;
-    prepare_after_raise(&rt, &mut written, &range(rt.alloc(), b"c", b"d")?)?;
+    write_and_prepare(&rt, rt.alloc(), &mut written)?;
     assert!(rt; has(written.map(), 1, ""));
     Ok(())
 }
