@@ -1,0 +1,4 @@
+pub mod Rows
+pub mod Ages
+pub mod Pairs
+pub mod Between
