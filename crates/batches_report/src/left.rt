@@ -29,9 +29,10 @@ impl Left {
         ensures added { OnOk result ((replies : List ReplyValue) → AreLeft replies [] self.old
             → AreLeft (replies ++ reply ∷ []) [] self.new) }
     {
-        if !self.replies.contains_key(&reply.version) {
-            self.replies.insert(reply.version, reply)?;
+        if self.replies.contains_key(&reply.version) {
+            return Ok(());
         }
+        self.replies.insert(reply.version, reply)?;
         Ok(())
     }
 

@@ -19,9 +19,12 @@ h2 { font-size: 1.2rem; margin: 2rem 0 0.25rem }
 p, .ends { margin: 0 0 0.5rem; color: var(--soft) }
 .ends { display: flex; justify-content: space-between; font-size: 0.875rem }
 table { width: 100%; border-collapse: collapse; font-variant-numeric: tabular-nums }
-th, td { padding: 0.25rem 0.5rem; border-bottom: 1px solid var(--line); text-align: right }
-th:first-child, td:first-child { text-align: left; overflow-wrap: anywhere }
+th, td { padding: 0.25rem 0.5rem; border-bottom: 1px solid var(--line) }
+th, td { text-align: right; white-space: nowrap }
+th:first-child, td:first-child { text-align: left }
+code { white-space: normal; overflow-wrap: anywhere }
 td.wide { width: 40% }
+@media (max-width: 36rem) { td.wide { width: 20% } th, td { padding: 0.25rem } }
 svg { display: block; width: 100%; height: 0.75rem }
 svg.plot { height: 10rem; border-bottom: 1px solid var(--soft) }
 rect { fill: var(--bar) }
