@@ -1,6 +1,6 @@
 //! What the command line asks for, done.
 
-ghost use Rattle.std.specs.Prelude.{◌≡◌, ◌≤ℤ◌, pos, IsTrue, OnOk, not};
+ghost use Rattle.std.specs.Prelude.{◌≡◌, IsTrue, OnOk, not};
 ghost use Rattle.batches_program.specs.Told.{Tells, TellsLine};
 
 use crate::converter::convert;
@@ -98,13 +98,16 @@ fn convert_file<R: Files<File = File> + Input + AllocGlobal, O: Sink, E: Sink>(
 
 // Writes the batch that starts a chain at the version, and tells why if it can't.
 fn open_chain<O: Sink, E: Sink>(alloc: Global, version: i64, out: &mut O, error: &mut E) -> Status
-    requires natural { pos 0 ≤ℤ version }
     ensures ok { result ≡ Status.Done → O.failures out.new ≡ O.failures out.old }
     ensures quiet { result ≡ Status.Done → error.new ≡ error.old }
     ensures told { result ≡ Status.Failed
         → TellsLine (E.given error.old) (E.given error.new) (E.failures error.old)
         (E.failures error.new) }
 {
+    if version < 0 {
+        // The command line takes no negative version.
+        return fail(error, alloc, &Failure::Memory);
+    }
     match write_opening(alloc, version, out) {
         Ok(()) => Status::Done,
         Err(failure) => fail(error, alloc, &failure),
