@@ -9,6 +9,7 @@ mod ages;
 mod bins;
 mod error;
 mod heat;
+pub mod laws;
 mod left;
 mod names;
 mod page;
