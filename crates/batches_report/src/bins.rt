@@ -28,13 +28,13 @@ pub fn bins_of(alloc: Global, rows: &[Row]) -> Result<Vec<Bin>, ReportError> {
         let first = least.saturating_add(width.saturating_mul(part));
         if first <= greatest {
             let last = first.saturating_add(width.saturating_sub(1)).min(greatest);
-            bins.push(bin(rows, first, last)?)?;
+            bins.push(bin_between(rows, first, last)?)?;
         }
     }
     Ok(bins)
 }
 
-fn bin(rows: &[Row], first: i64, last: i64) -> Result<Bin, ReportError> {
+fn bin_between(rows: &[Row], first: i64, last: i64) -> Result<Bin, ReportError> {
     match totals_between(rows, first, last) {
         Some(totals) => Ok(Bin {
             first,
