@@ -1,3 +1,4 @@
+-- DRAFT, unproved and unchecked.
 -- What a filter says beside a step map, and who is asked instead if it says nothing. This project's own.
 use Rattle.std.specs.Prelude.{◌≡◌, ℕ, ℤ, ◌+◌, ◌≤◌, ◌≤ℤ◌, ◌<ℤ◌, if◌then◌else◌, Bool, true, false, IsTrue, List, [], ◌∷◌, length, take, drop, Some, slice_get}
 use Rattle.std.specs.List.{AllZip}
@@ -19,23 +20,22 @@ abbrev pub IsBound : Steps → Range → ℤ → Type 0
 IsBound m range bound =
     IsSingle range → (s : ℤ) → m.edge ≤ℤ s → bound ≤ℤ s → ¬ IsAbove m range s
 
--- those of the queries that are marked, in order
-abbrev pub left_of : List (Range × ℤ) → List Bool → List (Range × ℤ)
-left_of [] marks = []
-left_of (q ∷ queries) [] = []
-left_of (q ∷ queries) (mark ∷ marks) = if mark then q ∷ left_of queries marks else left_of queries marks
+-- how a query may be marked: the range of one that is marked isn't empty, and the function isn't above the version of one that isn't
+abbrev pub IsMark : Steps → Range × ℤ → Bool → Type 0
+IsMark m q mark = (IsTrue mark → ¬ IsEmpty q.0) × (¬ IsTrue mark → ¬ IsAbove m q.0 q.1)
 
--- the answers instead of the marks, in order
-abbrev pub with_told : List Bool → List Bool → List Bool
-with_told [] told = []
-with_told (false ∷ marks) told = false ∷ with_told marks told
-with_told (true ∷ marks) [] = true ∷ with_told marks []
-with_told (true ∷ marks) (above ∷ told) = above ∷ with_told marks told
+-- what is known of the range at a place: whether it is a single key, and the hash of that
+abbrev pub IsHashed : Range → List ℕ → List Bool → ℕ → Type 0
+IsHashed range hashes singles place =
+    (slice_index_or singles place false ≡ true ↔ IsSingle range)
+        × (IsSingle range → slice_index_or hashes place 0 ≡ hash_of range.begin)
 
--- The queries from this index on are marked, as many as there are marks. The function isn't above the version of one that
--- isn't. The others are at these places, and their ranges aren't empty.
-pub record AreMarked (m : Steps) (queries : List (Range × ℤ)) (from : ℕ) (marks : List Bool) (places : List ℕ) : Type 0 where
-  pub within : from + length marks ≤ length queries
-  pub others : AllZip (λ q mark. ¬ IsTrue mark → ¬ IsAbove m q.0 q.1) (take (length marks) (drop from queries)) marks
-  pub left : AllZip (λ q place. (slice_get queries place ≡ Some q) × (¬ IsEmpty q.0))
-      (left_of (take (length marks) (drop from queries)) marks) places
+-- the indices from one up to another whose marks are set, in order
+abbrev pub places_in : ℕ → ℕ → List Bool → List ℕ
+places_in from to marks = filter (λ place. slice_index_or marks place false) (range from to)
+
+-- the answers at these places instead of the marks, in order
+abbrev pub with_told_at : List Bool → List ℕ → List Bool → List Bool
+with_told_at marks [] told = marks
+with_told_at marks (place ∷ places) [] = marks
+with_told_at marks (place ∷ places) (above ∷ told) = with_told_at (slice_set marks place above) places told

@@ -148,8 +148,10 @@ impl StepMap {
     {
         answers.clear();
         answers.reserve(queries.len())?;
-        while answers.len() < queries.len() {
-            self.answer_some(queries, answers)?;
+        self.mark_all(queries, answers)?;
+        let mut from = 0;
+        while from < answers.len() {
+            from = self.answer_some(queries, answers, from);
         }
         Ok(())
     }
