@@ -162,6 +162,53 @@ fn hashes_of_numbers_spread() {
     assert!(cells.len() >= 600, "{}", cells.len());
 }
 
+/// Single keys that are written are numbered among their begins and ends. One that is read has the run of an equal one that is
+/// written, or an empty one.
+fn assert_singles_are_ranked(ranges: &Ranges, ranks: &Ranks, is_write: &[bool]) {
+    let written = |index: &usize| is_write[*index];
+    let keys: BTreeSet<_> =
+        (0..ranges.len()).filter(written).flat_map(|index| [&ranges.0[index].begin, &ranges.0[index].end]).collect();
+    let keys: Vec<_> = keys.into_iter().collect();
+    assert_eq!(ranks.begins(), keys.len());
+    for (index, (range, run)) in ranges.0.iter().zip(ranks.runs()).enumerate() {
+        let number = |key: &Vec<u8>| keys.partition_point(|other| *other < key) as u32;
+        let is_numbered = (0..ranges.len()).filter(written).any(|other| ranges.0[other].begin == range.begin);
+        let expected = (number(&range.begin), number(&range.end));
+        assert!(if is_numbered { *run == expected } else { run.0 == run.1 }, "{index} {range:?} {run:?}");
+    }
+}
+
+/// A batch of single keys alone keeps numbers of those that it writes.
+#[test]
+fn batches_of_single_keys_rank_what_they_write() {
+    run("batches_of_single_keys_rank_what_they_write", count(1_000_000, 20_000), |random| {
+        let space = KeySpace::drawn(random);
+        let txns = (0..1 + random.index(20))
+            .map(|_| {
+                let mut txn = space.txn(random, 4, (0, 9));
+                txn.reads.iter_mut().chain(&mut txn.writes).for_each(|range| *range = PlainRange::single(space.key(random)));
+                txn
+            })
+            .collect();
+        let batch = PlainBatch { previous: -1, version: 9, received: -1, txns };
+        let txns = batch.batch().txns;
+        let (mut all, mut is_write) = (Vec::new(), Vec::new());
+        for txn in &batch.txns {
+            all.extend(txn.reads.iter().chain(&txn.writes).cloned());
+            is_write.resize(is_write.len() + txn.reads.len(), false);
+            is_write.resize(all.len(), true);
+        }
+        let ranges = Ranges(all);
+        assert_singles_are_ranked(&ranges, txns.ranks(), &is_write);
+        let order = txns.write_order();
+        assert!(order.windows(2).all(|pair| ranges.0[pair[0] as usize].begin <= ranges.0[pair[1] as usize].begin));
+        let mut indices: Vec<_> = order.iter().map(|index| *index as usize).collect();
+        indices.sort_unstable();
+        assert!(indices.into_iter().eq((0..ranges.len()).filter(|index| is_write[*index])));
+        1 + ranges.len() as u64
+    });
+}
+
 /// A batch keeps its ranges with their ranks, their hashes, and the order of those that it writes.
 #[test]
 fn batches_rank_and_hash_their_ranges() {
@@ -182,7 +229,11 @@ fn batches_rank_and_hash_their_ranges() {
         }
         let ranges = Ranges(all);
         let (ranks, order) = Ranks::with_order(Global, &ranges).expect("memory is ample");
-        assert_eq!((txns.ranks().runs(), txns.ranks().begins()), (ranks.runs(), ranks.begins()));
+        if ranges.len() == 0 || (0..ranges.len()).any(|index| !ranges.range(index).is_single()) {
+            assert_eq!((txns.ranks().runs(), txns.ranks().begins()), (ranks.runs(), ranks.begins()));
+        } else {
+            assert_singles_are_ranked(&ranges, txns.ranks(), &is_write);
+        }
         assert!(order.iter().filter(|index| is_write[**index as usize]).eq(txns.write_order()));
         for index in 0..ranges.len() {
             let range = ranges.range(index);

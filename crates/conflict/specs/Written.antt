@@ -15,10 +15,24 @@ AreWrittenGaps keys marks written =
 abbrev pub AreRunsWithin : ℕ → List (ℕ × ℕ) → Type 0
 AreRunsWithin count runs = All (λ run. (run.0 ≤ run.1) × (run.1 ≤ count)) runs
 
--- the keys have the begins of the ranges, and the runs are those of the ranges among the keys
-pub record TellRuns (keys : List (List ℕ)) (runs : List (ℕ × ℕ)) (ranges : List Range) : Type 0 where
+-- DRAFT, unproved and unchecked.
+-- The runs tell of some written ranges: the keys have the begins of these, and the runs are theirs among the keys.
+pub record TellWrites (keys : List (List ℕ)) (runs : List (ℕ × ℕ)) (ranges : List Range) : Type 0 where
   pub have_begins : All (HaveBegin keys) ranges
   pub are_runs : runs ≡ runs_of keys ranges
+
+-- The runs tell of some ranges that are read: each is that of its range among the keys, or one without a gap that says as much.
+-- What this says of written ranges needs that the keys have the begins of all ranges, or that all are single keys.
+abbrev pub TellReads : List (List ℕ) → List (ℕ × ℕ) → List Range → Type 0
+TellReads keys runs ranges = AllZip (IsRunAlike keys) ranges runs
+
+-- those of each transaction, its read ranges before its write ranges
+abbrev pub TellTxns : List (List ℕ) → List (ℕ × ℕ) → List Txn → Type 0
+TellTxns keys runs [] = runs ≡ []
+TellTxns keys runs (txn ∷ txns) =
+    TellReads keys (take (length txn.reads) runs) txn.reads
+    × TellWrites keys (take (length txn.writes) (drop (length txn.reads) runs)) txn.writes
+    × TellTxns keys (drop (length txn.reads + length txn.writes) runs) txns
 
 -- among the keys that have their begins, a range overlaps one of a list exactly if the run of one of these has a gap of
 -- its run

@@ -11,7 +11,7 @@ ghost use Rattle.keyspace.specs.Writes.{counted};
 ghost use Rattle.keyspace.specs.Judge.{meets_earlier};
 ghost use Rattle.keyspace.specs.BatchRanges.{ranges_in};
 ghost use Rattle.conflict.specs.Gaps.{IsMarked};
-ghost use Rattle.conflict.specs.Written.{AreWrittenGaps, AreRunsWithin, TellRuns};
+ghost use Rattle.conflict.specs.Written.{AreWrittenGaps, AreRunsWithin, TellReads, TellWrites};
 ghost use Rattle.conflict.specs.InBatch.{in_batch, in_batches};
 
 use crate::gaps::Gaps;
@@ -31,7 +31,9 @@ pub fn judge_in_batch(
 ) -> Result<(), AllocError>
     requires entries { length entries.old ≡ length batch.now.txns }
     requires runs { (keys : List (List ℕ)) × (length gaps.old ≡ length keys)
-        × TellRuns keys runs.now (ranges_in batch.now.txns) }
+        × TellTxns keys runs.now batch.now.txns
+        × (All (HaveBegin keys) (ranges_in batch.now.txns)
+        ⊎ All IsSingle (ranges_in batch.now.txns)) }
     requires unmarked { (gap : ℕ) → ¬ IsMarked gaps.old gap }
     ensures judged { OnOk result (entries.new ≡ in_batches [] batch.now.txns entries.old) }
 {
@@ -62,12 +64,14 @@ fn judge_open(
     requires count { length runs.now ≡ length (txn.now.reads ++ txn.now.writes) }
     requires within { AreRunsWithin (length gaps.old) runs.now }
     ensures judged { OnOk result ((keys : List (List ℕ)) (written : List Range)
-        → TellRuns keys runs.now (txn.now.reads ++ txn.now.writes)
+        → TellReads keys (take (length txn.now.reads) runs.now) txn.now.reads
+        → TellWrites keys (drop (length txn.now.reads) runs.now) txn.now.writes
         → AreWrittenGaps keys gaps.old written → All (HaveBegin keys) written
         → entry.new ≡ in_batch written txn.now entry.old) }
     ensures count { length gaps.new ≡ length gaps.old }
     ensures marked { OnOk result ((keys : List (List ℕ)) (written : List Range)
-        → TellRuns keys runs.now (txn.now.reads ++ txn.now.writes)
+        → TellReads keys (take (length txn.now.reads) runs.now) txn.now.reads
+        → TellWrites keys (drop (length txn.now.reads) runs.now) txn.now.writes
         → AreWrittenGaps keys gaps.old written → All (HaveBegin keys) written
         → AreWrittenGaps keys gaps.new (written ++ counted entry.new.verdict txn.now.writes)) }
 {
@@ -84,7 +88,7 @@ fn judge_open(
 fn first_met(gaps: &Gaps, runs: &[(u32, u32)]) -> Option<usize>
     requires within { AreRunsWithin (length gaps.now) runs.now }
     ensures first { (keys : List (List ℕ)) (written ranges : List Range)
-        → TellRuns keys runs.now ranges
+        → TellReads keys runs.now ranges
         → AreWrittenGaps keys gaps.now written → All (HaveBegin keys) written
         → result ≡ position (meets_earlier written) ranges }
     ensures within { IfSome result (λ place. place < length runs.now) }
@@ -111,7 +115,7 @@ fn mark(gaps: &mut Gaps, runs: &[(u32, u32)])
     requires within { AreRunsWithin (length gaps.old) runs.now }
     ensures count { length gaps.new ≡ length gaps.old }
     ensures marked { (keys : List (List ℕ)) (written ranges : List Range)
-        → TellRuns keys runs.now ranges
+        → TellWrites keys runs.now ranges
         → AreWrittenGaps keys gaps.old written → AreWrittenGaps keys gaps.new (written ++ ranges) }
 {
     for (from, to) in runs {

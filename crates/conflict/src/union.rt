@@ -5,7 +5,8 @@ ghost use Rattle.std.specs.Prelude.{◌≡◌, ◌<◌, ◌++◌, ◌∷◌, ℕ
 ghost use Rattle.std.specs.Prelude.{Some, slice_get};
 ghost use Rattle.keys.specs.Key.{IsAtMost, IsBefore};
 ghost use Rattle.keys.specs.Range.{IsEmpty};
-ghost use Rattle.keys.specs.Ranks.{run_or_none, runs_of, AreRanked};
+ghost use Rattle.keys.specs.Ranks.{run_or_none};
+ghost use Rattle.keys.specs.Singles.{is_marked, AreRankedFor};
 ghost use Rattle.keys.specs.declared.range.Range.{Range};
 ghost use Rattle.stepmap.specs.Uniting.{Unites};
 ghost use Rattle.conflict.specs.Union.{picked, AreSpanned, AreUnited, HaveWrittenInOrder};
@@ -51,7 +52,7 @@ impl Union {
 
     /// Replaces the spans by those of ranges that unite the ones marked as written. `order` lists
     /// ranges that aren't empty in the order of their begins, and all of these that are marked. The
-    /// ranks are those of all ranges. After an error the spans are unspecified, and the next call
+    /// ranks are those of all ranges, among which the marked ones have numbers. After an error the spans are unspecified, and the next call
     /// starts anew.
     pub fn gather<L: RangeList>(
         &mut self,
@@ -60,7 +61,7 @@ impl Union {
         order: &[u32],
         written: &[bool],
     ) -> Result<(), AllocError>
-        requires ranked { AreRanked (L.ranges ranges.now) ranks.now }
+        requires ranked { AreRankedFor (is_marked written.now) (L.ranges ranges.now) ranks.now }
         requires in_order { HaveWrittenInOrder (L.ranges ranges.now) written.now order.now }
         requires count { length written.now ≡ length (L.ranges ranges.now) }
         ensures united { OnOk result ((united : List Range)
@@ -87,7 +88,10 @@ impl Union {
         runs: &[(u32, u32)],
         index: usize,
     ) -> Result<(), AllocError>
-        requires runs { (keys : List (List ℕ)) × (runs.now ≡ runs_of keys (L.ranges ranges.now)) }
+        requires runs { (keys : List (List ℕ)) × ((place : ℕ) (range : Range)
+            → (place ≡ index) ⊎ EndsSpan self.old place
+            → slice_get (L.ranges ranges.now) place ≡ Some range
+            → slice_get runs.now place ≡ Some (run_or_none keys range)) }
         requires within { index < length (L.ranges ranges.now) }
         requires spanned { (united : List Range)
             × AreSpanned (L.ranges ranges.now) self.old united }

@@ -3,7 +3,8 @@
 ghost use Rattle.std.specs.Prelude.{◌≡◌, ◌<◌, ◌≤◌, Some, length, vec_len, map, slice_get, IfOk};
 ghost use Rattle.std.specs.Prelude.{IsSomeAnd};
 ghost use Rattle.keys.specs.Hash.{IsHashOf};
-ghost use Rattle.keys.specs.Ranks.{AreChosenInOrder, AreRanked};
+ghost use Rattle.keys.specs.Ranks.{AreChosenInOrder};
+ghost use Rattle.keys.specs.Singles.{AreRankedFor};
 ghost use Rattle.keys.specs.declared.range.Range.{Range};
 ghost use Rattle.keyspace.specs.BatchRanges.{is_write_in, ranges_in};
 ghost use Rattle.keyspace.specs.Fields.{txn_fields};
@@ -17,7 +18,7 @@ use crate::span::Span;
 use crate::tables::Tables;
 use crate::txn::Txn;
 use crate::txn_ref::TxnRef;
-use crate::write_order::list_writes;
+use crate::write_order::{list_writes, mark_writes};
 use keys::{HashedRange, Ranks, single_hashes};
 use std::alloc::{AllocError, Global};
 use std::marker::Model;
@@ -29,7 +30,8 @@ use std::marker::Model;
 /// lies in it, and a table with a row for each transaction. What doesn't depend on other batches is
 /// computed once, where the transactions are put together: the order of the write ranges by begins,
 /// which of the gaps between the begins of all ranges each range covers, and the hashes of single
-/// keys.
+/// keys. If all ranges are single keys, a range that is read has the run of a written range with its
+/// key, or an empty one.
 #[derive(Debug, Drop)]
 pub struct Txns {
     buffer: Vec<u8>,
@@ -47,7 +49,8 @@ pub struct Txns {
 impl Model for Txns {
     ghost use Rattle.std.specs.Prelude.{List};
     ghost use Rattle.keys.specs.Hash.{AreHashesOf};
-    ghost use Rattle.keys.specs.Ranks.{AreChosenInOrder, AreRanked};
+    ghost use Rattle.keys.specs.Ranks.{AreChosenInOrder};
+    ghost use Rattle.keys.specs.Singles.{AreRankedFor};
     ghost use Rattle.keyspace.specs.BatchRanges.{is_write_in, ranges_in};
     ghost use Rattle.keyspace.specs.Fields.{txns_with};
     ghost use Rattle.keyspace.specs.Tables.{txns_told};
@@ -60,7 +63,7 @@ impl Model for Txns {
 
     ghost invariant = { λ t.
         let txns = txns_with (txns_told t.buffer.items t.spans.items t.rows.items) t.tables.holds in
-        AreRanked (ranges_in txns) t.ranks
+        AreRankedFor (is_write_in txns) (ranges_in txns) t.ranks
         × AreChosenInOrder (is_write_in txns) (ranges_in txns) t.write_order.items
         × AreHashesOf (ranges_in txns) t.hashes.items };
 }
@@ -91,8 +94,13 @@ impl Txns {
     {
         let ranges = RangesRef::new(&buffer, &spans);
         let hashes = single_hashes(alloc, &ranges)?;
-        let (ranks, order) = Ranks::with_hashes(alloc, &ranges, &hashes)?;
-        let write_order = list_writes(alloc, order, &rows)?;
+        let written = mark_writes(alloc, &rows)?;
+        let (ranks, write_order) = if are_all_singles(&hashes) {
+            Ranks::of_singles(alloc, &ranges, &hashes, &written)?
+        } else {
+            let (ranks, order) = Ranks::with_hashes(alloc, &ranges, &hashes)?;
+            (ranks, list_writes(alloc, order, &written)?)
+        };
         Ok(Txns {
             buffer,
             spans,
@@ -178,7 +186,7 @@ impl Txns {
     /// Returns which of the gaps between the begins of the ranges each of these covers. The index
     /// of a range is that in [`Txns::ranges`].
     pub fn ranks(&self) -> &Ranks
-        ensures ranked { AreRanked (ranges_in self.now) result.now }
+        ensures ranked { AreRankedFor (is_write_in self.now) (ranges_in self.now) result.now }
     {
         &self.ranks
     }
@@ -190,4 +198,10 @@ impl Txns {
     {
         &self.write_order
     }
+}
+
+// Returns whether each of the ranges is a single key, and there is one. The hashes are none at all if
+// no range is.
+fn are_all_singles(hashes: &[Option<u32>]) -> bool {
+    !hashes.is_empty() && hashes.iter().all(|hash| hash.is_some())
 }
