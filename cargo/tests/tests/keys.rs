@@ -1,6 +1,7 @@
 //! The order of keys, their heads and hashes, and the ranks of ranges.
 
 use keys::{Key, RangeList, RangeRef, Ranks, common_prefix_len, head_behind, key_hash, key_head, same_bytes};
+use keyspace::Txns;
 use rattle_std::alloc::Global;
 use std::collections::BTreeSet;
 use tests::cases::{count, run};
@@ -163,8 +164,9 @@ fn hashes_of_numbers_spread() {
 }
 
 /// Single keys that are written are numbered among their begins and ends. One that is read has the run of an equal one that is
-/// written, or an empty one.
-fn assert_singles_are_ranked(ranges: &Ranges, ranks: &Ranks, is_write: &[bool]) {
+/// written, or an empty one. The order has each key that is written once, and equal ones in any order.
+fn assert_singles_are_ranked(ranges: &Ranges, txns: &Txns, is_write: &[bool]) {
+    let ranks = txns.ranks();
     let written = |index: &usize| is_write[*index];
     let keys: BTreeSet<_> =
         (0..ranges.len()).filter(written).flat_map(|index| [&ranges.0[index].begin, &ranges.0[index].end]).collect();
@@ -176,6 +178,11 @@ fn assert_singles_are_ranked(ranges: &Ranges, ranks: &Ranks, is_write: &[bool]) 
         let expected = (number(&range.begin), number(&range.end));
         assert!(if is_numbered { *run == expected } else { run.0 == run.1 }, "{index} {range:?} {run:?}");
     }
+    let order = txns.write_order();
+    assert!(order.windows(2).all(|pair| ranges.0[pair[0] as usize].begin <= ranges.0[pair[1] as usize].begin));
+    let mut indices: Vec<_> = order.iter().map(|index| *index as usize).collect();
+    indices.sort_unstable();
+    assert!(indices.into_iter().eq((0..ranges.len()).filter(written)));
 }
 
 /// A batch of single keys alone keeps numbers of those that it writes.
@@ -199,12 +206,7 @@ fn batches_of_single_keys_rank_what_they_write() {
             is_write.resize(all.len(), true);
         }
         let ranges = Ranges(all);
-        assert_singles_are_ranked(&ranges, txns.ranks(), &is_write);
-        let order = txns.write_order();
-        assert!(order.windows(2).all(|pair| ranges.0[pair[0] as usize].begin <= ranges.0[pair[1] as usize].begin));
-        let mut indices: Vec<_> = order.iter().map(|index| *index as usize).collect();
-        indices.sort_unstable();
-        assert!(indices.into_iter().eq((0..ranges.len()).filter(|index| is_write[*index])));
+        assert_singles_are_ranked(&ranges, &txns, &is_write);
         1 + ranges.len() as u64
     });
 }
@@ -231,10 +233,10 @@ fn batches_rank_and_hash_their_ranges() {
         let (ranks, order) = Ranks::with_order(Global, &ranges).expect("memory is ample");
         if ranges.len() == 0 || (0..ranges.len()).any(|index| !ranges.range(index).is_single()) {
             assert_eq!((txns.ranks().runs(), txns.ranks().begins()), (ranks.runs(), ranks.begins()));
+            assert!(order.iter().filter(|index| is_write[**index as usize]).eq(txns.write_order()));
         } else {
-            assert_singles_are_ranked(&ranges, txns.ranks(), &is_write);
+            assert_singles_are_ranked(&ranges, &txns, &is_write);
         }
-        assert!(order.iter().filter(|index| is_write[**index as usize]).eq(txns.write_order()));
         for index in 0..ranges.len() {
             let range = ranges.range(index);
             assert_eq!((txns.hash(index), txns.hashed_range(index).hash()), (range.single_hash(), range.single_hash()));
