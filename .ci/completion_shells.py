@@ -50,6 +50,8 @@ def environment(share: Path, home: Path, answers: str = "") -> dict[str, str]:
     """The environment of a shell that finds completions in this folder first."""
     shares = f"{share}:{os.environ.get('XDG_DATA_DIRS', '/usr/local/share:/usr/share')}"
     own = {"XDG_DATA_DIRS": shares, "HOME": str(home), "ANSWERS": answers}
+    # fish completes only commands that it finds.
+    own["PATH"] = f"{share.parent / 'bin'}:{os.environ['PATH']}"
     return {**os.environ, **own, "TERM": "xterm", "LC_ALL": "C.UTF-8"}
 
 
@@ -126,7 +128,7 @@ def zsh(share: Path, room: Path) -> Terminal:
 def fish(share: Path, room: Path, lines: list[str]) -> list[dict[str, str]]:
     """Returns the completions of each line, with their descriptions."""
     ran = subprocess.run(
-        ["fish", "--no-config", "--command", FISH],
+        ["fish", "--command", FISH],
         cwd=room / "files",
         env=environment(share, room),
         input="".join(line + "\n" for line in lines),

@@ -73,9 +73,9 @@ def place(program: Command, pattern: str) -> str:
     return f"--condition \"string match --quiet '{pattern}' (__{program.name}_place)\" "
 
 
-def is_of_files(command: Command) -> bool:
-    """Whether every argument of the command is a file, and there is one."""
-    return bool(command.arguments) and all(each.value.is_file for each in command.arguments)
+def takes_files(command: Command) -> bool:
+    """Whether the command takes any number of files, and nothing else."""
+    return [(each.value.is_file, each.is_repeated) for each in command.arguments] == [(True, True)]
 
 
 def lines(program: Command, command: Command, name: str) -> Iterator[str]:
@@ -83,7 +83,7 @@ def lines(program: Command, command: Command, name: str) -> Iterator[str]:
     within = place(program, f"{name} *") if program.commands else ""
     for each in command.options:
         yield within + option(each)
-    if is_of_files(command) or command.commands:
+    if takes_files(command) or command.commands:
         return
     yield within + "--no-files"
     for number, argument in enumerate(command.arguments):

@@ -63,11 +63,11 @@ def escaped(text: str) -> str:
     return re.sub(r"([\\:\[\]])", r"\\\1", text)
 
 
-def action(value: Value) -> str:
-    """The name of a value, and how it is completed. A space completes nothing."""
+def action(value: Value, nothing: str) -> str:
+    """The name of a value, and how it is completed."""
     if value.words:
-        return f"{escaped(value.name)}:({' '.join(value.words)})"
-    return f"{escaped(value.name)}:{'_files' if value.is_file else ' '}"
+        return f":{escaped(value.name)}:({' '.join(value.words)})"
+    return f":{escaped(value.name)}:{'_files' if value.is_file else nothing}"
 
 
 def option(each: Option) -> str:
@@ -81,7 +81,7 @@ def option(each: Option) -> str:
         before = f"({names})" if len(each.names) > 1 else ""
     if each.value:
         spelled = tuple(name + ("=" if name.startswith("--") else "+") for name in each.names)
-        after = ":" + action(each.value)
+        after = action(each.value, nothing=" ")
     else:
         spelled, after = each.names, ""
     if len(spelled) == 1:
@@ -90,7 +90,8 @@ def option(each: Option) -> str:
 
 
 def argument(each: Argument) -> str:
-    return quoted(("*:" if each.is_repeated else "::") + action(each.value))
+    """The specification of an argument. Beside a space, which shows a message, zsh inserts no option."""
+    return quoted(("*" if each.is_repeated else "") + action(each.value, nothing="{}"))
 
 
 def specifications(command: Command) -> list[str]:
