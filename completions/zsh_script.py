@@ -90,7 +90,7 @@ def option(each: Option) -> str:
 
 
 def argument(each: Argument) -> str:
-    """The specification of an argument. Beside a space, which shows a message, zsh inserts no option."""
+    """The specification of an argument. Beside the message of a space, zsh inserts no option."""
     return quoted(("*" if each.is_repeated else "") + action(each.value, nothing="{}"))
 
 
