@@ -38,7 +38,12 @@ zstyle ':completion:every:*' completer _all_matches _complete
 zstyle ':completion:every:*' insert yes
 zle -C every complete-word _generic
 bindkey '\eq' every
-record() { print -r -- "$BUFFER" > "$ANSWERS"; BUFFER=; }
+integer records
+record() {
+    print -r -- "$BUFFER" > "$ANSWERS"
+    BUFFER=
+    print -n "<record $((++records))>" > /dev/tty
+}
 zle -N record
 bindkey '^Xr' record
 print ready > "$ANSWERS"
@@ -64,7 +69,7 @@ class Terminal:
         # Open for writing too, so that it has no end between two answers.
         self.answers = os.open(path, os.O_RDWR)
         start.write_text(script)
-        self.shown = b""
+        self.shown, self.records = b"", 0
         self.child, self.terminal = pty.fork()
         if self.child == 0:
             os.chdir(room / "files")
@@ -73,29 +78,41 @@ class Terminal:
         fcntl.ioctl(self.terminal, termios.TIOCSWINSZ, struct.pack("HHHH", 200, 400, 0, 0))
         self.type(f". '{start}'\n")
 
+    def read(self, end: float) -> bytes:
+        """Reads what the terminal shows, and what the pipe has. Returns the latter."""
+        both = [self.terminal, self.answers]
+        ready = select.select(both, [], [], max(0.0, end - time.monotonic()))[0]
+        if not ready:
+            raise TimeoutError(f"the shell doesn't answer after {self.shown[-2000:]!r}")
+        if self.terminal in ready:
+            self.shown += os.read(self.terminal, 65536)
+        return os.read(self.answers, 65536) if self.answers in ready else b""
+
     def type(self, text: str) -> str:
         """Types a text, and returns the next line of the pipe."""
         os.write(self.terminal, text.encode())
+        self.records += text.count(RECORD)
         answer, end = b"", time.monotonic() + SECONDS
         while not answer.endswith(b"\n"):
-            both = [self.terminal, self.answers]
-            ready = select.select(both, [], [], max(0.0, end - time.monotonic()))[0]
-            if not ready:
-                raise TimeoutError(f"no answer to {text!r} after {self.shown[-2000:]!r}")
-            if self.terminal in ready:
-                self.shown += os.read(self.terminal, 65536)
-            if self.answers in ready:
-                answer += os.read(self.answers, 65536)
+            answer += self.read(end)
         return answer.decode().rstrip("\n")
+
+    def show(self) -> None:
+        """Reads what zsh has shown up to the last record, which may come after its answer."""
+        end = time.monotonic() + SECONDS
+        while f"<record {self.records}>".encode() not in self.shown:
+            self.read(end)
 
     def after_tab(self, line: str) -> str:
         """Returns what the line is after the key Tab."""
         return self.type(line + TAB + RECORD)
 
     def listed(self, line: str) -> str:
-        """Returns what the terminal shows when completions of the line are listed."""
+        """Returns what zsh shows when completions of the line are listed."""
+        self.show()
         self.shown = b""
         self.type(line + LIST + RECORD)
+        self.show()
         return self.shown.decode()
 
     def completions(self, line: str) -> set[str]:
