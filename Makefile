@@ -1,6 +1,6 @@
 .PHONY: quick demo rust rust-packages rust-crate-test rust-doc rust-package library-unproved quick-test rust-test \
 	rust-test-long replay batches check test more-edits \
-	refused-memory json-examples stalled-pipes readme-runs manual-page program-runs library install uninstall library-test \
+	refused-memory json-examples stalled-pipes live-pipes readme-runs manual-page program-runs library install uninstall library-test \
 	languages-test store-test cluster-test fuzz rust-plant plant bench profile profile-explain
 
 # The Cargo edition: the same sources, clauses erased, built by rustc. It needs Rust 1.85, cc, make and python3, and no network.
@@ -137,6 +137,10 @@ refused-memory:
 # Behind `make replay`: deals a chain of batches to pipes of which some stall, and compares what the program prints.
 stalled-pipes:
 	.ci/stalled-pipes
+
+# Behind `make replay`: runs `replay --stream` over pipes, and looks at what comes while they are open.
+live-pipes:
+	.ci/live-pipes
 
 # After `make test`, runs the commands of the documents that call a built program, and compares what they print. After `make quick`,
 # EDITION=cargo runs those of the Cargo edition.

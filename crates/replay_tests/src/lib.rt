@@ -43,6 +43,8 @@ mod options;
 #[cfg(test)]
 mod proxies;
 #[cfg(test)]
+mod records;
+#[cfg(test)]
 mod report;
 #[cfg(test)]
 mod reports;

@@ -104,6 +104,8 @@ impl Shelf {
 impl Files for Shelf {
     type Reader = StdSource<Recorded>;
 
+    type Writer = StdSink<Vec<u8>>;
+
     ghost contents = { λ _ _. None };
 
     ghost has_opened = { λ _ _. ⊤ };
@@ -112,12 +114,22 @@ impl Files for Shelf {
 
     ghost lacks_memory = { λ _ _. ⊤ };
 
+    ghost begun = { λ _ _. None };
+
+    ghost has_created = { λ _ _. ⊤ };
+
+    ghost cannot_create = { λ _ _. ⊤ };
+
     fn open(&self, name: &str) -> Result<StdSource<Recorded>, FileError> {
         let Some((_, bytes)) = self.files.iter().find(|(known, _)| *known == name) else {
             return Err(FileError::CannotOpen);
         };
         let bytes = bytes.clone().map_err(|_| FileError::Memory)?;
         Ok(StdSource::new(Recorded(Cursor::new(bytes))))
+    }
+
+    fn create(&self, _name: &str) -> Result<StdSink<Vec<u8>>, FileError> {
+        Ok(StdSink::new(Vec::new(self.alloc)))
     }
 }
 
@@ -164,5 +176,6 @@ pub fn shell_into<R: Threads + Wait + Copy + Send + 'static, W: AsBytes, O: Sink
     error: &mut E,
 ) -> Result<Status, Unmade> {
     let files = Shelf::new(alloc)?;
-    Ok(run_in(rt, alloc, &Words(words), &files, out, error))
+    let report = run_in(rt, alloc, &Words(words), &files, out, error);
+    Ok(report.status)
 }
