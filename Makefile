@@ -138,9 +138,10 @@ refused-memory:
 stalled-pipes:
 	.ci/stalled-pipes
 
-# Behind `make replay`: runs `replay --stream` over pipes, and looks at what comes while they are open.
+# After `make replay`, runs `replay --stream` over pipes and looks at what comes while they are open. Then runs the proxy of examples/pipes.
 live-pipes:
 	.ci/live-pipes
+	.ci/pipes-test crates/replay/out/replay
 
 # After `make test`, runs the commands of the documents that call a built program, and compares what they print. After `make quick`,
 # EDITION=cargo runs those of the Cargo edition.

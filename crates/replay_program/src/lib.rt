@@ -30,7 +30,8 @@ pub use replay_output::{
     StartError, Status, fail_to_start, print_answers, print_report, write_record,
 };
 pub use replay_workers::{
-    AlwaysOpen, Assignment, Finished, Gatekeeper, MostUnanswered, ShareKeeper, Unshared, work,
+    AlwaysOpen, Assignment, Finished, Gatekeeper, MostUnanswered, Recorder, ShareKeeper, Unshared,
+    work,
 };
 pub use report::RunReport;
 pub use stream::stream_over;

@@ -2,6 +2,7 @@
 
 use crate::answers::answer_of;
 use crate::failing::Failing;
+use crate::shelf::records;
 use replay_program::{AnswerError, write_record};
 use std::alloc::Global;
 use std::test::Fail;
@@ -61,6 +62,24 @@ fn record_fails_everywhere(rt: HostRuntime) -> Result<(), Fail> {
             room < 9,
             "after {room} bytes"
         );
+    }
+    Ok(())
+}
+
+// Each proxy's records are those of its own answers.
+#[test]
+fn records_of_each_proxy(rt: HostRuntime) -> Result<(), Fail> {
+    let words = [
+        "replay", "--stream", "--replies", "a", "--replies", "b", "first", "second",
+    ];
+    let given = records(&rt, rt.alloc(), &words)?;
+    assert_eq!(rt; given.len(), 2);
+    for (bytes, expected) in given.iter().zip([
+        "0100000000000000000000000b02000000000000000000000100000000000000640000000e0200000000000000640001020000",
+        "0100000000000000c80000000e0200000000000000c80001000000",
+    ]) {
+        let made = hex::encode(rt.alloc(), bytes)?;
+        assert_eq!(rt; made.as_str(), expected);
     }
     Ok(())
 }

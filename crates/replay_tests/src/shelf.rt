@@ -6,7 +6,7 @@ use crate::answers::replies_of;
 use crate::files::first_run;
 use crate::runs::{ended, file_of, opened};
 use crate::sharing;
-use replay_program::{FileError, Files, Status, run_in};
+use replay_program::{FileError, Files, Recorder, Status, run_in};
 use std::alloc::{AllocError, Global};
 use std::env::FillError;
 use std::io;
@@ -178,4 +178,23 @@ pub fn shell_into<R: Threads + Wait + Copy + Send + 'static, W: AsBytes, O: Sink
     let files = Shelf::new(alloc)?;
     let report = run_in(rt, alloc, &Words(words), &files, out, error);
     Ok(report.status)
+}
+
+/// Runs the program on these words, and returns what each writer of records was given.
+pub fn records<R: Threads + Wait + Copy + Send + 'static, W: AsBytes>(
+    rt: &R,
+    alloc: Global,
+    words: &[W],
+) -> Result<Vec<Vec<u8>>, Unmade> {
+    let files = Shelf::new(alloc)?;
+    let mut out = StdSink::new(Vec::new(alloc));
+    let mut error = StdSink::new(Vec::new(alloc));
+    let report = run_in(rt, alloc, &Words(words), &files, &mut out, &mut error);
+    let mut given = Vec::new(alloc);
+    for recorder in report.recorders {
+        if let Some(Recorder { out, .. }) = recorder {
+            given.push(out.into_inner()).map_err(AllocError::from)?;
+        }
+    }
+    Ok(given)
 }

@@ -3,7 +3,7 @@ use Rattle.std.specs.Prelude.{is_some, OnOk}
 use Rattle.std.proofs.lemmas.List.{length-map}
 use Rattle.replay_output.specs.Failures.{failure_lines}
 use Rattle.replay_output.specs.Unwritten.{unwritten_lines}
-use Rattle.replay_workers.specs.Sinks.{state_by}
+use Rattle.replay_workers.specs.Sinks.{SinkState, state_by}
 use Rattle.replay_workers.specs.Streaming.{IsStreamed, recorded_each}
 use Rattle.replay_program.specs.Replayed.{ending_of, written, Took}
 use Rattle.replay_program.specs.Streamed.{unwritten_each}
@@ -18,7 +18,7 @@ returns-in-Err g c = record {
   quiet = λ is. cc (c.fail_to_start.ensures.status, c.without_recorders.ensures.status, is);
   failed = λ is. inl (record {
     cause = c.in-Err.cause;
-    nothing_printed = ap (λ s. s.given) c.in-Err.ensures.nothing;
+    nothing_printed = ap (λ (s : SinkState). s.given) c.in-Err.ensures.nothing;
     told = c.fail_to_start.ensures.line;
   });
   ends = λ is. cc (c.fail_to_start.ensures.status, c.without_recorders.ensures.status, is);
