@@ -129,7 +129,7 @@ fn create_each<F: Files>(
     for (proxy, name) in names.iter().enumerate() {
         let writer = match files.create(name) {
             Ok(writer) => writer,
-            Err(error) => return Err(OpeningError::new(proxy, error)),
+            Err(cause) => return Err(OpeningError::new(proxy, cause)),
         };
         writers.push_reserved(writer);
     }
