@@ -1,5 +1,5 @@
 -- What was read, sent, answered and received of one proxy, put together.
-use Rattle.std.specs.Prelude.{◌≡◌, ℕ, ◌<◌, ◌≤◌, ◌⊎◌, ℤ, Bool, true, false, ◌&&◌, List, [], ◌∷◌, ◌++◌, length, Option, None, Some, option_to_list, Contains}
+use Rattle.std.specs.Prelude.{◌≡◌, ℕ, ◌<◌, ◌≤◌, ℤ, Bool, true, false, ◌&&◌, List, [], ◌∷◌, ◌++◌, length, Option, None, Some, option_to_list, Contains}
 use Rattle.std.proofs.Common.{refl, sym, ap, subst, ◌∙◌, append_assoc, append-nil, length-append, arith, inl, inr}
 use Rattle.std.proofs.lemmas.Bool.{false≢true}
 use Rattle.std.proofs.lemmas.List.Elements.{Contains-append_left}
@@ -38,7 +38,7 @@ none_worn requests None leaves closed few = refl
 none_worn requests (Some batch) leaves closed few = absurd (omega (arith, few, worn_lane requests batch leaves closed))
 
 -- if these are the first batches that were sent, with the one left over they aren't the same
-none_left : (batches held rest : List Batch) (unsent : Option Batch) → batches ≡ held ++ rest
+pub none_left : (batches held rest : List Batch) (unsent : Option Batch) → batches ≡ held ++ rest
     → batches ++ option_to_list unsent ≡ held → unsent ≡ None
 none_left batches held rest None is same = refl
 none_left batches held rest (Some batch) is same =
