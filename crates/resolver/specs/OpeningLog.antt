@@ -1,5 +1,5 @@
 -- How a core starts at a version: as if one batch had been processed that wrote every key at it. This project's own.
-use Rattle.std.specs.Prelude.{◌≡◌, ℕ, ◌<◌, ℤ, pos, negsuc, ◌≤ℤ◌, ◌<ℤ◌, false, List, [], ◌∷◌}
+use Rattle.std.specs.Prelude.{◌≡◌, ℕ, ◌<◌, ℤ, pos, negsuc, ◌≤ℤ◌, ◌<ℤ◌, false, List, [], ◌∷◌, ◌++◌}
 use Rattle.std.proofs.Common.{zero-le}
 use Rattle.std.proofs.Math.Dec.{lit≤, le→leb}
 use lib.Signed.{le_z_yes, lt_z_yes}
@@ -52,6 +52,11 @@ opening_batch version = record {
 abbrev pub opening_log : ℕ → ℤ → List Step
 opening_log proxies (pos version) = Take proxies (opening_batch version) ∷ []
 opening_log proxies (negsuc n) = []
+
+-- The log of a resolver for this number of proxies that started at the version and then took these steps. It begins as if
+-- one batch of no proxy had written every key at that version. From -1 on, these steps are all of it.
+abbrev pub log_from : ℤ → ℕ → List Step → List Step
+log_from version proxies steps = opening_log proxies version ++ steps
 
 -- The reference resolver after that log: it is at the version, knows nothing of what was written up to it, and holds no
 -- batch. No proxy has sent a batch or received an answer.

@@ -7,9 +7,9 @@ ghost use Rattle.lane.specs.Lane.{Lane};
 ghost use Rattle.resolver.specs.declared.client.Client.{Client};
 ghost use Rattle.resolver.specs.declared.turn.Account.{Account};
 ghost use Rattle.resolver.specs.Lanes.{Lanes};
-ghost use Rattle.resolver.specs.Resolver.{ResolverState, TakesOnlyFrom, StandsOver};
+ghost use Rattle.resolver.specs.Resolver.{ResolverState, TakesOnlyFrom, StandsOverFrom};
 ghost use Rattle.resolver.specs.Share.{HasMoreUnanswered, KeepsShare};
-ghost use Rattle.resolver.specs.Settled.{Settled};
+ghost use Rattle.resolver.specs.Settled.{SettledFrom};
 ghost use Rattle.resolver.specs.OpeningLog.{OpeningsStart};
 
 /// The logs of the headline hold no batch of a proxy without a client: of no other is a batch
@@ -17,11 +17,12 @@ ghost use Rattle.resolver.specs.OpeningLog.{OpeningsStart};
 pub fn no_other_proxy()
     ensures takes_only { (proxies : ℕ) (log : List Step) → TakesOnlyFrom proxies log
         ↔ ((proxy : ℕ) → proxies ≤ proxy → part log proxy ≡ []) }
-    ensures stands { (r : ResolverState) (log : List Step) → StandsOver r log
+    ensures stands { (version : ℤ) (r : ResolverState) (log : List Step)
+        → StandsOverFrom version r log
         → (proxy : ℕ) → length r.lanes ≤ proxy → part log proxy ≡ [] }
-    ensures settled { (window : ℤ) (log : List Step) (lanes : List Lanes) (clients : List Client)
-        (account : Account)
-        → Settled window log lanes clients account
+    ensures settled { (version window : ℤ) (log : List Step) (lanes : List Lanes)
+        (clients : List Client) (account : Account)
+        → SettledFrom version window log lanes clients account
         → (proxy : ℕ) → length clients ≤ proxy → part log proxy ≡ [] }
 {}
 
