@@ -14,6 +14,7 @@ pub mod Handed
 pub mod NewCore
 pub mod OpenedCore
 pub mod FromVersion
+pub mod ReadingFrom
 pub mod Logged
 pub mod OnlyFrom
 pub mod Resolving

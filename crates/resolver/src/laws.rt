@@ -1,8 +1,12 @@
 //! Laws about the definitions of the headline and of shares. Each is the contract of a function
 //! with an empty body.
 
-ghost use Rattle.std.specs.Prelude.{◌≡◌, ◌≤◌, ◌↔◌, ℕ, ℤ, List, [], Some, length, slice_get};
-ghost use Rattle.keyspace.specs.Run.{Step, part};
+ghost use Rattle.std.specs.Prelude.{◌≡◌, ◌≤◌, ◌<◌, ◌↔◌, ℕ, ℤ, List, [], Some, length, slice_get};
+ghost use Rattle.keyspace.specs.declared.txn.Txn.{Txn};
+ghost use Rattle.keyspace.specs.Processed.{Processed};
+ghost use Rattle.keyspace.specs.Run.{Step, part, run};
+ghost use Rattle.serial.specs.Commits.{IsCommitted};
+ghost use Rattle.serial.specs.Replies.{IsCommittedAt, ReportsCommitted};
 ghost use Rattle.lane.specs.Lane.{Lane};
 ghost use Rattle.resolver.specs.declared.client.Client.{Client};
 ghost use Rattle.resolver.specs.declared.turn.Account.{Account};
@@ -10,7 +14,7 @@ ghost use Rattle.resolver.specs.Lanes.{Lanes};
 ghost use Rattle.resolver.specs.Resolver.{ResolverState, TakesOnlyFrom, StandsOverFrom};
 ghost use Rattle.resolver.specs.Share.{HasMoreUnanswered, KeepsShare};
 ghost use Rattle.resolver.specs.Settled.{SettledFrom};
-ghost use Rattle.resolver.specs.OpeningLog.{OpeningsStart};
+ghost use Rattle.resolver.specs.OpeningLog.{OpeningsStart, ReadsFrom, log_from};
 
 /// The logs of the headline hold no batch of a proxy without a client: of no other is a batch
 /// taken, judged or answered.
@@ -39,3 +43,23 @@ pub fn within_share()
 pub fn openings()
     ensures start { OpeningsStart }
 {}
+
+/// A resolver that started at a version commits no transaction that reads below it, and reports
+/// none as committed: each of its proxies' transactions has a snapshot at or above the version, or
+/// reads empty ranges alone.
+pub fn none_reads_below()
+    ensures committed { (version window : ℤ) (proxies : ℕ) (log : List Step) (i j : ℕ)
+        (p : Processed) (t : Txn)
+        → IsCommitted (run window (log_from version proxies log)).processed i j p t
+        → p.proxy < proxies → ReadsFrom version t }
+    ensures reported { (version window : ℤ) (log : List Step) (lanes : List Lanes)
+        (clients : List Client) (account : Account)
+        → SettledFrom version window log lanes clients account
+        → (proxy : ℕ) (client : Client) → slice_get clients proxy ≡ Some client
+        → (at : ℤ) (j : ℕ) → ReportsCommitted client.replies.taken at j
+        → (is : IsCommittedAt (run window (log_from version (length clients) log)).processed proxy
+        at j) × ReadsFrom version is.txn }
+{
+    keyspace::laws::runs_are_chains();
+    conflict::laws::unknown_history();
+}
