@@ -44,9 +44,8 @@ pub fn openings()
     ensures start { OpeningsStart }
 {}
 
-/// A resolver that started at a version commits no transaction that reads below it, and reports
-/// none as committed: each of its proxies' transactions has a snapshot at or above the version, or
-/// reads empty ranges alone.
+/// A resolver that started at a version commits no transaction that reads below it. Each one that
+/// it reports as committed has a snapshot at or above the version, or only empty read ranges.
 pub fn none_reads_below()
     ensures committed { (version window : ℤ) (proxies : ℕ) (log : List Step) (i j : ℕ)
         (p : Processed) (t : Txn)
