@@ -183,7 +183,7 @@ served_for window log ended answers_sent account proxy c batches told settled re
 }
 
 -- a list of one has no other element
-only_one : {A : Type 0} (x : A) (i : ℕ) (y : A) → slice_get (x ∷ []) i ≡ Some y → y ≡ x
+pub only_one : {A : Type 0} (x : A) (i : ℕ) (y : A) → slice_get (x ∷ []) i ≡ Some y → y ≡ x
 only_one x zero y at = sym (same_Some x y at)
 only_one x (suc i) y at = absurd (none-some y at)
 
