@@ -36,7 +36,7 @@ pub reads_from : NoneCommittedBelow → (version window : ℤ) (log : List Step)
     → (answers : List Answer) → c.replies.taken ≡ answers
     → (at : ℤ) (j : ℕ) (t : Txn) → ReportsCommitted answers at j → slice_get batch.txns j ≡ Some t → ReadsFrom version t
 reads_from below version window log lanes clients account settled c c_at batch sent answers taken at j t reports t_at =
-    let among = subst (λ (as : List Answer). Contains as (answer.Reply reports.reply)) (sym taken) reports.is_received in
+    let among = subst (λ (told : List Answer). Contains told (answer.Reply reports.reply)) (sym taken) reports.is_received in
     let to = (settled.each 0 c c_at).learns.replies reports.reply among in
     let index = length (part to.was_sent.before to.entry.proxy) in
     let next = ap (λ (bs : List Batch). slice_get bs index) (sym sent) ∙ to.was_sent.next in

@@ -77,11 +77,7 @@ pub fn transfer_two(
 /// Serves a batch after a restart, by a resolver that starts at the store's version, and returns
 /// the answers that come in one turn. No transaction is reported as committed that reads below the
 /// version.
-pub fn serve_from(
-    alloc: Global,
-    version: i64,
-    batch: Batch,
-) -> Result<(Vec<Answer>, Account), Stop>
+pub fn serve_from(alloc: Global, version: i64, batch: Batch) -> Result<(Vec<Answer>, Account), Stop>
     requires least_version { negsuc 0 ≤ℤ version }
     ensures reads { IfOk result (λ served. (at : ℤ) (j : ℕ) (t : Txn)
         → ReportsCommitted served.0.items at j

@@ -12,5 +12,5 @@ returns-clause-reported c = λ version window log lanes clients account settled 
     let known = slice_get_within clients proxy client there in (
       is,
       returns-clause-committed c version window (length clients) log is.index j is.entry is.txn is.committed
-      (omega (arith, known, is.of_proxy)),
+          (omega (arith, known, is.of_proxy)),
     )
