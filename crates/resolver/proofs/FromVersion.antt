@@ -90,11 +90,17 @@ opening_answered window version proxies proxy =
     let none = ap (λ held. length (held_of proxy held)) (none_held window version proxies) in
     omega (arith, all, none)
 
+same_head : (x y : Step) (xs ys : List Step) → x ∷ xs ≡ y ∷ ys → x ≡ y
+same_head x y xs ys is = cc
+
+same_tail : (x y : Step) (xs ys : List Step) → x ∷ xs ≡ y ∷ ys → xs ≡ ys
+same_tail x y xs ys is = cc
+
 -- a step of a log is its first or one of the others
 first_or_later : (x : Step) (log before : List Step) (y : Step) (after : List Step) → x ∷ log ≡ before ++ y ∷ after
     → (x ≡ y) ⊎ ((others : List Step) × (log ≡ others ++ y ∷ after))
-first_or_later x log [] y after is = inl cc
-first_or_later x log (z ∷ before) y after is = inr (before, cc)
+first_or_later x log [] y after is = inl (same_head x y log after is)
+first_or_later x log (z ∷ before) y after is = inr (before, same_tail x z log (before ++ y ∷ after) is)
 
 taken_batch : (p q : ℕ) (b c : Batch) → Take p b ≡ Take q c → b ≡ c
 taken_batch p q b c is = cc
@@ -131,8 +137,9 @@ known_sender window proxies log chains tell only (pos n) index entry at later =
           let ps = (run window whole).processed in
           let some : 1 ≤ index = later in
           let same = taken_batch proxies entry.proxy (opening_batch n) entry.batch first in
-          let least = ap (λ (b : Batch). b.previous) same in
-          let follows = (chains window whole (take index ps) entry (drop (suc index) ps)
+          let least : negsuc 0 ≡ entry.batch.previous = ap (λ (b : Batch). b.previous) same in
+          let follows : entry.batch.previous ≡ version_of (take index ps) =
+          (chains window whole (take index ps) entry (drop (suc index) ps)
           (split_at ps index entry at)).previous in
           let natural = natural_before ps index entry at some in
           absurd (omega (arith, ints, least, follows, natural))
