@@ -156,23 +156,27 @@ fn a_resolver_takes_the_batch_after_its_first_version() {
         let answer = answer_to(&mut resolver, &mut clients[0], below);
         assert_eq!(answer, Answer::Never(version), "{previous}");
     }
-    let next = batch(1_000, 1_001, [read(900), read(999), read(1_000), Txn::at(0).read(("k", "k"))]);
+    let empty = Txn::at(0).read(("k", "k"));
+    let next = batch(1_000, 1_001, [read(900), read(999), read(1_000), empty]);
     let answer = answer_to(&mut resolver, &mut clients[1], next);
     let reply = answer.reply().expect("it was processed");
     use Verdict::{Committed, Conflict};
     assert_eq!(reply.version(), 1_001);
-    assert!(reply.verdicts().eq([Conflict, Conflict, Committed, Committed]));
+    let expected = [Conflict, Conflict, Committed, Committed];
+    assert!(reply.verdicts().eq(expected));
 
     assert_eq!(clients[0].try_send(batch(1_002, 1_003, [])), Ok(()));
     assert_eq!(resolver.turn(), Ok(Turn::Took(0)));
     assert_eq!(clients[0].try_receive(), Err(TryReceiveError::Empty));
     let answer = answer_to(&mut resolver, &mut clients[1], batch(1_001, 1_002, []));
     assert!(answer.reply().is_some());
-    assert!(clients[0].try_receive().is_ok_and(|answer| answer.reply().is_some()));
+    let held = clients[0].try_receive().expect("it was answered");
+    assert!(held.reply().is_some());
 
     clients.iter_mut().for_each(Client::close);
     assert_eq!(resolver.turn(), Ok(Turn::Done));
-    assert!(resolver.settle(&mut clients).is_ok_and(|account| account.complete));
+    let account = resolver.settle(&mut clients).expect("they are its clients");
+    assert!(account.complete);
 }
 
 #[test]
