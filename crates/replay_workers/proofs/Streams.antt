@@ -101,7 +101,7 @@ module _ {W : Type 0} (state_of : W → SinkState) where
       → first.waiting ≡ None → AreNewEnds first.records threads.answers
       → OutletGoesOn printed dropped (is_whole first.lost false) (is_whole old.lost has_failed) first old → HasPassedAll old
       → HasJoined remaining state_of old threads joined
-      → SettledFor window log ended answers_sent account proxy (client_of joined)
+      → SettledFor window [] log ended answers_sent account proxy (client_of joined)
       → ((version : ℤ) (j : ℕ) → ReportsCommitted (client_of joined).replies.taken version j
       → IsCommittedAt (run window log).processed proxy version j)
       → (all_sent ≡ true → SendsAll joined) → (account.stop ≡ None → account.complete ≡ true)

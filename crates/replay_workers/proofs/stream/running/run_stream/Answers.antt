@@ -3,7 +3,7 @@ use Rattle.std.proofs.lemmas.Int.{ints, to_z-of_z}
 use Rattle.std.proofs.lemmas.List.{length-map}
 use Rattle.std.proofs.lemmas.Simd.{map-map}
 use Rattle.std.proofs.lemmas.List.Elements.{All-same}
-use Rattle.std.specs.Prelude.{◌&&◌, Bool, true, false, is_some, map, Option, None, IfSome, slice_get}
+use Rattle.std.specs.Prelude.{negsuc, ◌&&◌, Bool, true, false, is_some, map, Option, None, IfSome, slice_get}
 use Rattle.std.specs.List.{AllZip}
 use Rattle.resolver.specs.declared.client.Client.{Client}
 use Rattle.resolver.specs.declared.stop.Stop.{Stop}
@@ -200,7 +200,7 @@ returns g c =
     let limit_is = c.turn_to_end.ensures.goes_on.limit ∙ c.in_ok-resolver.ensures.limit in
     let handed_back = c.as_mut_slice.ensures.value ∙ joined.2.clients in
     let windowed = subst (λ (window : ℤ). Settled window told.log resolver.lanes c.as_mut_slice.result.now account) window_is
-    (c.settle-account.ensures.settled told.log told.stands) in
+    (c.settle-account.ensures.settled (negsuc 0) told.log told.stands) in
     let settled = subst (λ (back : List Client). Settled c.args.options.window told.log resolver.lanes back account)
     handed_back windowed in
     let all_ended = clients_ended readers outs clients tasks same as_many given form has_failed before after ended fresh threads goes passed g.S.Source.remaining records joined.0 worked in

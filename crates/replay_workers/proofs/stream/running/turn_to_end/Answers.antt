@@ -1,3 +1,4 @@
+use Rattle.std.specs.Prelude.{negsuc}
 use Rattle.std.proofs.Common.{◌∙◌, rules}
 use Rattle.replay_workers.specs.Proxies.{outlets_of}
 use Rattle.replay_workers.specs.Sinks.{state_by}
@@ -11,7 +12,7 @@ loop-preserved-in-Ok-Took g c =
     let round = c.pass_each-ended.ensures in
     let state = state_by g.O.Sink.given g.O.Sink.failures in
     record {
-      resolving = λ first. c.turn.ensures.resolving (c.loop.invariant.resolving first);
+      resolving = λ first. c.turn.ensures.resolving (negsuc 0) (c.loop.invariant.resolving first);
       accounted = λ first.
           accounted_turn c.loop.resolver c.turn.new.self c.turn.ensures.goes_on c.turn.result c.turn.ensures.step
           c.turn.ensures.stop_met c.turn.ensures.stopped c.turn.ensures.stop c.turn.ensures.stop_stays c.turn.ensures.no_stop
@@ -32,7 +33,7 @@ loop-preserved-in-Ok-Idle g c =
     let round = c.pass_each-ended.ensures in
     let state = state_by g.O.Sink.given g.O.Sink.failures in
     record {
-      resolving = λ first. c.turn.ensures.resolving (c.loop.invariant.resolving first);
+      resolving = λ first. c.turn.ensures.resolving (negsuc 0) (c.loop.invariant.resolving first);
       accounted = λ first.
           accounted_turn c.loop.resolver c.turn.new.self c.turn.ensures.goes_on c.turn.result c.turn.ensures.step
           c.turn.ensures.stop_met c.turn.ensures.stopped c.turn.ensures.stop c.turn.ensures.stop_stays c.turn.ensures.no_stop
@@ -53,7 +54,7 @@ loop-preserved-in-Ok-Done g c =
     let round = c.pass_each-ended.ensures in
     let state = state_by g.O.Sink.given g.O.Sink.failures in
     record {
-      resolving = λ first. c.turn.ensures.resolving (c.loop.invariant.resolving first);
+      resolving = λ first. c.turn.ensures.resolving (negsuc 0) (c.loop.invariant.resolving first);
       accounted = λ first.
           accounted_turn c.loop.resolver c.turn.new.self c.turn.ensures.goes_on c.turn.result c.turn.ensures.step
           c.turn.ensures.stop_met c.turn.ensures.stopped c.turn.ensures.stop c.turn.ensures.stop_stays c.turn.ensures.no_stop
@@ -74,7 +75,7 @@ loop-preserved g c =
     let round = c.pass_each-ended.ensures in
     let state = state_by g.O.Sink.given g.O.Sink.failures in
     record {
-      resolving = λ first. c.turn.ensures.resolving (c.loop.invariant.resolving first);
+      resolving = λ first. c.turn.ensures.resolving (negsuc 0) (c.loop.invariant.resolving first);
       accounted = λ first.
           accounted_turn c.loop.resolver c.turn.new.self c.turn.ensures.goes_on c.turn.result c.turn.ensures.step
           c.turn.ensures.stop_met c.turn.ensures.stopped c.turn.ensures.stop c.turn.ensures.stop_stays c.turn.ensures.no_stop
