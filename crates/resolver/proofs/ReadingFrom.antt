@@ -69,6 +69,7 @@ none_below hits chains (pos n) window proxies log i j p t c known =
     none_after hits window proxies n begins.0
     (subst (IsChain window) begins.1 (chains window (log_from (pos n) proxies log))) i j p t
     (subst (λ (ps : List Processed). IsCommitted ps i j p t) begins.1 c) known
-none_below hits chains (negsuc n) window proxies log i j p t c known range among filled =
+none_below hits chains (negsuc n) window proxies log i j p t c known =
+    λ range among filled.
     let natural = t.natural in
     omega (arith, ints, natural)

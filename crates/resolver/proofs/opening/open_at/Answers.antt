@@ -1,6 +1,7 @@
-use Rattle.std.proofs.Common.{ℕ, ℤ, w64, to_z, of_z, [], sym, subst}
+use Rattle.std.proofs.Common.{ℕ, ℤ, w64, to_z, of_z, [], sym, ap, subst, ◌∙◌}
 use Rattle.std.specs.Prelude.{negsuc, ◌≤ℤ◌}
 use Rattle.std.proofs.lemmas.Int.{to_z-of_z}
+use Rattle.resolver.specs.Core.{CoreState}
 use Rattle.resolver.specs.Stands.{Stands}
 use Rattle.resolver.specs.OpeningLog.{opening_log}
 use Rattle.resolver.specs.Resolver.{StandsOverFrom}
@@ -21,5 +22,5 @@ returns-clause-resolving c = record { log = []; stands = returns-clause-stands c
 
 pub returns-clause-version : goal.returns-clause-version
 returns-clause-version c =
-    version_opened c.args.version c.new.result (returns-clause-stands c) (returns-clause-no_stop c)
-    c.requires.least_version
+    let none = ap (λ (core : CoreState). core.stop) c.new.ensures.core ∙ c.in_ok-core.ensures.open in
+    version_opened c.args.version c.new.result (returns-clause-stands c) none c.requires.least_version
