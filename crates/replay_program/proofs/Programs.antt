@@ -228,4 +228,3 @@ module _ (has_opened cannot_open : List ℕ → Type 0) (contents : List ℕ →
         ends_refused (string_bytes text) (mistaken text refl) (refused text refl).0 (refused text refl).1 (told text refl)
     ends_by refusal.Memory asks mistaken shown not_shown quiet refused told memory memory_told =
         ends_without_memory (memory refl).0 (memory refl).1 (memory_told refl)
-

@@ -58,7 +58,13 @@ returns g c =
     (g.E.Sink.failures c.args.error.now) (g.E.Sink.failures c.stream_over.new.error) in
     let are = c.in-Ok.ensures.contents in
     let opened : AreWriters state (g.F.Files.begun files) names records writers = record {
-      count = omega (arith, c.in-Ok-2.ensures.as_many, length-map c.args.line.now.files.items (λ name. name.now));
+      count = omega (
+        arith,
+        c.in-Ok-2.ensures.as_many,
+        c.in-Ok-2.records.ok.0,
+        c.args.line.now.files.ok.0,
+        length-map c.args.line.now.files.items (λ name. name.now),
+      );
       of_files = c.in-Ok-2.ensures.writers;
     } in
     let streamed = c.stream_over.ensures in
