@@ -1,5 +1,5 @@
 -- The writers of records, and the files that they are of.
-use Rattle.std.specs.Prelude.{◌≡◌, ◌⊎◌, ℕ, zero, suc, ◌+◌, ◌≤◌, List, [], ◌∷◌, ◌++◌, length, map, MatchOption, Option, Some, None, option_map, slice_get}
+use Rattle.std.specs.Prelude.{◌≡◌, ◌⊎◌, ℕ, zero, suc, ◌+◌, ◌≤◌, List, [], ◌∷◌, ◌++◌, length, map, MatchOption, Option, Some, None, Result, Ok, Err, option_map, slice_get}
 use Rattle.std.proofs.Common.{refl, sym, ap, subst, ◌∙◌, append_assoc, inl, inr, arith}
 use Rattle.std.proofs.lemmas.List.{length-map}
 use Rattle.std.proofs.lemmas.Option.{none-some, same_Some, slice_get-map}
@@ -16,6 +16,14 @@ abbrev pub padded : {X : Type 0} → ℕ → List X → List (Option X)
 padded zero xs = []
 padded (suc n) [] = None ∷ padded n []
 padded (suc n) (x ∷ xs) = Some x ∷ padded n xs
+
+error_or : {X E : Type 0} → E → Result X E → E
+error_or other (Ok x) = other
+error_or other (Err e) = e
+
+-- the error of a result
+pub same_error : {X E : Type 0} (r : Result X E) (e d : E) → r ≡ Err e → r ≡ Err d → e ≡ d
+same_error {X} {E} r e d is_e is_d = ap (λ (r : Result X E). error_or e r) (sym is_e ∙ is_d)
 
 empty : {X : Type 0} (xs : List X) → length xs ≡ 0 → xs ≡ []
 empty [] none = refl

@@ -1,18 +1,19 @@
-use Rattle.std.proofs.Common.{◌≡◌, ◌≤◌, ◌∙◌, ◌+◌, ◌-◌, ◌++◌, ℕ, suc, List, Option, Bor, ap, map, length, subst, sym, append-nil, arith, rules}
+use Rattle.std.proofs.Common.{◌≡◌, ◌≤◌, ◌∙◌, ◌+◌, ◌-◌, ◌++◌, ℕ, suc, List, Option, Bor, Err, ap, map, length, refl, subst, sym, append-nil, arith, rules}
 use Rattle.std.proofs.lemmas.Grind.{common_steps}
 use Rattle.std.proofs.lemmas.List.{length-map}
 use Rattle.std.specs.Prelude.{option_map, vec_len}
 use Rattle.std.specs.Vec.Iter.{into_iter_items, into_iter_len}
+use Rattle.replay_arguments.specs.declared.opening.OpeningError.TheVariants as opening
 use Rattle.replay_arguments.specs.Opening.{IsFirstRefused}
 use Rattle.replay_program.specs.Program.{HaveWriters}
-use Rattle.replay_program.proofs.Writers.{have_writers, padded, padded_next}
+use Rattle.replay_program.proofs.Writers.{have_writers, padded, padded_next, same_error}
 use Rattle.replay_program.proofs.program.records_of.Goals as goal
 
 pub returns-in-Err-clause-refused : goal.returns-in-Err-clause-refused
 returns-in-Err-clause-refused g c = λ proxy is.
     subst (λ (named : List (Bor (List ℕ))). IsFirstRefused (g.F.Files.has_created c.args.files.now)
     (g.F.Files.cannot_create c.args.files.now) (map (λ name. name.now) named) proxy)
-    c.deref.ensures.value (c.create_files.ensures.refused proxy (c.in-Err.is ∙ is))
+    c.deref.ensures.value (c.create_files.ensures.refused proxy (c.in-Err.is ∙ ap Err (same_error _ c.in-Err.cause (opening.CannotOpen proxy) refl is)))
 
 pub loop-preserved : goal.loop-preserved
 loop-preserved g c =

@@ -113,8 +113,15 @@ returns-in-Ok-2 g c =
       input = c.in-Ok.ensures.input;
       as_they_come = subst (HoldsStream (rows_of_words words)) on c.in-Ok.ensures.streamed;
       records_each = elim each [
-        | inl none ↦ inl (length-map line.records.items (λ name. name.now) ∙ none)
-        | inr same ↦ inr (length-map line.records.items (λ name. name.now) ∙ same ∙ sym (length-map line.files.items (λ name. name.now)))
+        | inl none ↦ inl (omega (arith, none, line.records.ok.0, length-map line.records.items (λ name. name.now)))
+        | inr same ↦ inr (omega (
+          arith,
+          same,
+          line.records.ok.0,
+          line.files.ok.0,
+          length-map line.records.items (λ name. name.now),
+          length-map line.files.items (λ name. name.now),
+        ))
       ];
       plain = not_kept line.options.form (λ is. no (c.is_kept.ensures.kept.1 is));
     })
