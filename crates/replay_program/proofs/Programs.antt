@@ -47,8 +47,8 @@ not_kept Json other = refl
 not_kept Kept other = absurd (other refl)
 
 pub not_streamed : (is_streamed : Bool) → (is_streamed ≡ true → ⊥) → is_streamed ≡ false
-not_streamed false no = refl
-not_streamed true no = absurd (no refl)
+not_streamed false other = refl
+not_streamed true other = absurd (other refl)
 
 module _ (has_opened cannot_open : List ℕ → Type 0) (contents : List ℕ → Option (List ℕ)) (out error : Written) where
   pub fails_on_files : (options : Options) (names : List (List ℕ)) (cause : OpeningError)
@@ -228,4 +228,3 @@ module _ (has_opened cannot_open : List ℕ → Type 0) (contents : List ℕ →
         ends_refused (string_bytes text) (mistaken text refl) (refused text refl).0 (refused text refl).1 (told text refl)
     ends_by refusal.Memory asks mistaken shown not_shown quiet refused told memory memory_told =
         ends_without_memory (memory refl).0 (memory refl).1 (memory_told refl)
-

@@ -1,5 +1,5 @@
 -- The writers of records, and the files that they are of.
-use Rattle.std.specs.Prelude.{◌≡◌, ◌⊎◌, ℕ, zero, suc, ◌≤◌, List, [], ◌∷◌, ◌++◌, length, map, MatchOption, Option, Some, None, option_map, slice_get}
+use Rattle.std.specs.Prelude.{◌≡◌, ◌⊎◌, ℕ, zero, suc, ◌+◌, ◌≤◌, List, [], ◌∷◌, ◌++◌, length, map, MatchOption, Option, Some, None, Result, Ok, Err, option_map, slice_get}
 use Rattle.std.proofs.Common.{refl, sym, ap, subst, ◌∙◌, append_assoc, inl, inr, arith}
 use Rattle.std.proofs.lemmas.List.{length-map}
 use Rattle.std.proofs.lemmas.Option.{none-some, same_Some, slice_get-map}
@@ -17,16 +17,29 @@ padded zero xs = []
 padded (suc n) [] = None ∷ padded n []
 padded (suc n) (x ∷ xs) = Some x ∷ padded n xs
 
--- the next place
-pub padded_next : {X : Type 0} (n : ℕ) (done : List (Option X)) (xs rest : List X) (next : Option X) (all : List (Option X))
-    → MatchOption next ((xs ≡ []) × (rest ≡ [])) (λ x. xs ≡ x ∷ rest) → done ++ padded (suc n) xs ≡ all
-    → (done ++ next ∷ []) ++ padded n rest ≡ all
-padded_next {X} n done xs rest None all steps before =
+error_or : {X E : Type 0} → E → Result X E → E
+error_or other (Ok x) = other
+error_or other (Err e) = e
+
+-- the error of a result
+pub same_error : {X E : Type 0} (r : Result X E) (e d : E) → r ≡ Err e → r ≡ Err d → e ≡ d
+same_error {X} {E} r e d is_e is_d = ap (λ (r : Result X E). error_or e r) (sym is_e ∙ is_d)
+
+empty : {X : Type 0} (xs : List X) → length xs ≡ 0 → xs ≡ []
+empty [] none = refl
+empty (x ∷ xs) none = absurd (omega (arith, none))
+
+-- the next place, where so many items were left, and so many are
+pub padded_next : {X : Type 0} (n : ℕ) (done : List (Option X)) (xs rest : List X) (count others : ℕ) (next : Option X)
+    (all : List (Option X)) → count ≡ length xs → others ≡ length rest
+    → MatchOption next ((count ≡ 0) × (others ≡ 0)) (λ x. (xs ≡ x ∷ rest) × (others + 1 ≡ count))
+    → done ++ padded (suc n) xs ≡ all → (done ++ next ∷ []) ++ padded n rest ≡ all
+padded_next {X} n done xs rest count others None all same same_rest steps before =
     append_assoc done (None ∷ []) (padded n rest)
-    ∙ ap (λ (l : List X). done ++ None ∷ padded n l) steps.1
-    ∙ ap (λ (l : List X). done ++ padded (suc n) l) (sym steps.0) ∙ before
-padded_next {X} n done xs rest (Some x) all steps before =
-    append_assoc done (Some x ∷ []) (padded n rest) ∙ ap (λ (l : List X). done ++ padded (suc n) l) (sym steps) ∙ before
+    ∙ ap (λ (l : List X). done ++ None ∷ padded n l) (empty rest (sym same_rest ∙ steps.1))
+    ∙ ap (λ (l : List X). done ++ padded (suc n) l) (sym (empty xs (sym same ∙ steps.0))) ∙ before
+padded_next {X} n done xs rest count others (Some x) all same same_rest steps before =
+    append_assoc done (Some x ∷ []) (padded n rest) ∙ ap (λ (l : List X). done ++ padded (suc n) l) (sym steps.0) ∙ before
 
 pub padded_at : {X : Type 0} (n : ℕ) (xs : List X) (place : ℕ) (x : X) → length xs ≤ n → slice_get xs place ≡ Some x
     → slice_get (padded n xs) place ≡ Some (Some x)

@@ -233,7 +233,6 @@ pub fn stream_files<R: Threads + Wait + Copy + Send + 'static, F: Files, O: Sink
 }
 
 // Opens the files for records, and returns the writer of each proxy, if there is one.
-#[tactic(auto, using(crate::proofs::Writers::padded_next, crate::proofs::Writers::have_writers))]
 fn records_of<F: Files>(
     alloc: Global,
     files: &F,
@@ -248,7 +247,10 @@ fn records_of<F: Files>(
         → IsFirstRefused (F.has_created files.now) (F.cannot_create files.now)
         (map (λ name. name.now) line.now.records.items) proxy }
 {
-    let mut writers = create_files(alloc, files, &line.records)?.into_iter();
+    let mut writers = match create_files(alloc, files, &line.records) {
+        Ok(writers) => writers.into_iter(),
+        Err(cause) => return Err(cause),
+    };
     let mut records = Vec::with_capacity(alloc, line.files.len()).map_err(
         |_| OpeningError::Memory,
     )?;

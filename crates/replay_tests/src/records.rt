@@ -70,7 +70,14 @@ fn record_fails_everywhere(rt: HostRuntime) -> Result<(), Fail> {
 #[test]
 fn records_of_each_proxy(rt: HostRuntime) -> Result<(), Fail> {
     let words = [
-        "replay", "--stream", "--replies", "a", "--replies", "b", "first", "second",
+        "replay",
+        "--stream",
+        "--replies",
+        "a",
+        "--replies",
+        "b",
+        "first",
+        "second",
     ];
     let given = records(&rt, rt.alloc(), &words)?;
     assert_eq!(rt; given.len(), 2);

@@ -1,5 +1,5 @@
-use Rattle.std.proofs.Common.{◌≡◌, ◌∙◌, List, ℕ, Err, ap, inl, inr, map, subst, sym, arith}
-use Rattle.std.specs.Prelude.{◌⊎◌, string_bytes, vec_len, IsTrue}
+use Rattle.std.proofs.Common.{◌≡◌, ◌∙◌, List, ℕ, Err, ap, inl, inr, map, subst, sym, arith, rules}
+use Rattle.std.specs.Prelude.{◌⊎◌, true, false, string_bytes, vec_len, IsTrue}
 use Rattle.stepmap.proofs.callers.Booleans.{is_false}
 use Rattle.std.proofs.lemmas.List.{length-map}
 use Rattle.replay_arguments.specs.Words.{HoldsStream, rows_of_words}
@@ -13,7 +13,7 @@ pub returns-in-Err : goal.returns-in-Err
 returns-in-Err g c =
     let files = c.args.files.now in
     let state = state_by g.F.Writer.Sink.given g.F.Writer.Sink.failures in
-    let recorders = c.without_recorders.result.recorders.items in
+    let recorders = c.without_recorders-in-Err.result.recorders.items in
     let words : List (List ℕ) = map string_bytes c.args.words.now in
     let out = written (g.O.Sink.given c.args.out.now) (g.O.Sink.given c.end.new.out)
     (g.O.Sink.failures c.args.out.now) (g.O.Sink.failures c.end.new.out) in
@@ -25,7 +25,7 @@ returns-in-Err g c =
     end.shown end.not_shown end.quiet end.refused end.told end.memory end.memory_told in
     let ends = subst (λ (s : Status). Ends (g.F.Files.has_opened files) (g.F.Files.cannot_open files) (g.F.Files.contents files) out error
     state (g.F.Files.has_created files) (g.F.Files.cannot_create files) (g.F.Files.begun files) recorders words s)
-    (sym c.without_recorders.ensures.status) ends_by_status in
+    (sym c.without_recorders-in-Err.ensures.status) ends_by_status in
     record {
       done = ends.done;
       quiet = ends.quiet;
@@ -92,7 +92,7 @@ returns-in-Ok-2 g c =
     let line = c.in-Ok.line in
     let names : List (List ℕ) = map (λ name. name.now) line.files.items in
     let records : List (List ℕ) = map (λ name. name.now) line.records.items in
-    let on = c.if-is_streamed.true in
+    let on : line.is_streamed ≡ true = search rules in
     let each : (vec_len line.records ≡ 0) ⊎ (vec_len line.records ≡ vec_len line.files) =
     elim c.in-Ok.ensures.records_each [ inl none ↦ inl none | inr some ↦ inr some.1 ] in
     let out = written (g.O.Sink.given c.args.out.now) (g.O.Sink.given c.stream_files.new.out)
@@ -113,8 +113,15 @@ returns-in-Ok-2 g c =
       input = c.in-Ok.ensures.input;
       as_they_come = subst (HoldsStream (rows_of_words words)) on c.in-Ok.ensures.streamed;
       records_each = elim each [
-        | inl none ↦ inl (length-map line.records.items (λ name. name.now) ∙ none)
-        | inr same ↦ inr (length-map line.records.items (λ name. name.now) ∙ same ∙ sym (length-map line.files.items (λ name. name.now)))
+        | inl none ↦ inl (omega (arith, none, line.records.ok.0, length-map line.records.items (λ name. name.now)))
+        | inr same ↦ inr (omega (
+          arith,
+          same,
+          line.records.ok.0,
+          line.files.ok.0,
+          length-map line.records.items (λ name. name.now),
+          length-map line.files.items (λ name. name.now),
+        ))
       ];
       plain = not_kept line.options.form (λ is. no (c.is_kept.ensures.kept.1 is));
     })
@@ -134,7 +141,7 @@ pub returns-in-Ok-3 : goal.returns-in-Ok-3
 returns-in-Ok-3 g c =
     let files = c.args.files.now in
     let state = state_by g.F.Writer.Sink.given g.F.Writer.Sink.failures in
-    let recorders = c.without_recorders.result.recorders.items in
+    let recorders = c.without_recorders-in-Ok-3.result.recorders.items in
     let words : List (List ℕ) = map string_bytes c.args.words.now in
     let line = c.in-Ok.line in
     let names : List (List ℕ) = map (λ name. name.now) line.files.items in
@@ -143,6 +150,7 @@ returns-in-Ok-3 g c =
     let error = written (g.E.Sink.given c.args.error.now) (g.E.Sink.given c.replay_files.new.error)
     (g.E.Sink.failures c.args.error.now) (g.E.Sink.failures c.replay_files.new.error) in
     let replayed = c.replay_files.ensures in
+    let off : line.is_streamed ≡ false = search rules in
     let no : ¬ IsTrue c.is_kept.result = is_false c.is_kept.result c.if-is_kept.false in
     let ends_by_status = ends_replayed (g.F.Files.has_opened files) (g.F.Files.cannot_open files) (g.F.Files.contents files) out error
     state (g.F.Files.has_created files) (g.F.Files.cannot_create files) (g.F.Files.begun files) recorders words c.replay_files.result line.options names
@@ -153,13 +161,13 @@ returns-in-Ok-3 g c =
       least = omega (arith, c.in-Ok.ensures.least, length-map line.files.items (λ name. name.now));
       most = omega (arith, c.in-Ok.ensures.most, length-map line.files.items (λ name. name.now));
       input = c.in-Ok.ensures.input;
-      at_the_end = subst (HoldsStream (rows_of_words words)) c.if-is_streamed.false c.in-Ok.ensures.streamed;
+      at_the_end = subst (HoldsStream (rows_of_words words)) off c.in-Ok.ensures.streamed;
       plain = not_kept line.options.form (λ is. no (c.is_kept.ensures.kept.1 is));
     })
     replayed.done replayed.quiet replayed.failed replayed.ends replayed.same in
     let ends = subst (λ (s : Status). Ends (g.F.Files.has_opened files) (g.F.Files.cannot_open files) (g.F.Files.contents files) out error
     state (g.F.Files.has_created files) (g.F.Files.cannot_create files) (g.F.Files.begun files) recorders words s)
-    (sym c.without_recorders.ensures.status) ends_by_status in
+    (sym c.without_recorders-in-Ok-3.ensures.status) ends_by_status in
     record {
       done = ends.done;
       quiet = ends.quiet;

@@ -50,7 +50,7 @@ returns g c =
     let unwritten = unwritten_each recorders in
     let failures = streamed.failures.items in
     let count : length recorders ≡ length files =
-    omega (arith, streamed.recorders_each, streamed.failures_each, run.failures_count) in
+    omega (arith, streamed.recorders_each, streamed.failures_each, run.failures_count, streamed.recorders.ok.0, streamed.failures.ok.0) in
     let out = written (g.O.Sink.given c.args.out.now) (g.O.Sink.given c.run_stream.new.out)
     (g.O.Sink.failures c.args.out.now) (g.O.Sink.failures c.run_stream.new.out) in
     let error = written (g.E.Sink.given c.args.error.now) (g.E.Sink.given c.print_all-told.new.error)
