@@ -1,6 +1,6 @@
 .PHONY: quick demo rust rust-packages rust-crate-test rust-doc rust-package library-unproved quick-test rust-test \
 	rust-test-long replay batches check test more-edits \
-	refused-memory json-examples stalled-pipes readme-runs manual-page program-runs library install uninstall library-test \
+	refused-memory json-examples stalled-pipes live-pipes readme-runs manual-page program-runs library install uninstall library-test \
 	languages-test store-test cluster-test fuzz rust-plant plant bench profile profile-explain
 
 # The Cargo edition: the same sources, clauses erased, built by rustc. It needs Rust 1.85, cc, make and python3, and no network.
@@ -156,6 +156,11 @@ refused-memory:
 # Behind `make replay`: deals a chain of batches to pipes of which some stall, and compares what the program prints.
 stalled-pipes:
 	.ci/stalled-pipes
+
+# After `make replay`, runs `replay --stream` over pipes and looks at what comes while they are open. Then runs the proxy of examples/pipes.
+live-pipes:
+	.ci/live-pipes
+	.ci/pipes-test crates/replay/out/replay
 
 # After `make test`, runs the commands of the documents that call a built program, and compares what they print. After `make quick`,
 # EDITION=cargo runs those of the Cargo edition.

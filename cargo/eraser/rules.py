@@ -22,7 +22,7 @@ REMOVED = (
     ("signature", r"fn fmt (< W : fmt :: Write >)"),
     ("signature", r"fn report (< R : Eprint >) \( self (, _rt : & R) \)"),
     ("signature", r"fn main \( (rt : HostRuntime) \)"),
-    ("signature", r"\bFile :: open \( ((?:self \. )?rt ,)"),
+    ("signature", r"\bFile :: (?:open|create) \( ((?:self \. )?rt ,)"),
 )
 
 # The tests of the gate, up to the brace that ends them.

@@ -13,6 +13,7 @@ BATCHES: dict[str, Parts] = {
     "second": ("100>200: R[a,b) @99",),
     "third": ("200>300",),
     "conflict": ("-1>0", "0>100: W[a,b)", "100>101: R[a,b) @99; R[a,b) @100"),
+    "one": ("-1>0",),
     "writes": ("-1>0", "0>100: W[a,b)", "100>200: W[c,d) @100"),
     "cut": ("-1>0", b"\0"),
     "late": (*(f"{version - 1}>{version}" for version in range(20, 36)), "-1>0"),
@@ -113,7 +114,52 @@ CHECKS = (
     ShellRow(("cut", "--check", "same"), "0 100 unexpected\nchecked 1 batches, 1 differences\n", SHORT, 1),
 )
 
-ROWS = ANSWERS + FAILURES + CHECKS
+# Answers as they come. The lines of different proxies may alternate in any way, so each row has one proxy with answers.
+STREAMS = (
+    ShellRow(("--stream", "first"), FIRST),
+    ShellRow(("writes", "--stream"), "0 0 empty\n0 100 committed\n0 200 committed\n"),
+    ShellRow(("--stream", "empty"), ""),
+    ShellRow(("--stream", "-"), FIRST, stdin="first"),
+    ShellRow(("--stream", "empty", "-"), "1 0 empty\n1 100 committed\n", stdin="first"),
+    ShellRow(
+        ("--stream", "--frames", "first"),
+        "0 0 0000000b0200000000000000000000\n0 100 0000000e0200000000000000640001020000\n",
+    ),
+    ShellRow(
+        ("--json", "--stream", "first"),
+        '{"proxy":0,"version":0,"verdicts":[]}\n{"proxy":0,"version":100,"verdicts":["committed"]}\n',
+    ),
+    ShellRow(("--capacity", "1", "--stream", "conflict"), "0 0 empty\n0 100 committed\n0 101 conflict committed\n"),
+    ShellRow(("--stream", "late", *63 * ("empty",)), "0 0 empty\n" + "".join(f"0 {version} held\n" for version in range(20, 36))),
+    ShellRow(("--stream", "third"), "0 300 held\n"),
+    ShellRow(("--stream", "writes", "--limit", "3"), FIRST, "replay: stop 3 ArenaFull\n", 1),
+    ShellRow(("--stream", "cut"), "0 0 empty\n", SHORT, 1),
+    ShellRow(("--stream", "none"), "", "replay: proxy 0: cannot open\n", 1),
+    ShellRow(("--stream", "."), "", "replay: proxy 0: wire 12 Read\n", 1),
+)
+
+# The records of the two answers of FIRST, and of one that is held.
+FIRST_RECORDS = "\1" + 8 * "\0" + "\0\0\0\x0b\2" + 10 * "\0" + "\1" + 7 * "\0" + "d" + "\0\0\0\x0e\2" + 7 * "\0" + "d\0\1\2\0\0"
+HELD_RECORD = "\3" + 6 * "\0" + "\1,"
+RECORDS = (
+    ShellRow(("--stream", "--replies", "/dev/stderr", "first"), FIRST, FIRST_RECORDS),
+    ShellRow(("--stream", "--replies", "/dev/stderr", "third"), "0 300 held\n", HELD_RECORD),
+    ShellRow(("--stream", "--json", "--replies=/dev/stderr", "--capacity=1", "third"), '{"proxy":0,"version":300,"answer":"held"}\n', HELD_RECORD),
+    ShellRow(("--stream", "empty", "third", "--replies", "out", "--replies", "/dev/stderr"), "1 300 held\n", HELD_RECORD),
+    ShellRow(("--stream", "--replies", "out", "first"), FIRST),
+    ShellRow(("--stream", "--replies", "/dev/full", "one"), "0 0 empty\n", "replay: replies 0: wire 15 Write\n", 1),
+    ShellRow(
+        ("--stream", "empty", "one", "--replies", "/dev/full", "--replies", "/dev/full"),
+        "1 0 empty\n",
+        "replay: replies 1: wire 15 Write\n",
+        1,
+    ),
+    ShellRow(("--stream", "--replies", "no/such/out", "first"), "", "replay: replies 0: cannot open\n", 1),
+    ShellRow(("--stream", "first", "second", "--replies", "out", "--replies", "."), "", "replay: replies 1: cannot open\n", 1),
+    ShellRow(("--stream", "none", "--replies", "."), "", "replay: proxy 0: cannot open\n", 1),
+)
+
+ROWS = ANSWERS + FAILURES + CHECKS + STREAMS + RECORDS
 
 # Refused with status 2 and a text of `clap` on standard error. Nothing is on standard output.
 REFUSED: tuple[tuple[str | bytes, ...], ...] = (
@@ -151,6 +197,15 @@ REFUSED: tuple[tuple[str | bytes, ...], ...] = (
     ("-", "-"),
     ("first", "-", "second", "-"),
     ("--check", "-", "-"),
+    ("--stream", "--check", "same", "first"),
+    ("--replies", "out", "first"),
+    ("--check", "same", "--replies", "out", "first"),
+    ("--stream", "--replies", "out", "first", "second"),
+    ("--stream", "--replies", "out", "--replies", "out", "first"),
+    ("--stream", "--replies"),
+    ("--stream", "--stream", "first"),
+    ("--stream", "--json", "--frames", "first"),
+    ("--stream", "-", "-"),
     ("--", "-", "-"),
     (b"\xff",),
     ("first", b"sec\xc3ond"),

@@ -11,7 +11,7 @@
 //! |---|---|
 //! | [`ConflictSet`] | you have one chain of versions, and give each batch once, in order |
 //! | [`Core`] | you have many proxies in one thread, whose batches come early, late or twice |
-//! | [`open`], [`Resolver`], [`Client`] | you have many proxies, each in a thread |
+//! | [`open`], [`open_at`], [`Resolver`], [`Client`] | you have many proxies, each in a thread |
 //! | [`SplitPoints`], [`combine`] | you have several resolvers, each for a range of keys |
 //! | [`History`] | you want to know which write a transaction conflicts with |
 //!
@@ -19,7 +19,7 @@
 //! for each transaction. The proxies of a core or a resolver receive it in an [`Answer`].
 //!
 //! If an allocation fails, a call returns an error. As in Rust's own collections, some calls end
-//! the process instead: adding a range to a [`Txn`], cloning, and [`open`].
+//! the process instead: adding a range to a [`Txn`], cloning, [`open`] and [`open_at`].
 //!
 //! # Judge a batch
 //!
@@ -135,7 +135,7 @@ pub use history::{Explanation, History, PushError, Write};
 pub use range::{Range, RangeError};
 pub use reply::{Answer, Reply, Verdict};
 pub use resolver_core::{Core, CoreError};
-pub use service::{Account, Resolver, SettleError, Turn, open};
+pub use service::{Account, Resolver, SettleError, Turn, open, open_at};
 pub use split_points::{BalanceError, Clip, ClipError, ReadIndices, SplitPoints, SplitPointsError};
 pub use stop::{NewError, Stop};
 pub use txn::Txn;

@@ -7,12 +7,15 @@
 // | `resolver::open` | `least_proxies`, `most_proxies` | `check_proxies`: `NewError::Proxies` |
 // | | `least_capacity`, `most_capacity` | `check_capacity`: `NewError::Capacity` |
 // | | `least_window`, `most_window`, `least_limit`, `most_limit` | `check_set`: `NewError::Window`, `NewError::Limit` |
+// | `resolver::open_at` | the same, and `least_version` | the same, and `check_version`: `NewError::Version` |
 // | `resolver::Resolver::settle` | `clients`: all clients of the resolver, each at its number | `check_clients`: `SettleError::Count`, `SettleError::Client` |
 // | `resolver::share` | `some`: at least one proxy | `open` has checked it |
 // | `resolver::Resolver::turn`, `owed`, `sent` | none | |
 
 use crate::client::{Client, Link};
-use crate::stop::{NewError, Stop, check_capacity, check_proxies, check_set, stop_of};
+use crate::stop::{
+    NewError, Stop, check_capacity, check_proxies, check_set, check_version, stop_of,
+};
 use crate::waiting::Waiting;
 use rattle_std::alloc::Global;
 use std::error::Error;
@@ -36,12 +39,58 @@ pub fn open(
     check_set(window, limit)?;
     let opened = resolver::open(Global, proxies, capacity, window, limit);
     let (resolver, ends) = opened.map_err(|_| NewError::Memory)?;
+    Ok(linked(resolver, ends))
+}
+
+/// Opens a resolver that starts at a version, from -1 on, and its clients, as [`open`] does. It is
+/// for a store that has been written before.
+///
+/// The first batch follows that version. A batch with a lower previous version is answered with
+/// [`Answer::Never`](crate::Answer::Never), and one with a higher one is held. What was written up
+/// to the version is not known, as in [`ConflictSet::new_at`](crate::ConflictSet::new_at).
+///
+/// ```
+/// use archcaraway::{BatchBuilder, MAX_LIMIT, Txn, Verdict, WINDOW, open_at};
+///
+/// let (mut resolver, mut clients) = open_at(1, 16, WINDOW, MAX_LIMIT, 1_000)?;
+/// let batch = BatchBuilder::new(1_000, 1_001)
+///     .txn(Txn::at(900).read_key("k"))
+///     .txn(Txn::at(1_000).read_key("k"))
+///     .build()?;
+/// clients[0].try_send(batch)?;
+/// resolver.turn()?;
+/// let answer = clients[0].try_receive()?;
+/// let reply = answer.reply().expect("it follows the version");
+/// assert!(reply.verdicts().eq([Verdict::Conflict, Verdict::Committed]));
+/// # Ok::<(), Box<dyn std::error::Error>>(())
+/// ```
+pub fn open_at(
+    proxies: usize,
+    capacity: usize,
+    window: i64,
+    limit: usize,
+    version: i64,
+) -> Result<(Resolver, Vec<Client>), NewError> {
+    check_proxies(proxies)?;
+    check_capacity(capacity)?;
+    check_set(window, limit)?;
+    check_version(version)?;
+    match resolver::open_at(Global, proxies, capacity, window, limit, version) {
+        Ok((resolver, ends)) => Ok(linked(resolver, ends)),
+        Err(resolver::Stop::ArenaFull) => Err(NewError::LimitAtVersion(limit)),
+        Err(_) => Err(NewError::Memory),
+    }
+}
+
+// Links the resolver with its clients, each of which has the ends at its number.
+fn linked(resolver: resolver::Resolver, ends: Vec<resolver::Client>) -> (Resolver, Vec<Client>) {
+    let proxies = ends.len();
     let link = Arc::new(Link::new(proxies));
     let clients = ends.into_iter().enumerate();
     let clients = clients.map(|(proxy, ends)| Client::new(proxy, ends, Arc::clone(&link)));
     let clients = clients.collect();
     let ends = Vec::with_capacity(proxies);
-    Ok((
+    (
         Resolver {
             resolver,
             proxies,
@@ -49,10 +98,10 @@ pub fn open(
             ends,
         },
         clients,
-    ))
+    )
 }
 
-/// A resolver for many proxies, each of which has a [`Client`]. [`open`] makes it.
+/// A resolver for many proxies, each of which has a [`Client`]. [`open`] and [`open_at`] make it.
 ///
 /// One thread turns it, by [`run`](Resolver::run) or by [`turn`](Resolver::turn). A resolver that
 /// is dropped disconnects its clients.

@@ -1,7 +1,8 @@
-//! Sets and cores that start at a version: what they know of the history before it.
+//! Sets, cores and resolvers that start at a version: what they know of the history before it.
 
 use archcaraway::{
-    Answer, Batch, BatchBuilder, ConflictSet, Core, MAX_LIMIT, NewError, Txn, Verdict, WINDOW,
+    Answer, Batch, BatchBuilder, Client, ConflictSet, Core, MAX_LIMIT, NewError, Resolver,
+    TryReceiveError, Turn, Txn, Verdict, WINDOW, open, open_at,
 };
 
 const START: i64 = 1_000_000_000;
@@ -97,6 +98,8 @@ fn numbers_of_a_start() {
     ] {
         let core = Core::new_at(proxies, window, limit, version).map(|_| ());
         assert_eq!(core, expected, "{window} {limit} {version}");
+        let resolver = open_at(proxies, 1, window, limit, version).map(|_| ());
+        assert_eq!(resolver, expected, "{window} {limit} {version}");
         if proxies == 1 {
             let set = ConflictSet::new_at(window, limit, version).map(|_| ());
             assert_eq!(set, expected, "{window} {limit} {version}");
@@ -135,6 +138,56 @@ fn a_core_takes_the_batch_after_its_first_version() {
     assert!(first.verdicts().eq([Verdict::Conflict, Verdict::Committed]));
     assert!(given(&mut core, 1).is_some_and(|answer| answer.reply().is_some()));
     assert_eq!((core.owed(), core.next()), (0, None));
+}
+
+fn answer_to(resolver: &mut Resolver, client: &mut Client, batch: Batch) -> Answer {
+    assert_eq!(client.try_send(batch), Ok(()));
+    assert_eq!(resolver.turn(), Ok(Turn::Took(client.proxy())));
+    client.try_receive().expect("it was answered")
+}
+
+#[test]
+fn a_resolver_takes_the_batch_after_its_first_version() {
+    let (mut resolver, mut clients) =
+        open_at(2, 4, WINDOW, MAX_LIMIT, 1_000).expect("the numbers are right");
+    let read = |snapshot| Txn::at(snapshot).read_key("k");
+    for (previous, version) in [(-1, 1_000), (-1, 2_000), (999, 1_001)] {
+        let below = batch(previous, version, [read(1_000)]);
+        let answer = answer_to(&mut resolver, &mut clients[0], below);
+        assert_eq!(answer, Answer::Never(version), "{previous}");
+    }
+    let empty = Txn::at(0).read(("k", "k"));
+    let next = batch(1_000, 1_001, [read(900), read(999), read(1_000), empty]);
+    let answer = answer_to(&mut resolver, &mut clients[1], next);
+    let reply = answer.reply().expect("it was processed");
+    use Verdict::{Committed, Conflict};
+    assert_eq!(reply.version(), 1_001);
+    let expected = [Conflict, Conflict, Committed, Committed];
+    assert!(reply.verdicts().eq(expected));
+
+    assert_eq!(clients[0].try_send(batch(1_002, 1_003, [])), Ok(()));
+    assert_eq!(resolver.turn(), Ok(Turn::Took(0)));
+    assert_eq!(clients[0].try_receive(), Err(TryReceiveError::Empty));
+    let answer = answer_to(&mut resolver, &mut clients[1], batch(1_001, 1_002, []));
+    assert!(answer.reply().is_some());
+    let held = clients[0].try_receive().expect("it was answered");
+    assert!(held.reply().is_some());
+
+    clients.iter_mut().for_each(Client::close);
+    assert_eq!(resolver.turn(), Ok(Turn::Done));
+    let account = resolver.settle(&mut clients).expect("they are its clients");
+    assert!(account.complete);
+}
+
+#[test]
+fn minus_one_is_the_start_of_a_new_resolver() {
+    for opened in [open(1, 1, WINDOW, 3), open_at(1, 1, WINDOW, 3, -1)] {
+        let (mut resolver, mut clients) = opened.expect("the numbers are right");
+        let first = batch(-1, 0, [Txn::at(0).read_key("k")]);
+        let answer = answer_to(&mut resolver, &mut clients[0], first);
+        let reply = answer.reply().expect("it was processed");
+        assert_eq!(reply.verdict(0), Some(Verdict::Committed));
+    }
 }
 
 /// What a set that started at a version commits, one that knows the history commits too.

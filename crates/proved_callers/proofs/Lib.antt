@@ -1,2 +1,3 @@
 pub mod TwoProxies
 pub mod Transferring
+pub mod OneProxy

@@ -166,7 +166,7 @@ serving_opened window r clients capacity resolving window_is same count new = re
 
 -- what was settled for a client, of its batches and answers
 served_for : (window : ℤ) (log : List Step) (ended : Bool) (answers_sent : List Answer) (account : Account) (proxy : ℕ) (c : Client)
-    (batches : List Batch) (told : List Answer) → SettledFor window log ended answers_sent account proxy c
+    (batches : List Batch) (told : List Answer) → SettledFor window [] log ended answers_sent account proxy c
     → ((version : ℤ) (j : ℕ) → ReportsCommitted c.replies.taken version j
     → IsCommittedAt (run window log).processed proxy version j)
     → HasDone batches told c → ServedFor window log account.complete proxy batches told
@@ -183,7 +183,7 @@ served_for window log ended answers_sent account proxy c batches told settled re
 }
 
 -- a list of one has no other element
-only_one : {A : Type 0} (x : A) (i : ℕ) (y : A) → slice_get (x ∷ []) i ≡ Some y → y ≡ x
+pub only_one : {A : Type 0} (x : A) (i : ℕ) (y : A) → slice_get (x ∷ []) i ≡ Some y → y ≡ x
 only_one x zero y at = sym (same_Some x y at)
 only_one x (suc i) y at = absurd (none-some y at)
 
@@ -242,7 +242,7 @@ serving_settled window r clients first second served are settled = (
         → IsOneOf first second entry
     from_both index entry at =
         let Sends : Client → Type 0 = λ c. IsSent window log c.requests.sent index entry in
-        let c = value_of Sends (slice_get clients entry.proxy) (all.from_clients index entry at) in
+        let c = value_of Sends (slice_get clients entry.proxy) (all.from_clients index entry at (omega arith)) in
         let inside = slice_get_within clients entry.proxy c.0 c.1 in
         let sent_many = are.sent_count in
         let taken_many = are.taken_count in

@@ -7,7 +7,7 @@ use std::fs::File;
 use std::io::{BufReader, Read};
 use std::rt::Stdin;
 use std::{fs, io};
-use wire::StdSource;
+use wire::{StdSink, StdSource};
 
 /// The files that the process can open, and its standard input. `std` tells neither which file it
 /// opened nor what a file holds, so no clause does.
@@ -49,6 +49,8 @@ impl<R: fs::Files<File = File> + AllocGlobal> Disk<'_, R> {
 impl<R: fs::Files<File = File> + AllocGlobal> Files for Disk<'_, R> {
     type Reader = StdSource<BufReader<Input>>;
 
+    type Writer = StdSink<File>;
+
     ghost contents = { λ _ _. None };
 
     ghost has_opened = { λ _ _. ⊤ };
@@ -57,9 +59,22 @@ impl<R: fs::Files<File = File> + AllocGlobal> Files for Disk<'_, R> {
 
     ghost lacks_memory = { λ _ _. ⊤ };
 
+    ghost begun = { λ _ _. None };
+
+    ghost has_created = { λ _ _. ⊤ };
+
+    ghost cannot_create = { λ _ _. ⊤ };
+
     fn open(&self, name: &str) -> Result<StdSource<BufReader<Input>>, FileError> {
         let input = self.input(name)?;
         let reader = BufReader::new(self.rt.alloc(), input).map_err(|_| FileError::Memory)?;
         Ok(StdSource::new(reader))
+    }
+
+    fn create(&self, name: &str) -> Result<StdSink<File>, FileError> {
+        match File::create(self.rt, name) {
+            Ok(file) => Ok(StdSink::new(file)),
+            Err(_) => Err(FileError::CannotOpen),
+        }
     }
 }

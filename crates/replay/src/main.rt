@@ -42,5 +42,6 @@ fn start<
         return fail_to_start(error, StartError::Memory);
     };
     let files = Disk { rt, input };
-    run_in(rt, rt.alloc(), rt, &files, &mut StdSink::new(out), error)
+    let report = run_in(rt, rt.alloc(), rt, &files, &mut StdSink::new(out), error);
+    report.status
 }

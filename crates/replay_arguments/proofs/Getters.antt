@@ -66,7 +66,7 @@ HoldsNumbers-of_parts rows (Some options) capacity window limit a b c e f g = re
   limit = g ∙ ap (λ (n : ℕ). Some n) (sym c);
 }
 
-bool_text_same : (a b : Bool) → bool_text a ≡ bool_text b → a ≡ b
+pub bool_text_same : (a b : Bool) → bool_text a ≡ bool_text b → a ≡ b
 bool_text_same true true e = refl
 bool_text_same false false e = refl
 bool_text_same true false e = absurd (omega (arith, ap length e))

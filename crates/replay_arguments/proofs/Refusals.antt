@@ -1,7 +1,8 @@
 -- Which refusal is made of which words.
-use Rattle.std.specs.Prelude.{◌≡◌, ◌⊎◌, ℕ, ◌<◌, true, List, Option, None, Some, IfSome, is_some, codes, length, map}
+use Rattle.std.specs.Prelude.{◌≡◌, ◌⊎◌, ℕ, ◌<◌, true, false, List, Option, None, Some, IfSome, is_some, codes, length, map}
 use Rattle.std.specs.Borrow.{Bor}
 use Rattle.std.proofs.Common.{refl, sym, ap, ◌∙◌, subst, inl, inr, arith}
+use Rattle.std.proofs.lemmas.Bool.{false≢true}
 use Rattle.std.proofs.lemmas.List.{length-map}
 use Rattle.clap.specs.Words.{IsAmong, Kinds, Row, all_of, is_simple_and_free}
 use Rattle.clap.specs.declared.error.kind.ErrorKind.{ErrorKind}
@@ -9,7 +10,23 @@ use Rattle.clap.specs.declared.error.kind.ErrorKind.TheVariants.{DisplayHelp, Di
 use Rattle.resolver.specs.declared.resolver_core.TheConstants.{MAX_PROXIES}
 use Rattle.replay_arguments.specs.declared.arguments.refusal.Refusal.{Refusal}
 use Rattle.replay_arguments.specs.declared.arguments.refusal.Refusal.TheVariants.{Memory, Refused, Shown}
-use Rattle.replay_arguments.specs.Words.{HasFiles, HasReplies, HasRepliesEach, IsRefusalBy, IsRefusalOf, IsRequest, replay_app}
+use Rattle.replay_arguments.specs.Words.{
+  HasFiles,
+  HasRecords,
+  HasRecordsEach,
+  HasReplies,
+  HasRepliesEach,
+  HasStream,
+  HoldsForm,
+  HoldsStream,
+  IsRefusalBy,
+  IsRefusalOf,
+  IsRequest,
+  is_kept,
+  replay_app,
+}
+use Rattle.replay_output.specs.declared.options.form.Form.{Form}
+use Rattle.replay_arguments.proofs.Getters.{bool_text_same}
 use Rattle.replay_arguments.proofs.Numbers.{Some-injective}
 
 pub replay_app-free : is_simple_and_free replay_app ≡ true
@@ -60,3 +77,27 @@ pub not_each : (rows : List Row) (names : List (List ℕ)) → all_of (codes "FI
     → is_some (all_of (codes "check") rows) ≡ true → ¬ (HasReplies (length names) rows) → ¬ (HasRepliesEach rows)
 not_each rows names found check none each =
     none (subst (λ (o : Option (List (List ℕ))). IfSome o (λ files. HasReplies (length files) rows)) found (each check))
+
+-- answers that are to be compared would be printed as they come
+pub no_stream : (rows : List Row) (form : Form) → HoldsForm rows form → is_kept form ≡ true → HoldsStream rows true
+    → ¬ (HasStream rows)
+no_stream rows form holds kept streamed has =
+    let on = bool_text_same has.0 true (Some-injective (sym has.1 ∙ streamed)) in
+    false≢true (sym (has.2 on) ∙ holds.check ∙ kept)
+
+-- files for records are of no use without a stream
+pub not_streamed : (files : ℕ) (rows : List Row) → HoldsStream rows false → ¬ (HasRecords files rows)
+not_streamed files rows off has = false≢true (bool_text_same false true (Some-injective (sym off ∙ has.streamed)))
+
+-- the files for records found are another number than there are files
+pub other_records : (files : ℕ) (rows : List Row) (records : List (Bor (List ℕ)))
+    → all_of (codes "replies") rows ≡ Some (map (λ file. file.now) records) → (length records ≡ files → ⊥) → ¬ (HasRecords files rows)
+other_records files rows records found other has =
+    let same : has.names ≡ map (λ file. file.now) records = Some-injective (sym has.found ∙ found) in
+    other (omega (arith, has.as_many, ap length same, length-map records (λ file. file.now)))
+
+-- no file for records a file: the files are these
+pub no_records_each : (rows : List Row) (names : List (List ℕ)) → all_of (codes "FILE") rows ≡ Some names
+    → is_some (all_of (codes "replies") rows) ≡ true → ¬ (HasRecords (length names) rows) → ¬ (HasRecordsEach rows)
+no_records_each rows names found given none each =
+    none (subst (λ (o : Option (List (List ℕ))). IfSome o (λ files. HasRecords (length files) rows)) found (each given))

@@ -22,3 +22,12 @@ pub record IsFirstRefused (has_opened cannot_open : List ℕ → Type 0) (names 
 abbrev pub opening_line : OpeningError → List ℕ
 opening_line (opening.CannotOpen proxy) = codes "replay: proxy " ++ decimal proxy ++ codes ": cannot open\n"
 opening_line opening.Memory = start_line start.Memory
+
+-- how the line of a file for records begins
+abbrev pub replies_of : ℕ → List ℕ
+replies_of proxy = codes "replay: replies " ++ decimal proxy
+
+-- the line of standard error where the files for records were not opened
+abbrev pub creating_line : OpeningError → List ℕ
+creating_line (opening.CannotOpen proxy) = replies_of proxy ++ codes ": cannot open\n"
+creating_line opening.Memory = start_line start.Memory

@@ -51,6 +51,17 @@ check_rule = record (new_rule (codes "check")) {
   action = Some Append;
 }
 
+abbrev pub stream_rule : Rule
+stream_rule = record (new_rule (codes "stream")) { long = Some (codes "stream"); action = Some SetTrue }
+
+-- an option `--replies OUT`, any number of times
+abbrev pub replies_rule : Rule
+replies_rule = record (new_rule (codes "replies")) {
+  long = Some (codes "replies");
+  value_names = 1;
+  action = Some Append;
+}
+
 -- the files: one word or more, anywhere among the options
 abbrev pub file_rule : Rule
 file_rule = record (new_rule (codes "FILE")) { action = Some Append; required = true }
@@ -58,13 +69,13 @@ file_rule = record (new_rule (codes "FILE")) { action = Some Append; required = 
 abbrev pub plain_app : App
 plain_app = new_app (codes "replay")
 
--- `replay [--capacity N] [--window N] [--limit N] [--frames] [--json] [--check REPLIES].. FILE..`, with `--help` and
--- `--version`
+-- `replay [--capacity N] [--window N] [--limit N] [--frames] [--json] [--check REPLIES].. [--stream] [--replies OUT].. FILE..`,
+-- with `--help` and `--version`
 unfoldable pub replay_app : App
 replay_app =
-    with_rule (with_rule (with_rule (with_rule (with_rule (with_rule (with_rule (record plain_app {
+    with_rule (with_rule (with_rule (with_rule (with_rule (with_rule (with_rule (with_rule (with_rule (record plain_app {
       top = record plain_app.top { has_version = true };
-    }) capacity_rule) window_rule) limit_rule) frames_rule) json_rule) check_rule) file_rule
+    }) capacity_rule) window_rule) limit_rule) frames_rule) json_rule) check_rule) stream_rule) replies_rule) file_rule
 
 abbrev pub is_frames : Form → Bool
 is_frames Frames = true
@@ -188,11 +199,38 @@ inputs_of (Some names) = count_inputs names
 abbrev pub HasInputOnce : List Row → Type 0
 HasInputOnce rows = inputs_of (all_of (codes "FILE") rows) + inputs_of (all_of (codes "check") rows) ≤ 1
 
+-- whether answers are printed as they come
+abbrev pub HoldsStream : List Row → Bool → Type 0
+HoldsStream rows is_streamed = one_of (codes "stream") rows ≡ Some (bool_text is_streamed)
+
+-- the names that are given, or none
+abbrev pub named : Option (List (List ℕ)) → List (List ℕ)
+named None = []
+named (Some names) = names
+
+-- answers that are to be compared aren't printed as they come
+abbrev pub HasStream : List Row → Type 0
+HasStream rows = (is_streamed : Bool) × HoldsStream rows is_streamed
+    × (is_streamed ≡ true → is_some (all_of (codes "check") rows) ≡ false)
+
+-- answers are printed as they come, and as many files for records are found as there are files
+pub record HasRecords (files : ℕ) (rows : List Row) : Type 0 where
+  pub names : List (List ℕ)
+  pub found : all_of (codes "replies") rows ≡ Some names
+  pub streamed : HoldsStream rows true
+  pub as_many : length names ≡ files
+
+-- the same where some are found
+abbrev pub HasRecordsEach : List Row → Type 0
+HasRecordsEach rows = is_some (all_of (codes "replies") rows) ≡ true
+    → IfSome (all_of (codes "FILE") rows) (λ names. HasRecords (length names) rows)
+
 -- the arguments that are found are of no use: two forms, a number out of its range, no files or too many, other than one file of replies
--- a file, or standard input twice
+-- a file, standard input twice, answers that are to be compared as they come, or other than one file for records a file
 abbrev pub IsOfNoUse : List Row → Type 0
 IsOfNoUse rows = (¬ HasForm rows)
-    ⊎ ((¬ HasNumbers rows) ⊎ ((¬ HasFiles rows) ⊎ ((¬ HasRepliesEach rows) ⊎ (¬ HasInputOnce rows))))
+    ⊎ ((¬ HasNumbers rows) ⊎ ((¬ HasFiles rows) ⊎ ((¬ HasRepliesEach rows) ⊎ ((¬ HasInputOnce rows)
+    ⊎ ((¬ HasStream rows) ⊎ (¬ HasRecordsEach rows))))))
 
 -- The words are mistaken: `clap` finds a mistake, or else the arguments that it finds are of no use.
 abbrev pub IsMistaken : List (List ℕ) → Type 0

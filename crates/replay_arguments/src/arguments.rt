@@ -1,12 +1,13 @@
 //! The words of the command line.
 
-ghost use Rattle.std.specs.Prelude.{◌≡◌, ◌≢◌, ◌≤◌, IfErr, IfOk, IfSome, OnOk, Some, codes, length};
-ghost use Rattle.std.specs.Prelude.{map, string_bytes, vec_len};
+ghost use Rattle.std.specs.Prelude.{◌≡◌, ◌≢◌, ◌≤◌, ◌⊎◌, IfErr, IfOk, IfSome, OnOk, Some, codes};
+ghost use Rattle.std.specs.Prelude.{is_some, length, map, string_bytes, true, vec_len};
 ghost use Rattle.clap.specs.Words.{all_of, found_of, rows_of};
 ghost use Rattle.replay_arguments.specs.Words.{AsksForText, HasFiles, HasForm, HasInputOnce};
 ghost use Rattle.replay_arguments.specs.Words.{HasNumbers, HasReplies, HoldsForm, HoldsNumbers};
 ghost use Rattle.replay_arguments.specs.Words.{HoldsOptions, IsFormOf, IsMistaken, IsRefusalBy};
 ghost use Rattle.replay_arguments.specs.Words.{IsRefusalOf, IsTaken, faults_of, rows_of_words};
+ghost use Rattle.replay_arguments.specs.Words.{HasRecords, HasStream, HoldsStream, named};
 ghost use Rattle.clap.specs.declared.error.kind.ErrorKind.{ErrorKind};
 ghost use Rattle.replay_output.specs.declared.options.form.Form.{Form as FormValue};
 
@@ -32,6 +33,11 @@ pub struct CommandLine<'a> {
     /// The names of the files of replies, one per file if replies are kept to be checked, and
     /// otherwise none.
     pub replies: Vec<&'a str>,
+    /// Answers are printed as they come.
+    pub is_streamed: bool,
+    /// The names of the files for records of answers, one per file if they are requested, and
+    /// otherwise none.
+    pub records: Vec<&'a str>,
     pub options: Options,
 }
 
@@ -51,6 +57,13 @@ pub fn read_words<'a>(alloc: Global, words: &'a [String]) -> Result<CommandLine<
     ensures as_many { IfOk result (λ line. line.options.form ≡ Form.Kept
         → vec_len line.replies ≡ vec_len line.files) }
     ensures input { OnOk result (HasInputOnce (rows_of_words (map string_bytes words.entry.now))) }
+    ensures streamed { IfOk result (λ line.
+        HoldsStream (rows_of_words (map string_bytes words.entry.now)) line.is_streamed) }
+    ensures plain { IfOk result (λ line. line.is_streamed ≡ true → line.options.form ≢ Form.Kept) }
+    ensures records { IfOk result (λ line. map (λ name. name.now) line.records.items
+        ≡ named (all_of (codes "replies") (rows_of_words (map string_bytes words.entry.now)))) }
+    ensures records_each { IfOk result (λ line. (vec_len line.records ≡ 0)
+        ⊎ ((line.is_streamed ≡ true) × (vec_len line.records ≡ vec_len line.files))) }
     ensures taken { OnOk result (IsTaken (map string_bytes words.entry.now)) }
     ensures shown { (text : _) → result ≡ Err (Refusal.Shown text)
         → AsksForText (map string_bytes words.entry.now) }
@@ -74,11 +87,18 @@ pub fn read_words<'a>(alloc: Global, words: &'a [String]) -> Result<CommandLine<
         let message = "standard input (-) can be given only once";
         return Err(refuse(alloc, ErrorKind::ArgumentConflict, message)?);
     }
-    let replies = replies_of(alloc, &matches, form, files.len())?;
-    let files = Vec::from_slice(alloc, files)?;
+    let count = files.len();
+    let replies = replies_of(alloc, &matches, form, count)?;
+    let Some(is_streamed) = is_streamed(&matches, form) else {
+        let message = "--stream is wanted without --check";
+        return Err(refuse(alloc, ErrorKind::ArgumentConflict, message)?);
+    };
+    let records = records_of(alloc, &matches, is_streamed, count)?;
     Ok(CommandLine {
-        files,
+        files: Vec::from_slice(alloc, files)?,
         replies,
+        is_streamed,
+        records,
         options,
     })
 }
@@ -157,6 +177,51 @@ fn named_replies<'m, 'a>(matches: &'m ArgMatches<'a>, files: usize) -> Option<&'
         return None;
     }
     Some(replies)
+}
+
+// Returns whether answers are printed as they come, unless they are to be compared too.
+fn is_streamed(matches: &ArgMatches, form: Form) -> Option<bool>
+    ensures stream { IfSome result (HoldsStream (rows_of (found_of matches.now))) }
+    ensures plain { IfSome result (λ is_streamed. is_streamed ≡ true → form ≢ Form.Kept) }
+    ensures none { result ≡ None → HoldsForm (rows_of (found_of matches.now)) form
+        → ¬ HasStream (rows_of (found_of matches.now)) }
+{
+    let is_streamed: bool = matches.get_one("stream")?;
+    if is_streamed && form.is_kept() {
+        return None;
+    }
+    Some(is_streamed)
+}
+
+// Returns the files for records of answers, one per file, or none. Only a stream has any.
+fn records_of<'a>(
+    alloc: Global,
+    matches: &ArgMatches<'a>,
+    is_streamed: bool,
+    files: usize,
+) -> Result<Vec<&'a str>, Refusal>
+    ensures records { IfOk result (λ records. map (λ name. name.now) records.items
+        ≡ named (all_of (codes "replies") (rows_of (found_of matches.now)))) }
+    ensures each { IfOk result (λ records. (vec_len records ≡ 0)
+        ⊎ ((is_streamed ≡ true) × (vec_len records ≡ files))) }
+    ensures shown { (text : _) → result ≢ Err (Refusal.Shown text) }
+    ensures refused { (text : _) → result ≡ Err (Refusal.Refused text)
+        → HoldsStream (rows_of (found_of matches.now)) is_streamed
+        → (is_some (all_of (codes "replies") (rows_of (found_of matches.now))) ≡ true)
+        × ¬ HasRecords files (rows_of (found_of matches.now)) }
+{
+    let Some(names) = matches.get_strs("replies") else {
+        return Ok(Vec::new(alloc));
+    };
+    if !is_streamed {
+        let message = "--replies OUT is wanted with --stream";
+        return Err(refuse(alloc, ErrorKind::MissingRequiredArgument, message)?);
+    }
+    if names.len() != files {
+        let message = "--replies OUT is wanted once a file";
+        return Err(refuse(alloc, ErrorKind::WrongNumberOfValues, message)?);
+    }
+    Ok(Vec::from_slice(alloc, names)?)
 }
 
 // Returns the form of printed answers, unless two forms are requested.

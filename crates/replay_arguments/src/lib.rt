@@ -10,4 +10,7 @@ mod arguments;
 mod opening;
 
 pub use arguments::{CommandLine, Refusal, read_words};
-pub use opening::{FileError, Files, OpeningError, STANDARD_INPUT, fail_to_open, open_files};
+pub use opening::{
+    FileError, Files, OpeningError, STANDARD_INPUT, create_files, fail_to_create, fail_to_open,
+    open_files,
+};

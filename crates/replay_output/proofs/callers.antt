@@ -1,2 +1,3 @@
 -- lemmas that proofs of the crates above may cite
 pub mod Results
+pub mod Quiet

@@ -5,4 +5,5 @@ pub mod Line
 pub mod Failures
 pub mod Start
 pub mod Record
+pub mod Streamed
 pub mod Unwritten

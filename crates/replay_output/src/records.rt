@@ -22,6 +22,9 @@ pub fn write_record<W: Sink>(alloc: Global, out: &mut W, answer: &Answer) -> Res
     ensures beginning { result ≡ Err AnswerError.Write → IfSome (W.given out.new) (λ _.
         (n : ℕ) × Appends (W.given out.old) (W.given out.new) (take n (answer_record answer.now))) }
     ensures write { (result ≡ Err AnswerError.Write) ↔ (W.failures out.old < W.failures out.new) }
+    ensures ok { OnOk result (W.failures out.new ≡ W.failures out.old) }
+    ensures untouched { result ≡ Err AnswerError.Memory
+        → W.failures out.new ≡ W.failures out.old }
 {
     let Some(bytes) = encode_record(alloc, answer) else {
         return Err(AnswerError::Memory);

@@ -35,6 +35,9 @@ pub fn print_line<W: Sink>(
         (n : ℕ) × Appends (W.given out.old) (W.given out.new)
         (take n (line form proxy answer.now))) }
     ensures write { (result ≡ Err AnswerError.Write) ↔ (W.failures out.old < W.failures out.new) }
+    ensures ok { OnOk result (W.failures out.new ≡ W.failures out.old) }
+    ensures untouched { result ≡ Err AnswerError.Memory
+        → W.failures out.new ≡ W.failures out.old }
 {
     let Some(text) = bytes_of(alloc, form, proxy, answer) else {
         return Err(AnswerError::Memory);

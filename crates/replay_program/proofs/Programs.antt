@@ -1,5 +1,5 @@
 -- How the program ends, from what each of its parts says.
-use Rattle.std.specs.Prelude.{◌≡◌, ◌≢◌, ℕ, false, List, Option, None, Some, string_bytes}
+use Rattle.std.specs.Prelude.{◌≡◌, ◌≢◌, ℕ, Bool, true, false, List, Option, None, Some, string_bytes}
 use Rattle.std.specs.Io.KnownBytes.{Keeps}
 use Rattle.std.proofs.Common.{refl, sym, ◌∙◌, subst, inl, inr}
 use Rattle.replay_arguments.specs.declared.opening.OpeningError.{OpeningError}
@@ -12,11 +12,26 @@ use Rattle.replay_arguments.specs.declared.arguments.refusal.Refusal.TheVariants
 use Rattle.replay_output.specs.declared.start.StartError.TheVariants as start
 use Rattle.replay_output.specs.declared.status.Status.{Status}
 use Rattle.replay_output.specs.declared.status.Status.TheVariants.{Done, Failed, Usage, Differs}
-use Rattle.replay_arguments.specs.Opening.{IsFirstRefused, contents_each, opening_line}
-use Rattle.replay_program.specs.Program.{AsksToCheck, AsksToReplay, ChecksFiles, FailsOnFiles, FailsToCheck, HasDifferences, IsDone, IsFailed, Told}
+use Rattle.replay_arguments.specs.Opening.{IsFirstRefused, contents_each, creating_line, opening_line}
+use Rattle.replay_program.specs.Program.{
+  AsksToCheck,
+  AsksToReplay,
+  AsksToStream,
+  ChecksFiles,
+  FailsOnFiles,
+  FailsOnStream,
+  FailsToCheck,
+  HasDifferences,
+  IsDone,
+  IsFailed,
+  StreamsFiles,
+  Told,
+}
 use Rattle.replay_program.specs.Replayed.{HasFailed, IsReplayed, Took, Written}
 use Rattle.replay_output.specs.Start.{start_line}
 use Rattle.replay_arguments.specs.Words.{AsksForText, IsMistaken, is_kept}
+use Rattle.replay_workers.specs.declared.stream.recorder.Recorder.{Recorder}
+use Rattle.replay_workers.specs.Sinks.{SinkState}
 
 keeps_itself : (a : Option (List ℕ)) → Keeps a a
 keeps_itself None = tt
@@ -30,6 +45,10 @@ not_kept Words other = refl
 not_kept Frames other = refl
 not_kept Json other = refl
 not_kept Kept other = absurd (other refl)
+
+pub not_streamed : (is_streamed : Bool) → (is_streamed ≡ true → ⊥) → is_streamed ≡ false
+not_streamed false other = refl
+not_streamed true other = absurd (other refl)
 
 module _ (has_opened cannot_open : List ℕ → Type 0) (contents : List ℕ → Option (List ℕ)) (out error : Written) where
   pub fails_on_files : (options : Options) (names : List (List ℕ)) (cause : OpeningError)
@@ -50,11 +69,35 @@ module _ (has_opened cannot_open : List ℕ → Type 0) (contents : List ℕ →
   fails_to_open options names replies opening.Memory first nothing told =
       inr (inr (inl (record { cause = start.Memory; nothing_printed = nothing; told = told })))
 
-  module _ (words : List (List ℕ)) (status : Status) where
+  module _ {W : Type 0} (state_of : W → SinkState) (has_created cannot_create : List ℕ → Type 0)
+      (begun : List ℕ → Option (List ℕ)) (recorders : List (Option (Recorder W))) where
+    -- the files for the answers were not read, or those for records not opened
+    pub fails_to_stream : (options : Options) (names records : List (List ℕ)) (cause : OpeningError)
+        → ((proxy : ℕ) → cause ≡ opening.CannotOpen proxy → IsFirstRefused has_opened cannot_open names proxy)
+        → out.after ≡ out.before → Told error (opening_line cause)
+        → FailsOnStream state_of has_opened cannot_open contents has_created cannot_create begun options names records recorders out error
+    fails_to_stream options names records (opening.CannotOpen proxy) first nothing told =
+        inl (record { proxy = proxy; first = first proxy refl; nothing_printed = nothing; told = told })
+    fails_to_stream options names records opening.Memory first nothing told =
+        inr (inr (inl (record { cause = start.Memory; nothing_printed = nothing; told = told })))
+
+    pub fails_to_create : (options : Options) (names records : List (List ℕ)) (cause : OpeningError)
+        → ((proxy : ℕ) → cause ≡ opening.CannotOpen proxy → IsFirstRefused has_created cannot_create records proxy)
+        → out.after ≡ out.before → Told error (creating_line cause)
+        → FailsOnStream state_of has_opened cannot_open contents has_created cannot_create begun options names records recorders out error
+    fails_to_create options names records (opening.CannotOpen proxy) first nothing told =
+        inr (inl (record { proxy = proxy; first = first proxy refl; nothing_printed = nothing; told = told }))
+    fails_to_create options names records opening.Memory first nothing told =
+        inr (inr (inl (record { cause = start.Memory; nothing_printed = nothing; told = told })))
+
+  module _ {W : Type 0} (state_of : W → SinkState) (has_created cannot_create : List ℕ → Type 0)
+      (begun : List ℕ → Option (List ℕ)) (recorders : List (Option (Recorder W))) (words : List (List ℕ)) (status : Status) where
     pub record Ends : Type 0 where
-      pub done : status ≡ Done → IsDone contents words out
+      pub done : status ≡ Done → IsDone state_of contents begun words recorders out
       pub quiet : status ≡ Done → Keeps error.before error.after
-      pub failed : status ≡ Failed → IsFailed has_opened cannot_open contents words out error
+      pub failed :
+          status ≡ Failed
+          → IsFailed state_of has_opened cannot_open contents has_created cannot_create begun words recorders out error
       pub mistaken : status ≡ Usage → IsMistaken words
       pub nothing : status ≡ Usage → out.after ≡ out.before
       pub usage : status ≡ Usage → (text : List ℕ) × Told error text
@@ -137,15 +180,35 @@ module _ (has_opened cannot_open : List ℕ → Type 0) (contents : List ℕ →
         → (status ≡ Failed → FailsToCheck has_opened cannot_open contents options names replies out error)
         → status ≢ Usage → Ends
     ends_checked options names replies asked done differs quiet failed ends = record {
-      done = λ is. inr (inr (record { options = options; names = names; replies = replies; asked = asked; checked = done is }));
+      done = λ is.
+          inr (inr (inl (record { options = options; names = names; replies = replies; asked = asked; checked = done is })));
       quiet = λ is. quiet (λ other. let bad : Done ≡ Failed = sym is ∙ other in cc);
       failed = λ is.
-          inr (inr (inr (record { options = options; names = names; replies = replies; asked = asked; failed = failed is })));
+          inr (inr (inr (inl (record { options = options; names = names; replies = replies; asked = asked; failed = failed is }))));
       mistaken = λ is. absurd (ends is);
       nothing = λ is. absurd (ends is);
       usage = λ is. absurd (ends is);
       differs = λ is. record { options = options; names = names; replies = replies; asked = asked; checked = differs is };
       quiet_too = λ is. quiet (λ other. let bad : Differs ≡ Failed = sym is ∙ other in cc);
+    }
+
+    pub ends_streamed : (options : Options) (names records : List (List ℕ)) → AsksToStream words options names records
+        → (status ≡ Done → StreamsFiles state_of contents begun options names records recorders out.before out.after)
+        → (status ≡ Done → Keeps error.before error.after)
+        → (status ≡ Failed
+        → FailsOnStream state_of has_opened cannot_open contents has_created cannot_create begun options names records recorders out error)
+        → status ≢ Usage → status ≢ Differs → Ends
+    ends_streamed options names records asked done quiet failed ends same = record {
+      done = λ is.
+          inr (inr (inr (record { options = options; names = names; records = records; asked = asked; streamed = done is })));
+      quiet = quiet;
+      failed = λ is.
+          inr (inr (inr (inr (record { options = options; names = names; records = records; asked = asked; failed = failed is }))));
+      mistaken = λ is. absurd (ends is);
+      nothing = λ is. absurd (ends is);
+      usage = λ is. absurd (ends is);
+      differs = λ is. absurd (same is);
+      quiet_too = λ is. absurd (same is);
     }
 
     -- from what was refused, by the clauses of its end

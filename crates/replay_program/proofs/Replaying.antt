@@ -31,7 +31,7 @@ loss_is_no_clean zero (failure ∷ failures) inside clean =
 loss_is_no_clean (suc proxy) (failure ∷ failures) inside clean =
     loss_is_no_clean proxy failures (omega arith) (λ k d within. clean (suc k) d (omega arith))
 
-complete_from : (complete : Bool) (stop : Option Stop) → ending_of complete stop ≡ Complete → complete ≡ true
+pub complete_from : (complete : Bool) (stop : Option Stop) → ending_of complete stop ≡ Complete → complete ≡ true
 complete_from true stop is = refl
 complete_from false None is = cc
 complete_from false (Some s) is = cc

@@ -51,7 +51,7 @@ says_verdict Frames entry is = is
 says_verdict Kept entry is = is
 
 -- an element of a list of values of a function is its value there
-value_at : {X : Type 0} (F : ℕ → X) (first n k : ℕ) (x : X) → slice_get (map F (range_with_len first n)) k ≡ Some x
+pub value_at : {X : Type 0} (F : ℕ → X) (first n k : ℕ) (x : X) → slice_get (map F (range_with_len first n)) k ≡ Some x
     → x ≡ F (first + k)
 value_at F first zero k x at = let never : ⊥ = cc in absurd never
 value_at F first (suc n) zero x at =

@@ -2,4 +2,5 @@
 pub mod Checked
 pub mod Replies
 pub mod Replayed
+pub mod Streamed
 pub mod Program

@@ -13,20 +13,25 @@
 mod check;
 mod program;
 mod replay;
+mod report;
+mod stream;
 
 pub use check::{
     CheckReport, RepliesError, check_over, fail_to_read_replies, print_check, read_replies,
 };
-pub use program::{check_files, replay_files, run, run_in};
+pub use program::{check_files, replay_files, run, run_in, stream_files};
 pub use replay::replay_over;
 pub use replay_arguments::{
-    CommandLine, FileError, Files, OpeningError, Refusal, STANDARD_INPUT, fail_to_open, open_files,
-    read_words,
+    CommandLine, FileError, Files, OpeningError, Refusal, STANDARD_INPUT, create_files,
+    fail_to_create, fail_to_open, open_files, read_words,
 };
 pub use replay_output::{
-    Ending, Form, Line, Options, PackedText, PrintError, ProxyFailure, Report, StartError, Status,
-    fail_to_start, print_answers, print_report,
+    AnswerError, Ending, Form, Line, Options, PackedText, PrintError, ProxyFailure, Report,
+    StartError, Status, fail_to_start, print_answers, print_report, write_record,
 };
 pub use replay_workers::{
-    AlwaysOpen, Assignment, Finished, Gatekeeper, MostUnanswered, ShareKeeper, Unshared, work,
+    AlwaysOpen, Assignment, Finished, Gatekeeper, MostUnanswered, Recorder, ShareKeeper, Unshared,
+    work,
 };
+pub use report::RunReport;
+pub use stream::stream_over;

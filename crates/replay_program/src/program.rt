@@ -1,19 +1,26 @@
 //! The program, over any words, files and streams.
 
 ghost use Rattle.std.specs.Prelude.{◌≡◌, ◌≢◌, ◌≤◌, ℕ, List, IfOk, length, map, string_bytes};
-ghost use Rattle.std.specs.Prelude.{vec_len};
+ghost use Rattle.std.specs.Prelude.{option_map, vec_len};
 ghost use Rattle.std.specs.Io.KnownBytes.{Keeps};
 ghost use Rattle.resolver.specs.declared.resolver_core.TheConstants.{MAX_PROXIES};
-ghost use Rattle.replay_arguments.specs.Opening.{contents_each};
+ghost use Rattle.replay_arguments.specs.Opening.{IsFirstRefused, contents_each};
 ghost use Rattle.replay_program.specs.Program.{ChecksFiles, FailsOnFiles, FailsToCheck};
-ghost use Rattle.replay_program.specs.Program.{HasDifferences, IsDone, IsFailed, Told};
+ghost use Rattle.replay_program.specs.Program.{FailsOnStream, HasDifferences, IsDone, IsFailed};
+ghost use Rattle.replay_program.specs.Program.{HaveWriters, StreamsFiles, Told};
+ghost use Rattle.replay_workers.specs.Sinks.{state_by};
 ghost use Rattle.replay_program.specs.Replayed.{IsReplayed, written};
 ghost use Rattle.replay_arguments.specs.Words.{IsMistaken};
 
 use crate::check::{check_over, fail_to_read_replies, read_replies};
 use crate::replay::replay_over;
+use crate::report::RunReport;
+use crate::stream::stream_over;
 use flow::WaitingRoom;
-use replay_arguments::{CommandLine, Files, fail_to_open, open_files, read_words};
+use replay_arguments::{
+    CommandLine, Files, OpeningError, create_files, fail_to_create, fail_to_open, open_files,
+    read_words,
+};
 use replay_output::{Form, StartError, Status, fail_to_start};
 use std::alloc::{AllocError, Global};
 use std::sync::{Arc, Wait};
@@ -26,7 +33,7 @@ pub use environment::run_in;
 
 /// Runs the program on the words of its command line, of which the first is the program's name.
 /// Help is printed to `out`, and why words are refused to `error`; else the files are replayed, as
-/// [`replay_files`] does.
+/// [`replay_files`], [`check_files`] or [`stream_files`] does.
 pub fn run<R: Threads + Wait + Copy + Send + 'static, F: Files, O: Sink, E: Sink>(
     rt: &R,
     alloc: Global,
@@ -34,32 +41,42 @@ pub fn run<R: Threads + Wait + Copy + Send + 'static, F: Files, O: Sink, E: Sink
     words: &[String],
     out: &mut O,
     error: &mut E,
-) -> Status
-    ensures done { result ≡ Status.Done → IsDone (F.contents files.now) (map string_bytes words.now)
+) -> RunReport<F::Writer>
+    ensures done { result.status ≡ Status.Done
+        → IsDone (state_by F.Writer.given F.Writer.failures) (F.contents files.now)
+        (F.begun files.now) (map string_bytes words.now) result.recorders.items
         (written (O.given out.old) (O.given out.new) (O.failures out.old) (O.failures out.new)) }
-    ensures quiet { result ≡ Status.Done → Keeps (E.given error.old) (E.given error.new) }
-    ensures quiet_too { result ≡ Status.Differs → Keeps (E.given error.old) (E.given error.new) }
-    ensures failed { result ≡ Status.Failed
-        → IsFailed (F.has_opened files.now) (F.cannot_open files.now) (F.contents files.now)
-        (map string_bytes words.now)
+    ensures quiet { result.status ≡ Status.Done → Keeps (E.given error.old) (E.given error.new) }
+    ensures quiet_too { result.status ≡ Status.Differs
+        → Keeps (E.given error.old) (E.given error.new) }
+    ensures failed { result.status ≡ Status.Failed
+        → IsFailed (state_by F.Writer.given F.Writer.failures) (F.has_opened files.now)
+        (F.cannot_open files.now) (F.contents files.now) (F.has_created files.now)
+        (F.cannot_create files.now) (F.begun files.now) (map string_bytes words.now)
+        result.recorders.items
         (written (O.given out.old) (O.given out.new) (O.failures out.old) (O.failures out.new))
         (written (E.given error.old) (E.given error.new) (E.failures error.old)
         (E.failures error.new)) }
-    ensures mistaken { result ≡ Status.Usage → IsMistaken (map string_bytes words.now) }
-    ensures nothing { result ≡ Status.Usage → O.given out.new ≡ O.given out.old }
-    ensures usage { result ≡ Status.Usage → (text : List ℕ)
+    ensures mistaken { result.status ≡ Status.Usage → IsMistaken (map string_bytes words.now) }
+    ensures nothing { result.status ≡ Status.Usage → O.given out.new ≡ O.given out.old }
+    ensures usage { result.status ≡ Status.Usage → (text : List ℕ)
         × Told (written (E.given error.old) (E.given error.new) (E.failures error.old)
         (E.failures error.new)) text }
-    ensures differs { result ≡ Status.Differs
+    ensures differs { result.status ≡ Status.Differs
         → HasDifferences (F.contents files.now) (map string_bytes words.now)
         (written (O.given out.old) (O.given out.new) (O.failures out.old) (O.failures out.new)) }
 {
     match read_words(alloc, words) {
-        Ok(line) if line.options.form.is_kept() => {
-            check_files(rt, alloc, files, &line, out, error)
-        }
-        Ok(line) => replay_files(rt, alloc, files, &line, out, error),
-        Err(refusal) => refusal.end(out, error),
+        Ok(line) if line.options.form.is_kept() => RunReport::without_recorders(
+            alloc,
+            check_files(rt, alloc, files, &line, out, error),
+        ),
+        Ok(line) if line.is_streamed => stream_files(rt, alloc, files, &line, out, error),
+        Ok(line) => RunReport::without_recorders(
+            alloc,
+            replay_files(rt, alloc, files, &line, out, error),
+        ),
+        Err(refusal) => RunReport::without_recorders(alloc, refusal.end(out, error)),
     }
 }
 
@@ -154,6 +171,93 @@ pub fn check_files<R: Threads + Wait + Copy + Send + 'static, F: Files, O: Sink,
         out,
         error,
     )
+}
+
+/// Opens the files of a command line, and those for records, and prints the answers as they come, as
+/// [`stream_over`] does. If a file can't be opened, nothing is printed to `out`, and the first such
+/// file is reported to `error`.
+pub fn stream_files<R: Threads + Wait + Copy + Send + 'static, F: Files, O: Sink, E: Sink>(
+    rt: &R,
+    alloc: Global,
+    files: &F,
+    line: &CommandLine,
+    out: &mut O,
+    error: &mut E,
+) -> RunReport<F::Writer>
+    requires least_files { 1 ≤ vec_len line.now.files }
+    requires most_files { vec_len line.now.files ≤ MAX_PROXIES }
+    requires no_more { vec_len line.now.records ≤ vec_len line.now.files }
+    ensures done { result.status ≡ Status.Done
+        → StreamsFiles (state_by F.Writer.given F.Writer.failures) (F.contents files.now)
+        (F.begun files.now) line.now.options (map (λ name. name.now) line.now.files.items)
+        (map (λ name. name.now) line.now.records.items) result.recorders.items
+        (O.given out.old) (O.given out.new) }
+    ensures quiet { result.status ≡ Status.Done → Keeps (E.given error.old) (E.given error.new) }
+    ensures failed { result.status ≡ Status.Failed
+        → FailsOnStream (state_by F.Writer.given F.Writer.failures) (F.has_opened files.now)
+        (F.cannot_open files.now) (F.contents files.now) (F.has_created files.now)
+        (F.cannot_create files.now) (F.begun files.now) line.now.options
+        (map (λ name. name.now) line.now.files.items)
+        (map (λ name. name.now) line.now.records.items) result.recorders.items
+        (written (O.given out.old) (O.given out.new) (O.failures out.old) (O.failures out.new))
+        (written (E.given error.old) (E.given error.new) (E.failures error.old)
+        (E.failures error.new)) }
+    ensures ends { result.status ≢ Status.Usage }
+    ensures same { result.status ≢ Status.Differs }
+{
+    let readers = match open_files(alloc, files, &line.files) {
+        Ok(readers) => readers,
+        Err(cause) => {
+            return RunReport::without_recorders(alloc, fail_to_open(error, cause));
+        }
+    };
+    let records = match records_of(alloc, files, line) {
+        Ok(records) => records,
+        Err(cause) => {
+            return RunReport::without_recorders(alloc, fail_to_create(error, cause));
+        }
+    };
+    let Ok(gatekeeper) = gatekeeper(alloc, &readers) else {
+        return RunReport::without_recorders(alloc, fail_to_start(error, StartError::Memory));
+    };
+    stream_over(
+        rt,
+        alloc,
+        readers,
+        records,
+        line.options,
+        &gatekeeper,
+        out,
+        error,
+    )
+}
+
+// Opens the files for records, and returns the writer of each proxy, if there is one.
+fn records_of<F: Files>(
+    alloc: Global,
+    files: &F,
+    line: &CommandLine,
+) -> Result<Vec<Option<F::Writer>>, OpeningError>
+    requires no_more { vec_len line.now.records ≤ vec_len line.now.files }
+    ensures as_many { IfOk result (λ records. vec_len records ≡ vec_len line.now.files) }
+    ensures writers { IfOk result (λ records.
+        HaveWriters (F.begun files.now) (map (λ name. name.now) line.now.records.items)
+        (map (option_map F.Writer.given) records.items)) }
+    ensures refused { (proxy : ℕ) → result ≡ Err (OpeningError.CannotOpen proxy)
+        → IsFirstRefused (F.has_created files.now) (F.cannot_create files.now)
+        (map (λ name. name.now) line.now.records.items) proxy }
+{
+    let mut writers = match create_files(alloc, files, &line.records) {
+        Ok(writers) => writers.into_iter(),
+        Err(cause) => return Err(cause),
+    };
+    let mut records = Vec::with_capacity(alloc, line.files.len()).map_err(
+        |_| OpeningError::Memory,
+    )?;
+    for _ in 0..line.files.len() {
+        records.push_reserved(writers.next());
+    }
+    Ok(records)
 }
 
 // Makes the gatekeeper of the proxies that have these readers: a room with a place for each.

@@ -7,9 +7,9 @@
 //! admitted, and `stalling` a reader. `workers` looks at a worker alone, and the others at the
 //! command line and at what is printed. `shell` and `shell_failures` run the complete program, over
 //! the arguments of an environment and the files of a `shelf`, `flushing` over streams that hold all
-//! bytes until they are flushed, and `checks` those that compare with
-//! the replies of another resolver. The tests of `memory` pass whichever one growth is refused;
-//! `.ci/refused-memory` refuses each in turn.
+//! bytes until they are flushed, and `checks` those that compare with the replies of another
+//! resolver. `records` looks at the records of answers. The tests of `memory` pass whichever one
+//! growth is refused; `.ci/refused-memory` refuses each in turn.
 //!
 //! The contract of `replay_over` also lets a program through that always stops with `Memory`. Each
 //! test that wants a line refuses it, `empty_batch` first; so does `gate_full_through_replay`,
@@ -42,6 +42,8 @@ mod memory;
 mod options;
 #[cfg(test)]
 mod proxies;
+#[cfg(test)]
+mod records;
 #[cfg(test)]
 mod report;
 #[cfg(test)]

@@ -6,7 +6,7 @@ use crate::answers::replies_of;
 use crate::files::first_run;
 use crate::runs::{ended, file_of, opened};
 use crate::sharing;
-use replay_program::{FileError, Files, Status, run_in};
+use replay_program::{FileError, Files, Recorder, Status, run_in};
 use std::alloc::{AllocError, Global};
 use std::env::FillError;
 use std::io;
@@ -104,6 +104,8 @@ impl Shelf {
 impl Files for Shelf {
     type Reader = StdSource<Recorded>;
 
+    type Writer = StdSink<Vec<u8>>;
+
     ghost contents = { λ _ _. None };
 
     ghost has_opened = { λ _ _. ⊤ };
@@ -112,12 +114,22 @@ impl Files for Shelf {
 
     ghost lacks_memory = { λ _ _. ⊤ };
 
+    ghost begun = { λ _ _. None };
+
+    ghost has_created = { λ _ _. ⊤ };
+
+    ghost cannot_create = { λ _ _. ⊤ };
+
     fn open(&self, name: &str) -> Result<StdSource<Recorded>, FileError> {
         let Some((_, bytes)) = self.files.iter().find(|(known, _)| *known == name) else {
             return Err(FileError::CannotOpen);
         };
         let bytes = bytes.clone().map_err(|_| FileError::Memory)?;
         Ok(StdSource::new(Recorded(Cursor::new(bytes))))
+    }
+
+    fn create(&self, _name: &str) -> Result<StdSink<Vec<u8>>, FileError> {
+        Ok(StdSink::new(Vec::new(self.alloc)))
     }
 }
 
@@ -164,5 +176,25 @@ pub fn shell_into<R: Threads + Wait + Copy + Send + 'static, W: AsBytes, O: Sink
     error: &mut E,
 ) -> Result<Status, Unmade> {
     let files = Shelf::new(alloc)?;
-    Ok(run_in(rt, alloc, &Words(words), &files, out, error))
+    let report = run_in(rt, alloc, &Words(words), &files, out, error);
+    Ok(report.status)
+}
+
+/// Runs the program on these words, and returns what each writer of records was given.
+pub fn records<R: Threads + Wait + Copy + Send + 'static, W: AsBytes>(
+    rt: &R,
+    alloc: Global,
+    words: &[W],
+) -> Result<Vec<Vec<u8>>, Unmade> {
+    let files = Shelf::new(alloc)?;
+    let mut out = StdSink::new(Vec::new(alloc));
+    let mut error = StdSink::new(Vec::new(alloc));
+    let report = run_in(rt, alloc, &Words(words), &files, &mut out, &mut error);
+    let mut given = Vec::new(alloc);
+    for recorder in report.recorders {
+        if let Some(Recorder { out, .. }) = recorder {
+            given.push(out.into_inner()).map_err(AllocError::from)?;
+        }
+    }
+    Ok(given)
 }

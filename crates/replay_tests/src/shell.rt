@@ -46,6 +46,32 @@ fn files_in_the_order_of_the_words(rt: HostRuntime) -> Result<(), Fail> {
     )
 }
 
+// The lines of different proxies may alternate in any way, so each row has one proxy with answers.
+#[test]
+fn answers_as_they_come(rt: HostRuntime) -> Result<(), Fail> {
+    gives(
+        &rt,
+        &[
+            (
+                &["replay", "--stream", "first"],
+                "0 0 empty\n0 100 committed\ndone: ",
+            ),
+            (
+                &["replay", "empty", "writes", "--stream", "--limit", "3"],
+                "1 0 empty\n1 100 committed\nfailed: replay: stop 3 ArenaFull\n",
+            ),
+            (
+                &["replay", "--stream", "none"],
+                "failed: replay: proxy 0: cannot open\n",
+            ),
+            (
+                &["replay", "--stream", "--replies", "out", "third"],
+                "0 300 held\ndone: ",
+            ),
+        ],
+    )
+}
+
 #[test]
 fn options_away_from_their_defaults(rt: HostRuntime) -> Result<(), Fail> {
     gives(

@@ -57,9 +57,17 @@ fn push_options(alloc: Global, text: &mut String, line: &CommandLine) -> Result<
         Form::Json => " json",
         Form::Kept => " check",
     })?;
-    for replies in &line.replies {
+    if line.is_streamed {
+        text.push_str(" stream")?;
+    }
+    push_names(text, &line.replies)?;
+    push_names(text, &line.records)
+}
+
+fn push_names(text: &mut String, names: &[&str]) -> Result<(), Unmade> {
+    for name in names {
         text.push(' ')?;
-        text.push_str(replies)?;
+        text.push_str(name)?;
     }
     Ok(())
 }
@@ -132,6 +140,12 @@ fn refused_words(rt: HostRuntime) -> Result<(), Fail> {
         "f - g -",
         "--check - -",
         "-- - -",
+        "--stream --stream f",
+        "--stream --check r f",
+        "--replies r f",
+        "--stream --replies f",
+        "--stream --replies r f g",
+        "--stream --replies r --replies s f",
     ] {
         refuses(&rt, given)?;
     }
@@ -150,6 +164,18 @@ fn reasons_of_refusals(rt: HostRuntime) -> Result<(), Fail> {
         (
             "--check r f g",
             "error: --check REPLIES is wanted once a file\n",
+        ),
+        (
+            "--stream --check r f",
+            "error: --stream is wanted without --check\n",
+        ),
+        (
+            "--replies r f",
+            "error: --replies OUT is wanted with --stream\n",
+        ),
+        (
+            "--stream --replies r f g",
+            "error: --replies OUT is wanted once a file\n",
         ),
         (
             "- f -",
@@ -181,6 +207,15 @@ fn words_and_options(rt: HostRuntime) -> Result<(), Fail> {
         (
             "--check r a b --check=s",
             "a b | 16 5000000 1000000 check r s",
+        ),
+        ("a --stream b", "a b | 16 5000000 1000000 stream"),
+        (
+            "--replies r a --stream --json",
+            "a | 16 5000000 1000000 json stream r",
+        ),
+        (
+            "--stream --replies - a --replies=s b",
+            "a b | 16 5000000 1000000 stream - s",
         ),
         (
             "--capacity=1024 --window 1099511627776 --limit 16777216 a",
@@ -230,6 +265,8 @@ fn version_and_help(rt: HostRuntime) -> Result<(), Fail> {
         "          [default: 1000000]\n\n      --frames\n          Prints each reply as its frame in hexadecimal, in place of words\n",
         "      --json\n          Prints each answer as a line of JSON\n",
         "      --check <REPLIES>\n          Compares with the reply frames of another resolver; once a FILE, in order\n",
+        "      --stream\n          Prints each answer as it comes, in the order of each proxy\n",
+        "      --replies <OUT>\n          With --stream, writes the records of answers to a file; once a FILE, in order\n",
         "Example:\n  replay --capacity 1 --frames examples/two_proxies examples/second_proxy\n",
     ] {
         assert!(rt; help.as_str().contains(part), "{part}");

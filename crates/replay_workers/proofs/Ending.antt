@@ -1,5 +1,5 @@
 -- How a worker leaves its request lane, and what it has done.
-use Rattle.std.specs.Prelude.{◌≡◌, ◌≤◌, ◌⊎◌, ℕ, Bool, true, false, List, length, Option, None, Some}
+use Rattle.std.specs.Prelude.{◌≡◌, ℕ, Bool, true, false, List, Option}
 use Rattle.std.proofs.Common.{refl, sym, subst, ◌∙◌, inl, inr}
 use Rattle.std.proofs.lemmas.Bool.{false≢true}
 use Rattle.keyspace.specs.declared.answer.Answer.{Answer}
@@ -10,7 +10,6 @@ use Rattle.replay_output.specs.declared.line.Line.{Line}
 use Rattle.replay_output.specs.declared.options.form.Form.{Form}
 use Rattle.replay_workers.specs.declared.worker.FileEnd.{FileEnd}
 use Rattle.replay_workers.specs.declared.worker.FileEnd.TheVariants.{Reached, Fault, Leaves}
-use Rattle.replay_workers.specs.declared.worker.Leftover.{Leftover}
 use Rattle.replay_workers.specs.declared.worker.Leftover.TheVariants.{CutShort, Worn}
 use Rattle.replay_workers.specs.Inbox.{KeepsLines}
 use Rattle.replay_workers.specs.Worker.{CannotSend, IfLeaves, LeavesLane, SendsFrames, is_cut_short, unsent_of}

@@ -8,3 +8,12 @@ pub mod Stopping
 pub mod Runs
 pub mod Keeping
 pub mod Ending
+pub mod Writing
+pub mod Recording
+pub mod Outlets
+pub mod Passing
+pub mod Rounds
+pub mod Streams
+pub mod Places
+pub mod Joining
+pub mod StreamRuns

@@ -1,5 +1,5 @@
 -- What was read, sent, answered and received of one proxy, put together.
-use Rattle.std.specs.Prelude.{◌≡◌, ℕ, ◌<◌, ◌≤◌, ◌⊎◌, ℤ, Bool, true, false, ◌&&◌, List, [], ◌∷◌, ◌++◌, length, Option, None, Some, option_to_list, Contains}
+use Rattle.std.specs.Prelude.{◌≡◌, ℕ, ◌<◌, ◌≤◌, ℤ, Bool, true, false, ◌&&◌, List, [], ◌∷◌, ◌++◌, length, Option, None, Some, option_to_list, Contains}
 use Rattle.std.proofs.Common.{refl, sym, ap, subst, ◌∙◌, append_assoc, append-nil, length-append, arith, inl, inr}
 use Rattle.std.proofs.lemmas.Bool.{false≢true}
 use Rattle.std.proofs.lemmas.List.Elements.{Contains-append_left}
@@ -38,7 +38,7 @@ none_worn requests None leaves closed few = refl
 none_worn requests (Some batch) leaves closed few = absurd (omega (arith, few, worn_lane requests batch leaves closed))
 
 -- if these are the first batches that were sent, with the one left over they aren't the same
-none_left : (batches held rest : List Batch) (unsent : Option Batch) → batches ≡ held ++ rest
+pub none_left : (batches held rest : List Batch) (unsent : Option Batch) → batches ≡ held ++ rest
     → batches ++ option_to_list unsent ≡ held → unsent ≡ None
 none_left batches held rest None is same = refl
 none_left batches held rest (Some batch) is same =
@@ -47,7 +47,7 @@ none_left batches held rest (Some batch) is same =
 -- the worker was given a client that had sent and taken nothing
 pub served : (window : ℤ) (form : Form) (log : List Step) (ended all_sent : Bool) (answers_sent : List Answer) (account : Account)
     (bytes : Option (List ℕ)) (proxy : ℕ) (given : Client) (finished : Finished) → given.requests.sent ≡ [] → given.requests.closed ≡ false
-    → given.replies.taken ≡ [] → HasWorked form proxy bytes given finished → SettledFor window log ended answers_sent account proxy finished.client
+    → given.replies.taken ≡ [] → HasWorked form proxy bytes given finished → SettledFor window [] log ended answers_sent account proxy finished.client
     → ((version : ℤ) (j : ℕ) → ReportsCommitted finished.client.replies.taken version j
     → IsCommittedAt (run window log).processed proxy version j)
     → (all_sent ≡ true → finished.unsent ≡ None) → (account.stop ≡ None → account.complete ≡ true)
@@ -114,7 +114,7 @@ served window form log ended all_sent answers_sent account bytes proxy given fin
 pub left_over : (window : ℤ) (form : Form) (log : List Step) (ended : Bool) (answers_sent : List Answer) (account : Account)
     (bytes : Option (List ℕ)) (proxy : ℕ) (given : Client) (finished : Finished) (batch : Batch) → given.requests.sent ≡ []
     → given.requests.closed ≡ false → HasWorked form proxy bytes given finished
-    → SettledFor window log ended answers_sent account proxy finished.client
+    → SettledFor window [] log ended answers_sent account proxy finished.client
     → account.complete ≡ true → finished.unsent ≡ Some batch
     → (left : Option (List ℕ)) × TakesFrames bytes left (part log proxy ++ batch ∷ []) × (MAX_SENT ≤ length (part log proxy))
 left_over window form log ended answers_sent account bytes proxy given finished batch none_sent fresh worked settled complete is =

@@ -1,5 +1,5 @@
 -- A resolver from turn to turn, with what the stop that it meets tells of its log.
-use Rattle.std.specs.Prelude.{◌≡◌, ℕ, ℤ, ◌<ℤ◌, ◌⊎◌, List, [], ◌∷◌, ◌++◌, length, Option, None, Some, IsSome, IfSome, Result, Ok, Err, OnOk, IfOk, IfErr, is_some}
+use Rattle.std.specs.Prelude.{◌≡◌, ℕ, ℤ, negsuc, ◌<ℤ◌, ◌⊎◌, List, [], ◌∷◌, ◌++◌, length, Option, None, Some, IsSome, IfSome, Result, Ok, Err, OnOk, IfOk, IfErr, is_some}
 use Rattle.std.proofs.Common.{refl, sym, ap, subst, ◌∙◌, inl, inr}
 use Rattle.keyspace.specs.declared.batch.Batch.{Batch}
 use Rattle.keyspace.specs.Run.{Step, Take, Finish, run}
@@ -10,7 +10,8 @@ use Rattle.resolver.specs.declared.turn.Turn.{Turn}
 use Rattle.resolver.specs.declared.turn.Turn.TheVariants as turn
 use Rattle.resolver.specs.Core.{CoreState, Given, GoesOn, StopsAtLimit}
 use Rattle.resolver.specs.Lanes.{sent_to}
-use Rattle.resolver.specs.Resolver.{ResolverState, StandsOver, TakesFrom, Finishes, TakesNoStep, StepsBy}
+use Rattle.resolver.specs.OpeningLog.{log_from}
+use Rattle.resolver.specs.Resolver.{ResolverState, StandsOver, StandsOverFrom, TakesFrom, Finishes, TakesNoStep, StepsBy}
 use Rattle.resolver.proofs.callers.Standing.{IsIn-standing}
 use Rattle.replay_workers.specs.Stops.{FillsArena, IsStopOf, IsAccountedFor}
 
@@ -65,13 +66,13 @@ module _ (old new : ResolverState) (goes : GoesOn old.core new.core) where
   -- no step, or the last
   finished_or_none : Finishes old new ⊎ TakesNoStep old new → new.core.stop ≡ None → IsAccountedFor old → IsAccountedFor new
   finished_or_none (inl step) none before =
-      accounted (before.log ++ Finish ∷ []) (step.adds before.log before.stands) None none tt
+      accounted (before.log ++ Finish ∷ []) (step.adds (negsuc 0) before.log before.stands) None none tt
   finished_or_none (inr step) none before =
-      accounted before.log (step.adds before.log before.stands) None none tt
+      accounted before.log (step.adds (negsuc 0) before.log before.stands) None none tt
 
   turned : (t : Turn) → StepsBy t old new → new.core.stop ≡ None → IsAccountedFor old → IsAccountedFor new
   turned (turn.Took proxy) step none before =
-      accounted (before.log ++ Take proxy step.batch ∷ []) (step.adds before.log before.stands) None none tt
+      accounted (before.log ++ Take proxy step.batch ∷ []) (step.adds (negsuc 0) before.log before.stands) None none tt
   turned turn.Idle step none before = finished_or_none step none before
   turned turn.Done step none before = finished_or_none step none before
 
@@ -93,15 +94,16 @@ module _ (old new : ResolverState) (goes : GoesOn old.core new.core) where
       → (stop ≡ resolver.ArenaFull → (log : List Step) → StandsOver old log → AtFullArena log)
       → IsAccountedFor old → IsAccountedFor new
   stopped_now resolver.Memory is was (inl took) gate arena before =
-      accounted (before.log ++ Take took.0 took.1.batch ∷ []) (took.1.adds before.log before.stands)
+      accounted (before.log ++ Take took.0 took.1.batch ∷ []) (took.1.adds (negsuc 0) before.log before.stands)
       (Some resolver.Memory) is tt
   stopped_now resolver.Memory is was (inr step) gate arena before =
-      accounted (before.log ++ Finish ∷ []) (step.adds before.log before.stands) (Some resolver.Memory) is tt
+      accounted (before.log ++ Finish ∷ []) (step.adds (negsuc 0) before.log before.stands)
+      (Some resolver.Memory) is tt
   stopped_now resolver.GateFull is was met gate arena before =
       let at = gate refl in
       let state = IsIn-standing old.core.stop before.log (sent_to old.lanes) old.core was before.stands.core in
       let log = before.log ++ Take at.0 at.1.batch ∷ [] in
-      accounted log (at.1.adds before.log before.stands) (Some resolver.GateFull) is (record {
+      accounted log (at.1.adds (negsuc 0) before.log before.stands) (Some resolver.GateFull) is (record {
         last = record { before = before.log; proxy = at.0; batch = at.1.batch; log_is = refl };
         ahead = subst (λ (version : ℤ). version <ℤ at.1.batch.previous) state.version at.2;
         full = ap length (sym state.held) ∙ at.3;
@@ -109,7 +111,7 @@ module _ (old new : ResolverState) (goes : GoesOn old.core new.core) where
   stopped_now resolver.ArenaFull is was met gate arena before =
       let at = arena refl before.log before.stands in
       let log = before.log ++ Take at.0 at.1.batch ∷ [] in
-      accounted log (at.1.adds before.log before.stands) (Some resolver.ArenaFull) is
+      accounted log (at.1.adds (negsuc 0) before.log before.stands) (Some resolver.ArenaFull) is
       (at_limit old.core.set.map.limit old.core.set.window before.log at.0 at.1.batch (sent_to new.lanes)
       new.core at.2)
 
@@ -117,7 +119,7 @@ module _ (old new : ResolverState) (goes : GoesOn old.core new.core) where
   stopped_before : (was : Option Stop) → old.core.stop ≡ was → IsSome was → (TakesNoStep old new)
       → new.core.stop ≡ was → IsAccountedFor old → IsAccountedFor new
   stopped_before was is some step stays before =
-      accounted before.log (step.adds before.log before.stands) was stays (subst (Met before.log) is before.met)
+      accounted before.log (step.adds (negsuc 0) before.log before.stands) was stays (subst (Met before.log) is before.met)
 
   erred : (stop : Stop) → (was : Option Stop) → old.core.stop ≡ was → new.core.stop ≡ Some stop
       → (old.core.stop ≡ None → ((proxy : ℕ) × TakesFrom proxy old new) ⊎ Finishes old new)
@@ -138,10 +140,10 @@ module _ (old new : ResolverState) (goes : GoesOn old.core new.core) where
       → (IsSome old.core.stop → TakesNoStep old new) → IfErr result (λ stop. new.core.stop ≡ Some stop)
       → IfSome old.core.stop (λ stop. result ≡ Err stop) → OnOk result (new.core.stop ≡ None)
       → (old.core.stop ≡ None → result ≡ Err resolver.GateFull → AtFullGate)
-      → (old.core.stop ≡ None → result ≡ Err resolver.ArenaFull → (log : List Step) → StandsOver old log
-      → AtFullArena log)
+      → (old.core.stop ≡ None → result ≡ Err resolver.ArenaFull → (version : ℤ) (log : List Step)
+      → StandsOverFrom version old log → AtFullArena (log_from version (length old.lanes) log))
       → IsAccountedFor old → IsAccountedFor new
   accounted_turn (Ok turn) step met no_step now stays none gate arena before = turned turn step none before
   accounted_turn (Err stop) step met no_step now stays none gate arena before =
       erred stop old.core.stop refl now met no_step stays (λ was is. gate was (ap Err is))
-      (λ was is. arena was (ap Err is)) before
+      (λ was is. arena was (ap Err is) (negsuc 0)) before

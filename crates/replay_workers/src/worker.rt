@@ -54,21 +54,23 @@ pub struct Finished {
     pub most_unanswered: MostUnanswered,
 }
 
-// How the reading of a file ended.
+/// How the reading of a file ended.
 #[derive(Drop)]
-enum FileEnd {
-    // All of it was read and sent.
+pub(crate) enum FileEnd {
+    /// All of it was read and sent.
     Reached,
+    /// The file has this fault.
     Fault(WireError),
+    /// The batch read last can't be sent.
     Leaves(Leftover),
 }
 
-// The batch that was read last and can't be sent.
+/// The batch that was read last and can't be sent.
 #[derive(Drop)]
-enum Leftover {
-    // The answers ended first.
+pub(crate) enum Leftover {
+    /// The answers ended first.
     CutShort(Batch),
-    // The lane takes no more.
+    /// The lane takes no more.
     Worn(Batch),
 }
 

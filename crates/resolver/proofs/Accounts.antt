@@ -1,17 +1,16 @@
 -- What a client knows of the log, from *Lane* of both of its lanes.
-use Rattle.std.proofs.Common.{◌≡◌, ℕ, suc, eqb, ◌<◌, ℤ, true, List, [], ◌∷◌, ◌++◌, length, map, Option, Some, None, sym, ap, subst, ◌∙◌, inl, inr, append-nil, length-append, arith}
+use Rattle.std.proofs.Common.{◌≡◌, ℕ, suc, eqb, ◌<◌, ◌≤◌, ℤ, true, List, [], ◌∷◌, ◌++◌, length, map, Option, Some, None, sym, ap, subst, ◌∙◌, inl, inr, append-nil, append_assoc, length-append, arith}
 use Rattle.std.specs.Prelude.{is_some, option_map, slice_get, slice_index_or, IsSomeAnd, Contains}
-use Rattle.std.proofs.lemmas.Bool.{false≢true, eqb-true, eq-eqb, cases_lt}
-use Rattle.std.proofs.lemmas.Option.{slice_get-map, slice_get_within, get_or_from_slice_get, none-some}
+use Rattle.std.proofs.lemmas.Bool.{false≢true, eqb-true, eq-eqb}
+use Rattle.std.proofs.lemmas.Option.{slice_get-map, slice_get_within, get_or_from_slice_get}
 use Rattle.std.proofs.lemmas.List.{nil_from_length, length-map, same_from_push}
 use Rattle.std.proofs.lemmas.List.Elements.{Contains-append_left}
 use Rattle.std.proofs.lemmas.List.Folds.{sum_by-zero}
 use Rattle.std.proofs.lemmas.List.Sums.{AllPass-from_list_all}
-use Rattle.keyspace.specs.declared.batch.Batch.{Batch}
 use Rattle.keyspace.specs.declared.answer.Answer.{Answer}
 use Rattle.keyspace.specs.declared.answer.Answer.TheVariants as answer
 use Rattle.keyspace.specs.Processed.{Processed}
-use Rattle.keyspace.specs.Run.{State, Step, step, run, answers, answers_to, part}
+use Rattle.keyspace.specs.Run.{State, Step, Finish, step, run, answers, answers_to, part}
 use Rattle.keyspace.specs.Laws.{RunsAreChains, EachBatchIsAnswered, NoneIsHeldAfterFinish, held_of}
 use Rattle.serial.specs.Serial.{ChainsAreSerializable}
 use Rattle.serial.specs.Replies.{IsSent, IsCommittedAt, ReportsCommitted, AnswersTellVerdicts}
@@ -21,14 +20,16 @@ use Rattle.resolver.specs.declared.turn.Account.{Account}
 use Rattle.resolver.specs.declared.client.Client.{Client}
 use Rattle.resolver.specs.Owed.{owed_to, owed_count}
 use Rattle.resolver.specs.Core.{CoreState, Given, IsBeginning, made_to}
-use Rattle.resolver.specs.Stands.{StandsBy}
+use Rattle.resolver.specs.Stands.{Stands, StandsBy}
+use Rattle.resolver.specs.OpeningLog.{opening_log, log_from}
 use Rattle.resolver.specs.Lanes.{Lanes, has_ended, all_ended, sent_to}
-use Rattle.resolver.specs.Resolver.{StandsOver, TakesOnlyFrom, FinishesBy, FinishesLast}
+use Rattle.resolver.specs.Resolver.{StandsOverFrom, TakesOnlyFrom, FinishesBy, FinishesLast}
 use Rattle.resolver.specs.Parts.{ProxyLanesView, Parts, AreParts, lanes_of, owed_with, resolver_of}
-use Rattle.resolver.specs.Settled.{Settled, SettledFor, ReceivesAnswers, LearnsVerdicts, IsComplete}
+use Rattle.resolver.specs.Settled.{SettledFrom, SettledFor, ReceivesAnswers, LearnsVerdicts, IsComplete}
 use Rattle.resolver.proofs.Growing.{begins_itself, begins_then, begins_answers_to, grows_step}
 use Rattle.resolver.proofs.Standing.{run-more, IsIn-standing}
-use Rattle.resolver.proofs.OnlyFrom.{none_of_others, stands_only}
+use Rattle.resolver.proofs.OnlyFrom.{stands_only}
+use Rattle.resolver.proofs.FromVersion.{Stands-as_many, part_of_proxy, known_sender}
 use Rattle.resolver.proofs.Settling.{lanes_at}
 use Rattle.resolver.proofs.Unchanged.{LanesHold, slice_get_inside}
 
@@ -167,17 +168,31 @@ module _ (p : Parts) (are : AreParts p) (clients : List Client) (count : length 
       (ended.all ∙ replies.all_seen ended.close)
       ∙ sym (field proxy l.0 l.1 (λ k. k.replies.sent) [])
 
-  module _ (log : List Step) (stands : StandsOver (resolver_of p) log) where
+  module _ (version : ℤ) (log : List Step) (stands : StandsOverFrom version (resolver_of p) log) where
+    abbrev opening : List Step
+    opening = opening_log (length clients) version
+
+    -- the log over which the reference resolver runs
+    abbrev whole : List Step
+    whole = log_from version (length clients) log
+
+    as_many : length clients ≡ length lanes
+    as_many = count ∙ sym (length-map p.all_lanes (λ k. k.lanes))
+
+    core_stands : Stands core whole (sent_to lanes)
+    core_stands = Stands-as_many core (sent_to lanes) version (length lanes) (length clients) log as_many stands.core
+
     -- the log finishes
     pub finishes : IsComplete (resolver_of p) clients → FinishesLast log
     finishes complete =
         subst (λ ended. FinishesBy ended log) (have_ended complete) (stands.finish complete.no_stop)
 
     -- and so no batch is held
-    holds_none : NoneIsHeldAfterFinish → IsComplete (resolver_of p) clients → (run core.set.window log).held ≡ []
+    holds_none : NoneIsHeldAfterFinish → IsComplete (resolver_of p) clients → (run core.set.window whole).held ≡ []
     holds_none none complete =
         let last = finishes complete in
-        subst (λ steps. (run core.set.window steps).held ≡ []) (sym last.1) (none core.set.window last.0)
+        let whole_is = ap (λ (steps : List Step). opening ++ steps) last.1 ∙ sym (append_assoc opening last.0 (Finish ∷ [])) in
+        subst (λ steps. (run core.set.window steps).held ≡ []) (sym whole_is) (none core.set.window (opening ++ last.0))
 
     module _ (proxy : ℕ) (c : Client) (l : ProxyLanesView) (c_at : slice_get clients proxy ≡ Some c)
         (l_at : slice_get p.all_lanes proxy ≡ Some l) (requests : Lane c.requests l.lanes.requests)
@@ -194,6 +209,10 @@ module _ (p : Parts) (are : AreParts p) (clients : List Client) (count : length 
       sent_is : sent_to lanes proxy ≡ l.lanes.replies.sent
       sent_is = field proxy l l_at (λ k. k.replies.sent) []
 
+      -- the log that starts at the version takes the same from it
+      part_same : part whole proxy ≡ part log proxy
+      part_same = part_of_proxy version (length clients) log proxy (slice_get_within clients proxy c c_at)
+
       part_is : part log proxy ≡ l.lanes.requests.taken
       part_is = stands.parts proxy ∙ field proxy l l_at (λ k. k.requests.taken) []
 
@@ -201,11 +220,11 @@ module _ (p : Parts) (are : AreParts p) (clients : List Client) (count : length 
       made_is = ap (λ sent. sent ++ owed_to proxy core.owed) sent_is
 
       -- what was sent begins the answers of the reference resolver
-      sent_begins : IsBeginning l.lanes.replies.sent (answers core.set.window log proxy)
+      sent_begins : IsBeginning l.lanes.replies.sent (answers core.set.window whole proxy)
       sent_begins =
-          begins_then l.lanes.replies.sent (made_to proxy (sent_to lanes) core) (answers core.set.window log proxy)
+          begins_then l.lanes.replies.sent (made_to proxy (sent_to lanes) core) (answers core.set.window whole proxy)
           (owed_to proxy core.owed, made_is)
-          (made_begins p.core.stop log (sent_to lanes) core stands.core proxy inside)
+          (made_begins p.core.stop whole (sent_to lanes) core core_stands proxy inside)
 
       -- if the reply lanes were closed, all that was made was sent
       made_sent : p.closed ≡ true → made_to proxy (sent_to lanes) core ≡ l.lanes.replies.sent
@@ -216,13 +235,13 @@ module _ (p : Parts) (are : AreParts p) (clients : List Client) (count : length 
           ∙ append-nil l.lanes.replies.sent
 
       -- and is all of them, if the reply lanes were closed and no stop was met
-      sent_all : p.closed ≡ true → p.core.stop ≡ None → l.lanes.replies.sent ≡ answers core.set.window log proxy
+      sent_all : p.closed ≡ true → p.core.stop ≡ None → l.lanes.replies.sent ≡ answers core.set.window whole proxy
       sent_all closed none =
-          let state = IsIn-standing p.core.stop log (sent_to lanes) core none stands.core in
+          let state = IsIn-standing p.core.stop whole (sent_to lanes) core none core_stands in
           sym (made_sent closed) ∙ state.answers proxy inside
 
-      whole : HasEnded l.lanes.requests → l.lanes.requests.taken ≡ c.requests.sent
-      whole ended =
+      all_taken : HasEnded l.lanes.requests → l.lanes.requests.taken ≡ c.requests.sent
+      all_taken ended =
           begins_whole l.lanes.requests.taken c.requests.sent requests.in_order
           (ended.all ∙ requests.all_seen ended.close)
 
@@ -235,30 +254,33 @@ module _ (p : Parts) (are : AreParts p) (clients : List Client) (count : length 
           begins_whole c.replies.taken l.lanes.replies.sent replies.in_order (ended.all ∙ replies.all_seen ended.close)
 
       -- each of its batches has its answer, where none is held
-      one_each : EachBatchIsAnswered → (run core.set.window log).held ≡ []
-          → c.replies.taken ≡ answers core.set.window log proxy → part log proxy ≡ c.requests.sent
+      one_each : EachBatchIsAnswered → (run core.set.window whole).held ≡ []
+          → c.replies.taken ≡ answers core.set.window whole proxy → part log proxy ≡ c.requests.sent
           → length c.replies.taken ≡ length c.requests.sent
       one_each once none received batches =
-          let told = once core.set.window log proxy in
+          let told = once core.set.window whole proxy in
           let left = ap (λ held. length (held_of proxy held)) none in
           let as_answers = ap length received in
-          let as_batches = ap length batches in
+          let as_batches = ap length (part_same ∙ batches) in
           omega (arith, told, left, as_answers, as_batches)
 
       -- it has received a prefix of the answers of the reference resolver
-      received : IsBeginning c.replies.taken (answers core.set.window log proxy)
+      received : IsBeginning c.replies.taken (answers core.set.window whole proxy)
       received =
-          begins_then c.replies.taken l.lanes.replies.sent (answers core.set.window log proxy) replies.in_order sent_begins
+          begins_then c.replies.taken l.lanes.replies.sent (answers core.set.window whole proxy) replies.in_order sent_begins
 
       -- the log holds a prefix of its batches
       batches : IsBeginning (part log proxy) c.requests.sent
       batches = subst (λ taken. IsBeginning taken c.requests.sent) (sym part_is) requests.in_order
 
+      whole_batches : IsBeginning (part whole proxy) c.requests.sent
+      whole_batches = subst (λ taken. IsBeginning taken c.requests.sent) (sym part_same) batches
+
       -- a transaction that was reported to it as committed is committed
       reported : AnswersTellVerdicts → (version : ℤ) (j : ℕ) → ReportsCommitted c.replies.taken version j
-          → IsCommittedAt (run core.set.window log).processed proxy version j
+          → IsCommittedAt (run core.set.window whole).processed proxy version j
       reported tell version j reports =
-          tell.reported core.set.window log proxy version j (record {
+          tell.reported core.set.window whole proxy version j (record {
             reply = reports.reply;
             is_received = Contains-beginning c.replies.taken _ (answer.Reply reports.reply) received reports.is_received;
             at_version = reports.at_version;
@@ -274,16 +296,16 @@ module _ (p : Parts) (are : AreParts p) (clients : List Client) (count : length 
         requests_ended ended = are.ended proxy l.lanes at (sym ended_is ∙ ended)
 
         all_batches : has_ended lanes proxy ≡ true → part log proxy ≡ c.requests.sent
-        all_batches ended = part_is ∙ whole (requests_ended ended)
+        all_batches ended = part_is ∙ all_taken (requests_ended ended)
 
-        all_received : account.complete ≡ true → c.replies.taken ≡ answers core.set.window log proxy
+        all_received : account.complete ≡ true → c.replies.taken ≡ answers core.set.window whole proxy
         all_received done =
             (is done).taken proxy c c_at ∙ sent_is ∙ sent_all (was_closed (is done)) (is done).no_stop
 
         every_ended : account.complete ≡ true → has_ended lanes proxy ≡ true
         every_ended done = ended_is ∙ ended_at lanes proxy l.lanes (have_ended (is done)) at
 
-        receives : ReceivesAnswers core.set.window log (sent_to lanes proxy) account proxy c
+        receives : ReceivesAnswers core.set.window opening log (sent_to lanes proxy) account proxy c
         receives = record {
           received = received;
           all_received = all_received;
@@ -294,26 +316,29 @@ module _ (p : Parts) (are : AreParts p) (clients : List Client) (count : length 
           all_unless_stopped = λ ended no_stop.
               taken_whole ended ∙ sent_all (closed_at ended) (sym stop ∙ no_stop);
           all_before_last = λ ended before last is_log.
-              subst (IsBeginning (answers core.set.window before proxy))
+              let whole_is = ap (λ (steps : List Step). opening ++ steps) is_log
+              ∙ sym (append_assoc opening before (last ∷ [])) in
+              subst (IsBeginning (answers core.set.window (opening ++ before) proxy))
               (made_sent (closed_at ended) ∙ sym (taken_whole ended))
-              (made_before_last p.core.stop log (sent_to lanes) core stands.core before last is_log proxy inside);
+              (made_before_last p.core.stop whole (sent_to lanes) core core_stands (opening ++ before) last whole_is proxy
+              inside);
         }
 
-        learns : LearnsVerdicts core.set.window log account proxy c
+        learns : LearnsVerdicts core.set.window opening log account proxy c
         learns = record {
           replies = λ reply among.
-              tell.replies core.set.window log proxy c.requests.sent batches.0 batches.1 reply
+              tell.replies core.set.window whole proxy c.requests.sent whole_batches.0 whole_batches.1 reply
               (Contains-beginning c.replies.taken _ (answer.Reply reply) received among);
           all_replies = λ done entry there own.
               subst (λ taken. Contains taken (answer.Reply entry.reply)) (sym (all_received done))
-              (subst (λ q. Contains (answers core.set.window log q) (answer.Reply entry.reply)) own
-              (tell.answered core.set.window log entry there));
+              (subst (λ q. Contains (answers core.set.window whole q) (answer.Reply entry.reply)) own
+              (tell.answered core.set.window whole entry there));
           all_reported = λ done version j committed.
               subst (λ taken. ReportsCommitted taken version j) (sym (all_received done))
-              (tell.all_reported core.set.window log proxy version j committed);
+              (tell.all_reported core.set.window whole proxy version j committed);
         }
 
-        pub settled_for : SettledFor core.set.window log (has_ended lanes proxy) (sent_to lanes proxy) account proxy c
+        pub settled_for : SettledFor core.set.window opening log (has_ended lanes proxy) (sent_to lanes proxy) account proxy c
         settled_for = record {
           batches = batches;
           all_batches = all_batches;
@@ -328,9 +353,9 @@ module _ (p : Parts) (are : AreParts p) (clients : List Client) (count : length 
         → ChainsAreSerializable → AnswersTellVerdicts
         → (account : Account)
         → (account.complete ≡ true → IsComplete (resolver_of p) clients) → account.stop ≡ p.core.stop
-        → Settled core.set.window log lanes clients account
+        → SettledFrom version core.set.window log lanes clients account
     settled holds chains once none serializable tell account is stop = record {
-      serializable = serializable core.set.window (run core.set.window log).processed (chains core.set.window log);
+      serializable = serializable core.set.window (run core.set.window whole).processed (chains core.set.window whole);
       reported = λ proxy c at.
           let l = proxy_lanes_of proxy c at in
           let both = holds proxy l.0 c l.1 at in
@@ -341,36 +366,24 @@ module _ (p : Parts) (are : AreParts p) (clients : List Client) (count : length 
           settled_for proxy c l.0 at l.1 both.0 both.1 once none tell account is stop;
       proxies = only;
       from_clients = from_clients;
-      chain = chains core.set.window log;
+      chain = chains core.set.window whole;
       finish = λ done. finishes (is done);
       none_held = λ done. holds_none none (is done);
       no_stop = λ done. stop ∙ (is done).no_stop;
     }
       where
-        as_many : length lanes ≡ length clients
-        as_many = length-map p.all_lanes (λ k. k.lanes) ∙ sym count
-
         only : TakesOnlyFrom (length clients) log
-        only = subst (λ many. TakesOnlyFrom many log) as_many (stands_only (resolver_of p) log stands)
+        only = subst (λ many. TakesOnlyFrom many log) (sym as_many) (stands_only version (resolver_of p) log stands)
 
-        -- the client of a proxy from which the log takes something
-        client_of : (proxy n : ℕ) (b : Batch) → slice_get (part log proxy) n ≡ Some b
-            → (c : Client) × (slice_get clients proxy ≡ Some c)
-        client_of proxy n b there = elim (cases_lt proxy (length clients)) [
-          | inl known ↦ slice_get_inside clients proxy known
-          | inr past ↦
-              absurd (none-some b (sym (ap (λ batches. slice_get batches n) (none_of_others (length clients) log only proxy past))
-              ∙ there))
-        ]
-
-        from_clients : (index : ℕ) (entry : Processed) → slice_get (run core.set.window log).processed index ≡ Some entry
-            → IsSomeAnd (slice_get clients entry.proxy) (λ c. IsSent core.set.window log c.requests.sent index entry)
-        from_clients index entry at =
-            let own = part log entry.proxy in
-            let by_log = tell.sent core.set.window log index entry at own [] (sym (append-nil own)) in
-            let c = client_of entry.proxy (length (part by_log.before entry.proxy)) entry.batch by_log.next in
+        from_clients : (index : ℕ) (entry : Processed)
+            → slice_get (run core.set.window whole).processed index ≡ Some entry
+            → length (run core.set.window opening).processed ≤ index
+            → IsSomeAnd (slice_get clients entry.proxy) (λ c. IsSent core.set.window whole c.requests.sent index entry)
+        from_clients index entry at later =
+            let known = known_sender core.set.window (length clients) log chains tell only version index entry at later in
+            let c = slice_get_inside clients entry.proxy known in
             let l = proxy_lanes_of entry.proxy c.0 c.1 in
             let both = holds entry.proxy l.0 c.0 l.1 c.1 in
-            let sent = batches entry.proxy c.0 l.0 c.1 l.1 both.0 both.1 in
-            some_at (λ c. IsSent core.set.window log c.requests.sent index entry) (slice_get clients entry.proxy) c.0 c.1
-            (tell.sent core.set.window log index entry at c.0.requests.sent sent.0 sent.1)
+            let sent = whole_batches entry.proxy c.0 l.0 c.1 l.1 both.0 both.1 in
+            some_at (λ c. IsSent core.set.window whole c.requests.sent index entry) (slice_get clients entry.proxy) c.0 c.1
+            (tell.sent core.set.window whole index entry at c.0.requests.sent sent.0 sent.1)

@@ -1,6 +1,6 @@
 -- All reply lanes of a resolver were closed.
 use Rattle.std.proofs.Common.{◌≡◌, ℕ, true, List, ◌++◌, length, Some, None, sym, ap, subst, ◌∙◌, refl, inl, inr, arith}
-use Rattle.std.specs.Prelude.{◌↔◌, is_some, slice_get}
+use Rattle.std.specs.Prelude.{ℤ, ◌↔◌, is_some, slice_get}
 use Rattle.std.proofs.lemmas.Bool.{true≢false}
 use Rattle.std.proofs.lemmas.List.{length-map}
 use Rattle.std.proofs.lemmas.Option.{slice_get_past, none-some}
@@ -8,7 +8,8 @@ use Rattle.keyspace.specs.Run.{Step}
 use Rattle.lane.specs.Lane.{HasEnded}
 use Rattle.resolver.specs.Owed.{owed_to, owed_count}
 use Rattle.resolver.specs.Lanes.{Lanes, Each, sent_to, all_ended}
-use Rattle.resolver.specs.Resolver.{ResolverState, StandsOver, IsThrough}
+use Rattle.resolver.specs.OpeningLog.{log_from}
+use Rattle.resolver.specs.Resolver.{ResolverState, StandsOverFrom, IsThrough}
 use Rattle.resolver.specs.Parts.{ProxyLanesView, Parts, AreParts, EachProxy, lanes_of, owed_with, closed_proxy_lanes, resolver_of}
 use Rattle.resolver.proofs.AtIndex.{field_same, both_at, each_lanes, owed_with-length, owed_with-same}
 use Rattle.resolver.proofs.Handed.{StandsBy-moved}
@@ -18,7 +19,7 @@ use Rattle.resolver.proofs.Logged.{stands_same}
 -- what a close ensures of a resolver
 abbrev pub ClosedOver : ResolverState → ResolverState → Type 0
 ClosedOver old new = record {
-  stands : (log : List Step) → StandsOver old log → StandsOver new log;
+  stands : (version : ℤ) (log : List Step) → StandsOverFrom version old log → StandsOverFrom version new log;
   closed : (p : ℕ) (l : Lanes) → slice_get new.lanes p ≡ Some l → (l.replies.closed ≡ true) ↔ IsThrough new;
   core : new.core ≡ old.core;
   lanes : Each (λ _ l m. m ≡ record l { replies = record l.replies { closed = m.replies.closed } }) old.lanes new.lanes;
@@ -104,19 +105,21 @@ module _ (parts : Parts) (are : AreParts parts) (through : IsThrough (resolver_o
         | inr stopped ↦ absurd (true≢false (sym stopped ∙ ap is_some running))
       ]
 
-  stands_after : (log : List Step) → StandsOver (resolver_of parts) log → StandsOver (resolver_of closed_parts) log
-  stands_after log stands =
+  stands_after : (version : ℤ) (log : List Step) → StandsOverFrom version (resolver_of parts) log
+      → StandsOverFrom version (resolver_of closed_parts) log
+  stands_after version log stands =
       let old = resolver_of parts in
       let new = resolver_of closed_parts in
       let none_taken = field_same (λ (l : Lanes). l.requests.taken) old.lanes new.lanes each_lane.count
       (λ p l m at_old at_new. ap (λ (x : Lanes). x.requests.taken) (each_lane.each p l m at_old at_new)) in
       let none_sent = field_same (λ (l : Lanes). l.replies.sent) old.lanes new.lanes each_lane.count
       (λ p l m at_old at_new. ap (λ (x : Lanes). x.replies.sent) (each_lane.each p l m at_old at_new)) in
-      stands_same old new log refl ended_same none_taken stands
+      stands_same old new version log each_lane.count refl ended_same none_taken stands
       (StandsBy-moved (sent_to old.lanes) (sent_to new.lanes) old.core new.core.owed
       (ap length owed_same)
       (λ p _. ap (λ xs. xs ++ owed_to p new.core.owed) (none_sent p)
-      ∙ ap (λ owed. sent_to old.lanes p ++ owed_to p owed) owed_same) old.core.stop log stands.core)
+      ∙ ap (λ owed. sent_to old.lanes p ++ owed_to p owed) owed_same) old.core.stop
+      (log_from version (length old.lanes) log) stands.core)
       (λ running p m at closed. ended_of running)
 
   closed_over : ClosedOver (resolver_of parts) (resolver_of closed_parts)

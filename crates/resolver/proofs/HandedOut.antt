@@ -1,6 +1,6 @@
 -- Answers were handed out over the pairs of lanes of a resolver.
 use Rattle.std.proofs.Common.{◌≡◌, ◌≢◌, ℕ, zero, suc, ◌<◌, ◌≤◌, Bool, true, List, [], ◌∷◌, ◌++◌, length, Some, sym, ap, subst, ◌∙◌, refl, inl, inr, arith}
-use Rattle.std.specs.Prelude.{◌⊎◌, option_to_list, slice_get}
+use Rattle.std.specs.Prelude.{ℤ, ◌⊎◌, option_to_list, slice_get}
 use Rattle.std.specs.List.{list_all}
 use Rattle.std.proofs.lemmas.Option.{slice_get_within, slice_get_past, none-some}
 use Rattle.std.proofs.lemmas.List.{length-map, length-append, get_or_past, nil_from_length}
@@ -11,7 +11,8 @@ use Rattle.lane.specs.Lane.{PortGoesOn, HasEnded}
 use Rattle.resolver.specs.Owed.{owed_to, owed_count}
 use Rattle.resolver.specs.Core.{CoreState, made_to}
 use Rattle.resolver.specs.Lanes.{Lanes, Each, sent_to, all_ended, IsFull}
-use Rattle.resolver.specs.Resolver.{ResolverState, StandsOver, SameBut, IsThrough}
+use Rattle.resolver.specs.OpeningLog.{log_from}
+use Rattle.resolver.specs.Resolver.{ResolverState, StandsOverFrom, SameBut, IsThrough}
 use Rattle.resolver.specs.Parts.{ProxyLanesView, Parts, AreParts, EachProxy, HandsOut, OwesOnly, lanes_of, owed_with, made_over, resolver_of}
 use Rattle.resolver.proofs.AtIndex.{field_at, field_past, field_same, lanes_at, both_at, each_lanes, owed_with-at, owed_with-length}
 use Rattle.resolver.proofs.Handed.{StandsBy-moved}
@@ -124,7 +125,7 @@ module _ (before after : List (List Answer)) (all_lanes now : List ProxyLanesVie
 -- what a handing out ensures of a resolver
 abbrev pub HandedOver : ResolverState → ResolverState → Type 0
 HandedOver old new = record {
-  stands : (log : List Step) → StandsOver old log → StandsOver new log;
+  stands : (version : ℤ) (log : List Step) → StandsOverFrom version old log → StandsOverFrom version new log;
   made : (p : ℕ) → made_to p (sent_to new.lanes) new.core ≡ made_to p (sent_to old.lanes) old.core;
   owed : Each (λ p l m. owed_to p new.core.owed ≢ [] → IsFull l m) old.lanes new.lanes;
   lanes : Each (λ _ l m. (m ≡ record l { replies = m.replies }) × PortGoesOn l.replies m.replies) old.lanes new.lanes;
@@ -220,19 +221,20 @@ module _ (parts : Parts) (are : AreParts parts) (core : CoreState) (only : OwesO
   made_alike : (p : ℕ) → sent_to (lanes_of now) p ++ owed_to p after ≡ sent_to (lanes_of parts.all_lanes) p ++ owed_to p before
   made_alike = made_same parts.core.owed core.owed parts.all_lanes now only.count are.count each
 
-  stands_after : (log : List Step) → StandsOver (resolver_of parts) log → StandsOver (resolver_of handed_parts) log
-  stands_after log stands =
+  stands_after : (version : ℤ) (log : List Step) → StandsOverFrom version (resolver_of parts) log
+      → StandsOverFrom version (resolver_of handed_parts) log
+  stands_after version log stands =
       let old = resolver_of parts in
       let new = resolver_of handed_parts in
       let none_taken = field_same (λ (l : Lanes). l.requests.taken) old.lanes new.lanes each_lane.count
       (λ p l m at_old at_new. ap (λ (x : Lanes). x.requests.taken) (each_lane.each p l m at_old at_new).0) in
       let closed_same = λ (p : ℕ) (l m : Lanes) (at_old : slice_get old.lanes p ≡ Some l)
       (at_new : slice_get new.lanes p ≡ Some m). (each_lane.each p l m at_old at_new).2 in
-      stands_same old new log refl ended_same none_taken stands
+      stands_same old new version log each_lane.count refl ended_same none_taken stands
       (StandsBy-moved (sent_to old.lanes) (sent_to new.lanes) old.core after same_count
-      (λ p _. made_alike p) old.core.stop log stands.core)
+      (λ p _. made_alike p) old.core.stop (log_from version (length old.lanes) log) stands.core)
       (λ running p m at closed.
-      ended_same ∙ was_closed old new log each_lane.count closed_same running stands p m at closed)
+      ended_same ∙ was_closed old new version log each_lane.count closed_same running stands p m at closed)
 
   handed_over : HandedOver (resolver_of parts) (resolver_of handed_parts)
   handed_over = record {

@@ -11,6 +11,10 @@ pub mod Finishing
 pub mod Standing
 pub mod AtIndex
 pub mod Handed
+pub mod NewCore
+pub mod OpenedCore
+pub mod FromVersion
+pub mod ReadingFrom
 pub mod Logged
 pub mod OnlyFrom
 pub mod Resolving
@@ -27,5 +31,3 @@ pub mod Settling
 pub mod Unchanged
 pub mod Accounts
 pub mod Shares
-pub mod NewCore
-pub mod OpenedCore

@@ -1,14 +1,16 @@
 -- A resolver over lanes stands for a log of one step more.
 use Rattle.std.proofs.Common.{◌≡◌, ℕ, ◌==◌, cond, Bool, true, false, List, [], ◌∷◌, ◌++◌, length, Some, None, sym, ap, subst, ◌∙◌, refl, inl, inr}
-use Rattle.std.specs.Prelude.{slice_get}
+use Rattle.std.specs.Prelude.{ℤ, slice_get}
 use Rattle.std.proofs.lemmas.Bool.{true≢false}
 use Rattle.std.proofs.lemmas.Option.{same_Some, none-some, slice_get_past}
 use Rattle.keyspace.specs.declared.batch.Batch.{Batch}
 use Rattle.keyspace.specs.Run.{Step, Take, Finish, part}
 use Rattle.resolver.specs.Stands.{Stands}
 use Rattle.resolver.specs.Lanes.{Lanes, sent_to, all_ended, TakesOne, TakesNone}
-use Rattle.resolver.specs.Resolver.{ResolverState, HasNoFinish, FinishesBy, StandsOver}
+use Rattle.resolver.specs.OpeningLog.{log_from}
+use Rattle.resolver.specs.Resolver.{ResolverState, HasNoFinish, FinishesBy, StandsOverFrom}
 use Rattle.resolver.proofs.AtIndex.{both_at}
+use Rattle.resolver.proofs.FromVersion.{Stands-more, Stands-as_many}
 
 -- the part of a proxy, once one batch more was taken
 pub part-taken : (log : List Step) (proxy : ℕ) (batch : Batch) (other : ℕ)
@@ -53,9 +55,10 @@ finishes : (ended : Bool) (log : List Step) → ended ≡ false → FinishesBy e
 finishes ended log is = subst (λ e. FinishesBy e log) is
 
 -- the resolver later, with as many lanes, and none closed that wasn't
-module _ (old new : ResolverState) (log : List Step) (count : length new.lanes ≡ length old.lanes)
+module _ (old new : ResolverState) (version : ℤ) (log : List Step) (count : length new.lanes ≡ length old.lanes)
     (replies : (p : ℕ) (l m : Lanes) → slice_get old.lanes p ≡ Some l → slice_get new.lanes p ≡ Some m
-    → m.replies.closed ≡ l.replies.closed) (running : old.core.stop ≡ None) (s : StandsOver old log) where
+    → m.replies.closed ≡ l.replies.closed) (running : old.core.stop ≡ None)
+    (s : StandsOverFrom version old log) where
   -- a lane that is closed was closed
   pub was_closed : (p : ℕ) (m : Lanes) → slice_get new.lanes p ≡ Some m → m.replies.closed ≡ true
       → all_ended old.lanes ≡ true
@@ -71,10 +74,12 @@ module _ (old new : ResolverState) (log : List Step) (count : length new.lanes �
   -- a batch of the proxy was taken
   pub stands_taken : (proxy : ℕ) (batch : Batch) → TakesOne proxy batch old.lanes new.lanes
       → all_ended old.lanes ≡ false → all_ended new.lanes ≡ false
-      → Stands new.core (log ++ Take proxy batch ∷ []) (sent_to new.lanes)
-      → StandsOver new (log ++ Take proxy batch ∷ [])
+      → Stands new.core (log_from version (length old.lanes) log ++ Take proxy batch ∷ []) (sent_to new.lanes)
+      → StandsOverFrom version new (log ++ Take proxy batch ∷ [])
   stands_taken proxy batch takes before after core = record {
-    core = core;
+    core =
+        Stands-more new.core (sent_to new.lanes) version (length old.lanes) (length new.lanes) log
+        (Take proxy batch ∷ []) count core;
     parts = λ other.
         part-taken log proxy batch other
         ∙ ap (λ bs. cond (proxy == other) (bs ++ batch ∷ []) bs) (s.parts other)
@@ -87,10 +92,13 @@ module _ (old new : ResolverState) (log : List Step) (count : length new.lanes �
 
   -- the last request lane has ended
   pub stands_finished : TakesNone old.lanes new.lanes → all_ended old.lanes ≡ false
-      → all_ended new.lanes ≡ true → Stands new.core (log ++ Finish ∷ []) (sent_to new.lanes)
-      → StandsOver new (log ++ Finish ∷ [])
+      → all_ended new.lanes ≡ true
+      → Stands new.core (log_from version (length old.lanes) log ++ Finish ∷ []) (sent_to new.lanes)
+      → StandsOverFrom version new (log ++ Finish ∷ [])
   stands_finished takes before after core = record {
-    core = core;
+    core =
+        Stands-more new.core (sent_to new.lanes) version (length old.lanes) (length new.lanes) log (Finish ∷ []) count
+        core;
     parts = λ other. part-finished log other ∙ s.parts other ∙ sym (takes other);
     finish = λ still.
         subst (λ e. FinishesBy e (log ++ Finish ∷ [])) (sym after)
@@ -99,13 +107,14 @@ module _ (old new : ResolverState) (log : List Step) (count : length new.lanes �
   }
 
 -- nothing was taken, and answers at most have moved
-module _ (old new : ResolverState) (log : List Step) (stop : new.core.stop ≡ old.core.stop) (ended : all_ended new.lanes ≡ all_ended old.lanes)
-    (takes : TakesNone old.lanes new.lanes) (s : StandsOver old log) where
-  pub stands_same : Stands new.core log (sent_to new.lanes)
+module _ (old new : ResolverState) (version : ℤ) (log : List Step) (count : length new.lanes ≡ length old.lanes)
+    (stop : new.core.stop ≡ old.core.stop) (ended : all_ended new.lanes ≡ all_ended old.lanes)
+    (takes : TakesNone old.lanes new.lanes) (s : StandsOverFrom version old log) where
+  pub stands_same : Stands new.core (log_from version (length old.lanes) log) (sent_to new.lanes)
       → (new.core.stop ≡ None → (p : ℕ) (m : Lanes) → slice_get new.lanes p ≡ Some m → m.replies.closed ≡ true
-      → all_ended new.lanes ≡ true) → StandsOver new log
+      → all_ended new.lanes ≡ true) → StandsOverFrom version new log
   stands_same core closed = record {
-    core = core;
+    core = Stands-as_many new.core (sent_to new.lanes) version (length old.lanes) (length new.lanes) log count core;
     parts = λ other. s.parts other ∙ sym (takes other);
     finish = λ still. subst (λ e. FinishesBy e log) (sym ended) (s.finish (sym stop ∙ still));
     closed = closed;

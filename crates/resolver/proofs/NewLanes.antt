@@ -27,7 +27,7 @@ use Rattle.std.specs.Prelude.{All, option_to_list, slice_get}
 use Rattle.std.proofs.lemmas.Option.{none-some, same_Some}
 use Rattle.std.proofs.lemmas.List.Elements.{All-head, All-tail}
 use Rattle.keyspace.specs.declared.answer.Answer.{Answer}
-use Rattle.keyspace.specs.Run.{run}
+use Rattle.keyspace.specs.Run.{Step, run}
 use Rattle.resolver.specs.Owed.{owed_to}
 use Rattle.resolver.specs.Core.{CoreState, Given, IsIn}
 use Rattle.resolver.specs.Stands.{Stands, StandsBy}
@@ -73,13 +73,13 @@ new_proxy_lanes_at (m ∷ all_lanes) new zero l at =
 new_proxy_lanes_at (m ∷ all_lanes) new (suc proxy) l at =
     new_proxy_lanes_at all_lanes (All-tail AreNewLanes m all_lanes new) proxy l at
 
--- a core stands for the empty log with them, as without
-pub Stands-new : (core : CoreState) (all_lanes : List ProxyLanesView) → core.stop ≡ None → All AreNewLanes all_lanes
-    → Stands core [] (λ _. [])
-    → Stands (record core { owed = owed_with all_lanes core.owed }) []
+-- a core stands for a log with them, as without
+pub Stands-new : (core : CoreState) (all_lanes : List ProxyLanesView) (log : List Step) → core.stop ≡ None
+    → All AreNewLanes all_lanes → Stands core log (λ _. [])
+    → Stands (record core { owed = owed_with all_lanes core.owed }) log
     (sent_to (lanes_of all_lanes))
-Stands-new core all_lanes none new stands =
-    subst (λ stop. StandsBy stop [] given proxy_lanesed) (sym none) (record {
+Stands-new core all_lanes log none new stands =
+    subst (λ stop. StandsBy stop log given proxy_lanesed) (sym none) (record {
       version = are.version;
       held = are.held;
       kept = are.kept;
@@ -102,5 +102,5 @@ Stands-new core all_lanes none new stands =
     same : owed ≡ core.owed
     same = owed_with-new all_lanes core.owed new
 
-    are : IsIn (run core.set.window []) (λ _. []) core
-    are = IsIn-standing core.stop [] (λ _. []) core none stands
+    are : IsIn (run core.set.window log) (λ _. []) core
+    are = IsIn-standing core.stop log (λ _. []) core none stands

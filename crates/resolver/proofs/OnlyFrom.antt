@@ -1,9 +1,10 @@
 -- A log that takes batches of so many proxies alone takes nothing from any other, and the other way round.
 use Rattle.std.proofs.Common.{◌≡◌, ℕ, ◌≤◌, ◌==◌, cond, Bool, List, [], ◌∷◌, length, sym, ap, ◌∙◌, refl, inl, inr, arith}
+use Rattle.std.specs.Prelude.{ℤ}
 use Rattle.std.proofs.lemmas.Bool.{cases_lt, ne_eqb, eq-eqb}
 use Rattle.keyspace.specs.declared.batch.Batch.{Batch}
 use Rattle.keyspace.specs.Run.{Step, Take, Finish, part}
-use Rattle.resolver.specs.Resolver.{ResolverState, TakesOnlyFrom, StandsOver}
+use Rattle.resolver.specs.Resolver.{ResolverState, TakesOnlyFrom, StandsOverFrom}
 use Rattle.resolver.proofs.AtIndex.{field_past}
 
 -- the part of a proxy, by whether the first batch is its own
@@ -36,7 +37,8 @@ takes_only proxies (Take p batch ∷ log) none = elim (cases_lt p proxies) [
 ]
 
 -- that for which a resolver stands takes from the proxies of its lanes alone
-pub stands_only : (r : ResolverState) (log : List Step) → StandsOver r log → TakesOnlyFrom (length r.lanes) log
-stands_only r log stands =
+pub stands_only : (version : ℤ) (r : ResolverState) (log : List Step) → StandsOverFrom version r log
+    → TakesOnlyFrom (length r.lanes) log
+stands_only version r log stands =
     takes_only (length r.lanes) log (λ proxy past.
     stands.parts proxy ∙ field_past (λ l. l.requests.taken) r.lanes proxy past)

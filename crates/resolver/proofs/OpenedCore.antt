@@ -112,7 +112,7 @@ module _ (window : ℤ) (proxies : ℕ) (set : SetState) (held : List Held) (rep
     answers = λ proxy within. nothing_owed proxy;
   }
 
-none_sent : (proxies n proxy : ℕ) → proxy < proxies → part (opening_log proxies (pos n)) proxy ≡ []
+pub none_sent : (proxies n proxy : ℕ) → proxy < proxies → part (opening_log proxies (pos n)) proxy ≡ []
 none_sent proxies n proxy within =
     ap (λ own. cond own (opening_batch n ∷ []) []) (is_none proxies proxy within)
 

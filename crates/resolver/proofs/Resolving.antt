@@ -1,6 +1,6 @@
 -- A resolver that stands for some log, after a turn, and after it was settled.
-use Rattle.std.proofs.Common.{◌≡◌, ℕ, List, [], ◌∷◌, ◌++◌, Option, Some, None, refl, sym, ap, subst, ◌∙◌, inl, inr}
-use Rattle.std.specs.Prelude.{◌⊎◌, IsSome}
+use Rattle.std.proofs.Common.{◌≡◌, ℕ, length, List, [], ◌∷◌, ◌++◌, Option, Some, None, refl, sym, ap, subst, ◌∙◌, inl, inr}
+use Rattle.std.specs.Prelude.{ℤ, ◌⊎◌, IsSome}
 use Rattle.keyspace.specs.Run.{Step, Take, Finish}
 use Rattle.resolver.specs.declared.stop.Stop.{Stop}
 use Rattle.resolver.specs.declared.turn.Turn.{Turn}
@@ -9,46 +9,47 @@ use Rattle.resolver.specs.Owed.{owed_to}
 use Rattle.resolver.specs.Core.{CoreState}
 use Rattle.resolver.specs.Stands.{Stands}
 use Rattle.resolver.specs.Lanes.{Lanes, Each, LanesGoOn, AreSameLists, TakesNone, all_ended, sent_to}
-use Rattle.resolver.specs.Resolver.{ResolverState, StandsOver, IsResolving, TakesFrom, Finishes, TakesNoStep, StepsBy}
+use Rattle.resolver.specs.OpeningLog.{log_from}
+use Rattle.resolver.specs.Resolver.{ResolverState, StandsOverFrom, IsResolvingFrom, TakesFrom, Finishes, TakesNoStep, StepsBy}
 use Rattle.resolver.proofs.AtIndex.{field_same}
 use Rattle.resolver.proofs.Handed.{StandsBy-moved}
 use Rattle.resolver.proofs.HandedOut.{list_all-same}
 use Rattle.resolver.proofs.Logged.{was_closed, stands_same}
 
-module _ (old new : ResolverState) (before : IsResolving old) where
-  taken : (proxy : ℕ) → TakesFrom proxy old new → IsResolving new
+module _ (version : ℤ) (old new : ResolverState) (before : IsResolvingFrom version old) where
+  taken : (proxy : ℕ) → TakesFrom proxy old new → IsResolvingFrom version new
   taken proxy takes = record {
     log = before.log ++ Take proxy takes.batch ∷ [];
-    stands = takes.adds before.log before.stands;
+    stands = takes.adds version before.log before.stands;
   }
 
-  finished : Finishes old new → IsResolving new
+  finished : Finishes old new → IsResolvingFrom version new
   finished finishes = record {
     log = before.log ++ Finish ∷ [];
-    stands = finishes.adds before.log before.stands;
+    stands = finishes.adds version before.log before.stands;
   }
 
-  unchanged : TakesNoStep old new → IsResolving new
-  unchanged none = record { log = before.log; stands = none.adds before.log before.stands }
+  unchanged : TakesNoStep old new → IsResolvingFrom version new
+  unchanged none = record { log = before.log; stands = none.adds version before.log before.stands }
 
-  not_taken : (Finishes old new ⊎ TakesNoStep old new) → IsResolving new
+  not_taken : (Finishes old new ⊎ TakesNoStep old new) → IsResolvingFrom version new
   not_taken (inl finishes) = finished finishes
   not_taken (inr none) = unchanged none
 
   -- by what the turn answers
-  pub resolving_turned : (did : Turn) → StepsBy did old new → IsResolving new
+  pub resolving_turned : (did : Turn) → StepsBy did old new → IsResolvingFrom version new
   resolving_turned (turn.Took proxy) takes = taken proxy takes
   resolving_turned turn.Idle either = not_taken either
   resolving_turned turn.Done either = not_taken either
 
-  last_step : (((proxy : ℕ) × TakesFrom proxy old new) ⊎ Finishes old new) → IsResolving new
+  last_step : (((proxy : ℕ) × TakesFrom proxy old new) ⊎ Finishes old new) → IsResolvingFrom version new
   last_step (inl takes) = taken takes.0 takes.1
   last_step (inr finishes) = finished finishes
 
   -- and where it met a stop, or one was met before
   pub resolving_stopped : (stop : Option Stop)
       → (stop ≡ None → ((proxy : ℕ) × TakesFrom proxy old new) ⊎ Finishes old new)
-      → (IsSome stop → TakesNoStep old new) → IsResolving new
+      → (IsSome stop → TakesNoStep old new) → IsResolvingFrom version new
   resolving_stopped None met stopped = last_step (met refl)
   resolving_stopped (Some s) met stopped = unchanged (stopped refl)
 
@@ -73,16 +74,18 @@ module _ (old new : ResolverState) (core : new.core ≡ old.core)
   stop_same : new.core.stop ≡ old.core.stop
   stop_same = ap (λ (c : CoreState). c.stop) core
 
-  core_stands : (log : List Step) → StandsOver old log → Stands new.core log (sent_to new.lanes)
-  core_stands log stands =
-      subst (λ (c : CoreState). Stands c log (sent_to new.lanes)) (sym core)
+  core_stands : (version : ℤ) (log : List Step) → StandsOverFrom version old log
+      → Stands new.core (log_from version (length old.lanes) log) (sent_to new.lanes)
+  core_stands version log stands =
+      let whole = log_from version (length old.lanes) log in
+      subst (λ (c : CoreState). Stands c whole (sent_to new.lanes)) (sym core)
       (StandsBy-moved (sent_to old.lanes) (sent_to new.lanes) old.core old.core.owed refl
-      (λ p _. ap (λ sent. sent ++ owed_to p old.core.owed) (none_sent p)) old.core.stop log stands.core)
+      (λ p _. ap (λ sent. sent ++ owed_to p old.core.owed) (none_sent p)) old.core.stop whole stands.core)
 
-  pub stands_settled : (log : List Step) → StandsOver old log → StandsOver new log
-  stands_settled log stands =
-      stands_same old new log stop_same ended_same none_taken stands (core_stands log stands)
+  pub stands_settled : (version : ℤ) (log : List Step) → StandsOverFrom version old log → StandsOverFrom version new log
+  stands_settled version log stands =
+      stands_same old new version log lanes.count stop_same ended_same none_taken stands (core_stands version log stands)
       (λ running p m at closed.
       ended_same
-      ∙ was_closed old new log lanes.count (λ q l n was is. (lanes.each q l n was is).1.closed)
+      ∙ was_closed old new version log lanes.count (λ q l n was is. (lanes.each q l n was is).1.closed)
       (sym stop_same ∙ running) stands p m at closed)

@@ -40,17 +40,20 @@ use Rattle.keyspace.specs.declared.batch.Batch.{Batch}
 use Rattle.keyspace.specs.Processed.{version_of}
 use Rattle.keyspace.specs.Leaving.{Held, next_due}
 use Rattle.keyspace.specs.Laws.{held_of}
-use Rattle.keyspace.specs.Run.{Step, Take, hold, admit, leave_all, run}
+use Rattle.keyspace.specs.Run.{Step, Take, hold, admit, leave_all, run, answers, part}
 use Rattle.keyspace.proofs.callers.Chains.{each_is_answered, run_quiet, next_due_leaves}
 use Rattle.lane.specs.Lane.{Lane}
 use Rattle.resolver.specs.declared.client.Client.{Client}
 use Rattle.resolver.specs.Owed.{owed_to}
 use Rattle.resolver.specs.Core.{made_to}
 use Rattle.resolver.specs.Lanes.{Lanes, taken_from, sent_to}
-use Rattle.resolver.specs.Resolver.{ResolverState, StandsOver, IsResolving, TakesFrom}
+use Rattle.resolver.specs.OpeningLog.{opening_log, log_from}
+use Rattle.resolver.specs.Resolver.{ResolverState, StandsOverFrom, IsResolvingFrom, TakesFrom}
 use Rattle.resolver.specs.Share.{share_of, HasMoreUnanswered, KeepsShare}
 use Rattle.resolver.proofs.Accounts.{made_begins}
 use Rattle.resolver.proofs.AtIndex.{field_at, field_past}
+use Rattle.resolver.proofs.FromVersion.{log_from-more, part_from, part_of_proxy, grows_from, opening_answered}
+use Rattle.resolver.proofs.Growing.{begins_answers_to}
 use Rattle.resolver.proofs.Releasing.{All-without, leave_all-none}
 use Rattle.resolver.proofs.Standing.{IsIn-standing, run-more}
 
@@ -133,24 +136,37 @@ held_ahead window log proxy b ahead =
     ∙ ap (leave_all window) admitted
     ∙ leave_all-none window (hold proxy b s) (none_due version (hold proxy b s).held wait))
 
-module _ (r : ResolverState) (log : List Step) (stands : StandsOver r log)
+module _ (version : ℤ) (r : ResolverState) (log : List Step) (stands : StandsOverFrom version r log)
     (count : length r.core.owed ≡ length r.lanes) where
+  abbrev opening : List Step
+  opening = opening_log (length r.lanes) version
+
+  abbrev whole : List Step
+  whole = log_from version (length r.lanes) log
+
   abbrev held : List Held
-  held = (run r.core.set.window log).held
+  held = (run r.core.set.window whole).held
 
   -- what is held of a proxy was taken, and no answer to it was made
   unanswered : (q : ℕ) → q < length r.lanes
       → length (made_to q (sent_to r.lanes) r.core) + length (held_of q held) ≤ length (taken_from r.lanes q)
   unanswered q inside =
-      let made = made_begins r.core.stop log (sent_to r.lanes) r.core stands.core q (omega (arith, inside, count)) in
+      let made = made_begins r.core.stop whole (sent_to r.lanes) r.core stands.core q (omega (arith, inside, count)) in
       let long = ap length made.1 ∙ length-append (made_to q (sent_to r.lanes) r.core) made.0 in
-      omega (arith, long, each_is_answered r.core.set.window log q, ap length (stands.parts q))
+      let own = ap length (part_of_proxy version (length r.lanes) log q inside) in
+      omega (arith, long, each_is_answered r.core.set.window whole q, own, ap length (stands.parts q))
 
   -- and none is held of a proxy that there isn't
   none_unknown : (q : ℕ) → length r.lanes ≤ q → length (held_of q held) ≡ 0
   none_unknown q past =
+      let window = r.core.set.window in
       let none = ap length (stands.parts q ∙ field_past (λ l. l.requests.taken) r.lanes q past) in
-      omega (arith, each_is_answered r.core.set.window log q, none)
+      let both = ap length (part_from version (length r.lanes) log q) ∙ length-append (part opening q) (part log q) in
+      let first = opening_answered window version (length r.lanes) q in
+      let begins = begins_answers_to q (run window opening).answered (run window whole).answered
+      (grows_from window version (length r.lanes) log).answered in
+      let more = ap length begins.1 ∙ length-append (answers window opening q) begins.0 in
+      omega (arith, each_is_answered window whole q, none, both, first, more)
 
   -- where more are held than fall to all proxies, one has more than its share unanswered
   pub beyond : MAX_HELD < length held
@@ -163,21 +179,27 @@ module _ (r : ResolverState) (log : List Step) (stands : StandsOver r log)
       (one.0, one.1, omega (arith, unanswered one.0 one.1, one.2))
 
 -- where a batch is taken that is ahead of the version, and the gate is full, one more is held by the log than the gate holds
-pub beyond_share : (old new : ResolverState) → new.core.set.window ≡ old.core.set.window
-    → length new.core.owed ≡ length new.lanes → old.core.stop ≡ None → IsResolving old
+pub beyond_share : (version : ℤ) (old new : ResolverState) → length new.lanes ≡ length old.lanes
+    → new.core.set.window ≡ old.core.set.window → length new.core.owed ≡ length new.lanes → old.core.stop ≡ None
+    → IsResolvingFrom version old
     → (proxy : ℕ) (took : TakesFrom proxy old new) → old.core.version <ℤ took.batch.previous
     → length old.core.held ≡ MAX_HELD
     → (q : ℕ) × (q < length new.lanes) × HasMoreUnanswered (share_of (length new.lanes)) q new
-beyond_share old new same count running before proxy took ahead full =
+beyond_share version old new as_many same count running before proxy took ahead full =
     let window = old.core.set.window in
-    let log = before.log ++ Take proxy took.batch ∷ [] in
-    let are = IsIn-standing old.core.stop before.log (sent_to old.lanes) old.core running before.stands.core in
+    let steps = Take proxy took.batch ∷ [] in
+    let log = before.log ++ steps in
+    let was = log_from version (length old.lanes) before.log in
+    let are = IsIn-standing old.core.stop was (sent_to old.lanes) old.core running before.stands.core in
     let is_ahead = subst (λ (version : ℤ). version <ℤ took.batch.previous) are.version ahead in
-    let held = ap length (held_ahead window before.log proxy took.batch is_ahead) in
-    let more = length-append (run window before.log).held ((proxy, took.batch) ∷ []) in
-    let now = ap (λ (w : ℤ). length (run w log).held) same in
+    let held = ap length (held_ahead window was proxy took.batch is_ahead) in
+    let more = length-append (run window was).held ((proxy, took.batch) ∷ []) in
+    let whole = ap (λ (ss : List Step). length (run window ss).held)
+    (log_from-more version (length old.lanes) (length new.lanes) before.log steps as_many) in
+    let now = ap (λ (w : ℤ). length (run w (log_from version (length new.lanes) log)).held) same in
     let many = ap length (sym are.held) ∙ full in
-    beyond new log (took.adds before.log before.stands) count (omega (arith, held, more, now, many))
+    beyond version new log (took.adds version before.log before.stands) count
+    (omega (arith, held, more, whole, now, many))
 
 -- a client that keeps its share has no more unanswered
 pub within_share : (share proxy : ℕ) (r : ResolverState) (c : Client) (l : Lanes) → slice_get r.lanes proxy ≡ Some l

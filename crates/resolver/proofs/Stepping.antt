@@ -31,7 +31,7 @@ use Rattle.std.proofs.Common.{
   inr,
   arith,
 }
-use Rattle.std.specs.Prelude.{◌⊎◌, slice_get, IsSome, Result, Ok}
+use Rattle.std.specs.Prelude.{ℤ, ◌⊎◌, slice_get, IsSome, Result, Ok}
 use Rattle.std.specs.Vec.{with_items}
 use Rattle.std.specs.declared.vec.Vec.{Vec}
 use mathlib.Core.Bool.{beq}
@@ -57,7 +57,8 @@ use Rattle.resolver.specs.Lanes.{
   ComesBefore,
   IsLookedThrough,
 }
-use Rattle.resolver.specs.Resolver.{StandsOver, TakesFrom, Finishes, TakesNoStep, IsThrough}
+use Rattle.resolver.specs.OpeningLog.{log_from}
+use Rattle.resolver.specs.Resolver.{StandsOverFrom, TakesFrom, Finishes, TakesNoStep, IsThrough}
 use Rattle.resolver.specs.Parts.{
   ProxyLanesView,
   lanes_of,
@@ -433,12 +434,13 @@ module _ (old new : Parts) (first proxy : ℕ) (batch : Batch)
     known = omega (arith, f.known, length-map old.all_lanes (λ l. l.lanes));
     batch = batch;
     taken = takes_one;
-    adds = λ log s.
-        stands_taken (resolver_of old) (resolver_of new) log (replies_same taken old.all_lanes new.all_lanes looks).count
+    adds = λ version log s.
+        let whole = log_from version (length (lanes_of old.all_lanes)) log in
+        stands_taken (resolver_of old) (resolver_of new) version log (replies_same taken old.all_lanes new.all_lanes looks).count
         (λ p l m was is. ap (λ r. r.closed) ((replies_same taken old.all_lanes new.all_lanes looks).each p l m was is))
         running s proxy batch takes_one some_before some_after
-        (stands_now taken old.all_lanes new.all_lanes looks new.core (are.count ∙ sym goes_on.proxies) (log ++ Take proxy batch ∷ [])
-        (stands log (handed_to old.all_lanes) (stands_without old.core old.all_lanes are.count log s.core)));
+        (stands_now taken old.all_lanes new.all_lanes looks new.core (are.count ∙ sym goes_on.proxies) (whole ++ Take proxy batch ∷ [])
+        (stands whole (handed_to old.all_lanes) (stands_without old.core old.all_lanes are.count whole s.core)));
   }
 
   -- with what holds of the batch
@@ -454,21 +456,23 @@ module _ (old new : Parts) (first proxy : ℕ) (batch : Batch)
   unfolding takes_from
   takes_over Q q stands = (proxy, takes_from stands, q)
 
-  pub stops_at_limit : (log : List Step) → StandsOver (resolver_of old) log
+  pub stops_at_limit : (version : ℤ) (log : List Step) → StandsOverFrom version (resolver_of old) log
       → ((log : List Step) (given : Given) → Stands old.core log given
       → StopsAtLimit old.core.set.map.limit old.core.set.window proxy batch
       (run old.core.set.window log) given new.core)
       → StopsAtLimit old.core.set.map.limit old.core.set.window proxy batch
-      (run old.core.set.window log) (sent_to (lanes_of new.all_lanes)) (resolver_of new).core
-  stops_at_limit log s stops =
+      (run old.core.set.window (log_from version (length (lanes_of old.all_lanes)) log))
+      (sent_to (lanes_of new.all_lanes)) (resolver_of new).core
+  stops_at_limit version log s stops =
+      let whole = log_from version (length (lanes_of old.all_lanes)) log in
       let many : length new.all_lanes ≡ length new.core.owed = looks.count ∙ are.count ∙ sym goes_on.proxies in
       StopsAtLimit-moved (handed_to old.all_lanes) (sent_to (lanes_of new.all_lanes)) new.core
       (owed_with new.all_lanes new.core.owed) (owed_with-length new.all_lanes new.core.owed)
       (λ p inside.
       made_handed new.all_lanes new.core.owed many p inside
       ∙ ap (λ xs. xs ++ owed_to p new.core.owed) (handed_on taken old.all_lanes new.all_lanes looks p))
-      old.core.set.map.limit old.core.set.window proxy batch (run old.core.set.window log)
-      (stops log (handed_to old.all_lanes) (stands_without old.core old.all_lanes are.count log s.core))
+      old.core.set.map.limit old.core.set.window proxy batch (run old.core.set.window whole)
+      (stops whole (handed_to old.all_lanes) (stands_without old.core old.all_lanes are.count whole s.core))
 
   pub replies_taken : Each (λ p l m. m.replies ≡ l.replies) (lanes_of old.all_lanes) (lanes_of new.all_lanes)
   replies_taken = replies_same taken old.all_lanes new.all_lanes looks
@@ -580,11 +584,12 @@ module _ (old new : Parts) (f : FindsNone (λ p. p < length old.all_lanes) old.a
       before = not_before;
       after = after;
       taken = takes_none;
-      adds = λ log s.
-          stands_finished (resolver_of old) (resolver_of new) log replies_looked.count
+      adds = λ version log s.
+          let whole = log_from version (length (lanes_of old.all_lanes)) log in
+          stands_finished (resolver_of old) (resolver_of new) version log replies_looked.count
           (λ p l m was is. ap (λ r. r.closed) (replies_looked.each p l m was is)) running s takes_none not_before after
-          (stands_looked (log ++ Finish ∷ [])
-          (stands log (handed_to old.all_lanes) (stands_without old.core old.all_lanes are.count log s.core)));
+          (stands_looked (whole ++ Finish ∷ [])
+          (stands whole (handed_to old.all_lanes) (stands_without old.core old.all_lanes are.count whole s.core)));
     }
 
   -- no more have ended than had
@@ -620,11 +625,12 @@ module _ (old new : Parts) (f : FindsNone (λ p. p < length old.all_lanes) old.a
     takes_no_step = record {
       ended = ended_same;
       taken = takes_none;
-      adds = λ log s.
-          stands_same (resolver_of old) (resolver_of new) log (ap (λ (k : CoreState). k.stop) core)
-          ended_same takes_none s
-          (stands_looked log (subst (λ (k : CoreState). Stands k log (handed_to old.all_lanes)) (sym core)
-          (stands_without old.core old.all_lanes are.count log s.core)))
+      adds = λ version log s.
+          let whole = log_from version (length (lanes_of old.all_lanes)) log in
+          stands_same (resolver_of old) (resolver_of new) version log replies_looked.count
+          (ap (λ (k : CoreState). k.stop) core) ended_same takes_none s
+          (stands_looked whole (subst (λ (k : CoreState). Stands k whole (handed_to old.all_lanes)) (sym core)
+          (stands_without old.core old.all_lanes are.count whole s.core)))
           (λ still p m at shut. ended_same ∙ s.closed running p _ (was_at p m at).1
           (sym (ap (λ r. r.closed) (replies_looked.each p _ m (was_at p m at).1 at)) ∙ shut));
     }

@@ -11,7 +11,7 @@ use Rattle.resolver.specs.Core.{CoreState, StopsAtLimit}
 use Rattle.keyspace.specs.declared.batch.Batch.{Batch}
 use Rattle.resolver.proofs.Handed.{StopsAtLimit-moved}
 use Rattle.resolver.specs.Lanes.{Lanes, Each, LanesGoOn, taken_from, sent_to, all_ended, IsLookedThrough, IsFull}
-use Rattle.resolver.specs.Resolver.{ResolverState, StandsOver, IsThrough, TakesFrom, Finishes, TakesNoStep, StepsBy, IfNotTaken}
+use Rattle.resolver.specs.Resolver.{ResolverState, StandsOverFrom, IsThrough, TakesFrom, Finishes, TakesNoStep, StepsBy, IfNotTaken}
 use Rattle.resolver.specs.declared.turn.Turn.{Turn}
 use Rattle.resolver.specs.declared.turn.Turn.TheVariants as turn
 use Rattle.resolver.specs.declared.stop.Stop.{Stop}
@@ -40,7 +40,7 @@ pub record AnswersLane (owed : List Answer) (old new : Lanes) : Type 0 where
   pub full : owed ≢ [] → IsFull old new
 
 pub record AnswersOver (old new : ResolverState) : Type 0 where
-  pub stands : (log : List Step) → StandsOver old log → StandsOver new log
+  pub stands : (version : ℤ) (log : List Step) → StandsOverFrom version old log → StandsOverFrom version new log
   pub stop : new.core.stop ≡ old.core.stop
   pub lanes : Each (λ p l m. AnswersLane (owed_to p new.core.owed) l m) old.lanes new.lanes
 
@@ -62,7 +62,7 @@ closed_lane owed l m n full handed closed = record {
 
 pub answers_over : (old mid new : ResolverState) → HandedOver old mid → ClosedOver mid new → AnswersOver old new
 answers_over old mid new h k = record {
-  stands = λ log s. k.stands log (h.stands log s);
+  stands = λ version log s. k.stands version log (h.stands version log s);
   stop = ap (λ c. c.stop) k.core ∙ h.same.stop;
   lanes =
       Each-then
@@ -102,7 +102,7 @@ module _ {old mid given new : ResolverState} (h : HandedOver mid given) (k : Clo
         known = t.known;
         batch = t.batch;
         taken = λ other. none_taken mid new a other ∙ t.taken other;
-        adds = λ log s. a.stands (log ++ Take proxy t.batch ∷ []) (t.adds log s);
+        adds = λ version log s. a.stands version (log ++ Take proxy t.batch ∷ []) (t.adds version log s);
       }
 
   pub Finishes-on : Finishes old mid → Finishes old new
@@ -112,7 +112,7 @@ module _ {old mid given new : ResolverState} (h : HandedOver mid given) (k : Clo
         before = f.before;
         after = ended_same mid new a ∙ f.after;
         taken = λ p. none_taken mid new a p ∙ f.taken p;
-        adds = λ log s. a.stands (log ++ Finish ∷ []) (f.adds log s);
+        adds = λ version log s. a.stands version (log ++ Finish ∷ []) (f.adds version log s);
       }
 
   pub TakesNoStep-on : TakesNoStep old mid → TakesNoStep old new
@@ -121,7 +121,7 @@ module _ {old mid given new : ResolverState} (h : HandedOver mid given) (k : Clo
       record {
         ended = ended_same mid new a ∙ n.ended;
         taken = λ p. none_taken mid new a p ∙ n.taken p;
-        adds = λ log s. a.stands log (n.adds log s);
+        adds = λ version log s. a.stands version log (n.adds version log s);
       }
 
 module _ {before : List Lanes} {mid given new : ResolverState} (h : HandedOver mid given) (k : ClosedOver given new) where
@@ -181,7 +181,7 @@ pub stopped_on : {old mid given new : ResolverState} → HandedOver mid given �
 stopped_on h k None result some kept = absurd (false≢true some)
 stopped_on {old} {mid} h k (Some stop) result some kept =
     TakesNoStep-on h k
-    (subst (λ r. TakesNoStep old r) (sym kept.1) (record { ended = refl; taken = λ p. refl; adds = λ log s. s }))
+    (subst (λ r. TakesNoStep old r) (sym kept.1) (record { ended = refl; taken = λ p. refl; adds = λ version log s. s }))
 
 -- a stop that was met in the turn
 pub stop_met_on : {old mid given new : ResolverState} → HandedOver mid given → ClosedOver given new

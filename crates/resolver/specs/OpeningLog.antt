@@ -1,8 +1,10 @@
 -- How a core starts at a version: as if one batch had been processed that wrote every key at it. This project's own.
-use Rattle.std.specs.Prelude.{◌≡◌, ℕ, ◌<◌, ℤ, pos, negsuc, ◌≤ℤ◌, ◌<ℤ◌, false, List, [], ◌∷◌}
+use Rattle.std.specs.Prelude.{◌≡◌, ℕ, ◌<◌, ℤ, pos, negsuc, ◌≤ℤ◌, ◌<ℤ◌, false, List, [], ◌∷◌, ◌++◌, Contains}
 use Rattle.std.proofs.Common.{zero-le}
 use Rattle.std.proofs.Math.Dec.{lit≤, le→leb}
 use lib.Signed.{le_z_yes, lt_z_yes}
+use Rattle.keys.specs.declared.range.Range.{Range}
+use Rattle.keys.specs.Range.{IsEmpty}
 use Rattle.keyspace.specs.declared.txn.Txn.{Txn}
 use Rattle.keyspace.specs.declared.batch.Batch.{Batch}
 use Rattle.keyspace.specs.Processed.{version_of}
@@ -53,6 +55,11 @@ abbrev pub opening_log : ℕ → ℤ → List Step
 opening_log proxies (pos version) = Take proxies (opening_batch version) ∷ []
 opening_log proxies (negsuc n) = []
 
+-- The log of a resolver for this number of proxies that started at the version and then took these steps. It begins as if
+-- one batch of no proxy had written every key at that version. From -1 on, these steps are all of it.
+abbrev pub log_from : ℤ → ℕ → List Step → List Step
+log_from version proxies steps = opening_log proxies version ++ steps
+
 -- The reference resolver after that log: it is at the version, knows nothing of what was written up to it, and holds no
 -- batch. No proxy has sent a batch or received an answer.
 pub record StartsAt (window : ℤ) (proxies : ℕ) (version : ℤ) : Type 0 where
@@ -64,3 +71,7 @@ pub record StartsAt (window : ℤ) (proxies : ℕ) (version : ℤ) : Type 0 wher
 
 abbrev pub OpeningsStart : Type 0
 OpeningsStart = (window : ℤ) (proxies : ℕ) (version : ℤ) → negsuc 0 ≤ℤ version → StartsAt window proxies version
+
+-- The transaction reads nothing below the version: its snapshot is at or above it, or all its read ranges are empty.
+abbrev pub ReadsFrom : ℤ → Txn → Type 0
+ReadsFrom version t = (range : Range) → Contains t.reads range → ¬ IsEmpty range → version ≤ℤ t.snapshot

@@ -1,5 +1,5 @@
 -- What a resolver over lanes promises: it represents a log of the reference resolver. This project's own.
-use Rattle.std.specs.Prelude.{◌≡◌, ℕ, ◌<◌, ◌⊎◌, Bool, true, false, List, [], ◌∷◌, ◌++◌, length, Some, None, IsSome, slice_get}
+use Rattle.std.specs.Prelude.{◌≡◌, ℕ, ℤ, negsuc, ◌<◌, ◌⊎◌, Bool, true, false, List, [], ◌∷◌, ◌++◌, length, Some, None, IsSome, slice_get}
 use Rattle.keyspace.specs.declared.batch.Batch.{Batch}
 use Rattle.keyspace.specs.Run.{Step, Take, Finish, part}
 use Rattle.lane.specs.Lane.{SameLane, PortGoesOn, IntakeGoesOn, new_port, new_intake}
@@ -9,6 +9,7 @@ use Rattle.resolver.specs.declared.turn.Turn.TheVariants as turn
 use Rattle.resolver.specs.Owed.{owed_count}
 use Rattle.resolver.specs.Core.{CoreState}
 use Rattle.resolver.specs.Stands.{Stands}
+use Rattle.resolver.specs.OpeningLog.{log_from}
 use Rattle.resolver.specs.Lanes.{Lanes, taken_from, sent_to, all_ended, TakesOne, TakesNone}
 
 -- a resolver over lanes
@@ -41,25 +42,34 @@ TakesOnlyFrom proxies [] = Unit {0}
 TakesOnlyFrom proxies (Take proxy batch ∷ log) = (proxy < proxies) × TakesOnlyFrom proxies log
 TakesOnlyFrom proxies (Finish ∷ log) = TakesOnlyFrom proxies log
 
--- The resolver represents the log. Its core does, if each proxy was given the answers sent to it; the log takes from each
--- proxy what was taken from its request lane, and nothing from a proxy that has none; and without a stop it finishes, last
--- and once, exactly if all request lanes have ended, and only then are reply lanes closed.
-pub record StandsOver (r : ResolverState) (log : List Step) : Type 0 where
-  pub core : Stands r.core log (sent_to r.lanes)
+-- The resolver, which started at the version, represents the log of its steps. Its core represents the log from that
+-- version on, if each proxy was given the answers sent to it; the log takes from each proxy what was taken from its request
+-- lane, and nothing from a proxy that has none; and without a stop it finishes, last and once, exactly if all request lanes
+-- have ended, and only then are reply lanes closed.
+pub record StandsOverFrom (version : ℤ) (r : ResolverState) (log : List Step) : Type 0 where
+  pub core : Stands r.core (log_from version (length r.lanes) log) (sent_to r.lanes)
   pub parts : (proxy : ℕ) → part log proxy ≡ taken_from r.lanes proxy
   pub finish : r.core.stop ≡ None → FinishesBy (all_ended r.lanes) log
   pub closed :
       r.core.stop ≡ None → (proxy : ℕ) (l : Lanes) → slice_get r.lanes proxy ≡ Some l → l.replies.closed ≡ true →
       all_ended r.lanes ≡ true
 
--- there is a log for which the resolver stands
-pub record IsResolving (r : ResolverState) : Type 0 where
-  pub log : List Step
-  pub stands : StandsOver r log
+-- The same of a resolver that started at -1, so that its core represents the log of its steps.
+abbrev pub StandsOver : ResolverState → List Step → Type 0
+StandsOver r log = StandsOverFrom (negsuc 0) r log
 
--- for every log that the one represents, the other represents it with these steps added
+-- there is a log that the resolver, which started at the version, represents
+pub record IsResolvingFrom (version : ℤ) (r : ResolverState) : Type 0 where
+  pub log : List Step
+  pub stands : StandsOverFrom version r log
+
+abbrev pub IsResolving : ResolverState → Type 0
+IsResolving r = IsResolvingFrom (negsuc 0) r
+
+-- for every log that the one represents, from whichever version on, the other represents it with these steps added
 abbrev pub Adds : List Step → ResolverState → ResolverState → Type 0
-Adds steps old new = (log : List Step) → StandsOver old log → StandsOver new (log ++ steps)
+Adds steps old new =
+    (version : ℤ) (log : List Step) → StandsOverFrom version old log → StandsOverFrom version new (log ++ steps)
 
 -- the next batch of the proxy was taken
 pub record TakesFrom (proxy : ℕ) (old new : ResolverState) : Type 0 where
@@ -79,7 +89,7 @@ pub record Finishes (old new : ResolverState) : Type 0 where
 pub record TakesNoStep (old new : ResolverState) : Type 0 where
   pub ended : all_ended new.lanes ≡ all_ended old.lanes
   pub taken : TakesNone old.lanes new.lanes
-  pub adds : (log : List Step) → StandsOver old log → StandsOver new log
+  pub adds : (version : ℤ) (log : List Step) → StandsOverFrom version old log → StandsOverFrom version new log
 
 -- by what a turn answers
 abbrev pub StepsBy : Turn → ResolverState → ResolverState → Type 0

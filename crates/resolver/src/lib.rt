@@ -4,10 +4,11 @@
 //! answers are those that the reference resolver answers to that log. The definition is `Stands`,
 //! in `specs/Stands.antt`.
 //!
-//! [`open`] makes a [`Resolver`] over lanes, and a [`Client`] for each proxy. Each turn takes a
-//! batch of some proxy and sends answers. Once all clients have been returned, [`Resolver::settle`]
-//! says what each of them has sent and received, beside the reference resolver. The definitions are
-//! `StandsOver`, in `specs/Resolver.antt`, and `Settled`, in `specs/Settled.antt`.
+//! [`open`] makes a [`Resolver`] over lanes, and a [`Client`] for each proxy; [`open_at`] makes one
+//! that starts at a version. Each turn takes a batch of some proxy and sends answers. Once all
+//! clients have been returned, [`Resolver::settle`] says what each of them has sent and received,
+//! beside the reference resolver. The definitions are `StandsOver`, in `specs/Resolver.antt`, and
+//! `Settled`, in `specs/Settled.antt`.
 //!
 //! [`share`] is the share of each proxy in what the resolver holds. While no client has more
 //! batches sent without an answer, no turn answers `GateFull`. The definitions are in
@@ -30,7 +31,7 @@ mod stop;
 mod turn;
 
 pub use client::Client;
-pub use opening::open;
+pub use opening::{open, open_at};
 pub use resolver::Resolver;
 pub use resolver_core::{Core, MAX_PROXIES};
 pub use sharing::share;

@@ -1,8 +1,8 @@
 //! The resolver over lanes: each turn takes a batch of some proxy, and sends answers.
 
-ghost use Rattle.std.specs.Prelude.{◌≡◌, ℕ, ◌<◌, ◌≤◌, ◌+◌, ◌⊎◌, ◌↔◌, ◌≢◌, ◌<ℤ◌, ◌≤ℤ◌, pos, true};
-ghost use Rattle.std.specs.Prelude.{false, List, [], ◌∷◌, ◌++◌, length, map, All, Option, Some};
-ghost use Rattle.std.specs.Prelude.{None, Ok, Err, IsOk, IfOk, IfErr, OnOk, IfSome, IsSome};
+ghost use Rattle.std.specs.Prelude.{◌≡◌, ℕ, ℤ, ◌<◌, ◌≤◌, ◌+◌, ◌⊎◌, ◌↔◌, ◌≢◌, ◌<ℤ◌, ◌≤ℤ◌, pos};
+ghost use Rattle.std.specs.Prelude.{true, false, List, [], ◌∷◌, ◌++◌, length, map, All, Option};
+ghost use Rattle.std.specs.Prelude.{Some, None, Ok, Err, IsOk, IfOk, IfErr, OnOk, IfSome, IsSome};
 ghost use Rattle.std.specs.Prelude.{slice_get, IsTrue};
 ghost use Rattle.keyspace.specs.Run.{Step, Take, Finish, run};
 ghost use Rattle.stepmap.specs.declared.step_map.TheConstants.{MAX_LIMIT};
@@ -13,15 +13,16 @@ ghost use Rattle.resolver.specs.declared.client.Client.{Client as ClientEnds};
 ghost use Rattle.resolver.specs.Owed.{owed_to, owed_count};
 ghost use Rattle.resolver.specs.Core.{GoesOn, StopsAtLimit, made_to};
 ghost use Rattle.resolver.specs.Stands.{Stands};
+ghost use Rattle.resolver.specs.OpeningLog.{opening_log, log_from};
 ghost use Rattle.resolver.specs.Parts.{AreNewLanes, lanes_of};
 ghost use Rattle.resolver.specs.declared.resolver_core.TheConstants.{MAX_PROXIES};
 ghost use Rattle.resolver.specs.Lanes.{Lanes, all_ended, Each, LanesGoOn, IsLookedThrough};
 ghost use Rattle.resolver.specs.Lanes.{ComesBefore, IsFull, TakesNone, AreSameLists, sent_to};
-ghost use Rattle.resolver.specs.Resolver.{ResolverState, StandsOver, IsResolving, TakesFrom};
-ghost use Rattle.resolver.specs.Resolver.{Finishes, TakesNoStep, StepsBy, IfNotTaken, IsThrough};
-ghost use Rattle.resolver.specs.Resolver.{SameBut, AreClients, SameClients};
+ghost use Rattle.resolver.specs.Resolver.{ResolverState, StandsOverFrom, IsResolvingFrom};
+ghost use Rattle.resolver.specs.Resolver.{TakesFrom, Finishes, TakesNoStep, StepsBy, IfNotTaken};
+ghost use Rattle.resolver.specs.Resolver.{IsThrough, SameBut, AreClients, SameClients};
 ghost use Rattle.resolver.specs.Share.{share_of, HasMoreUnanswered};
-ghost use Rattle.resolver.specs.Settled.{Settled, IsComplete};
+ghost use Rattle.resolver.specs.Settled.{SettledFrom, IsComplete};
 
 use crate::all_lanes;
 use crate::client::Client;
@@ -74,15 +75,16 @@ impl Model for Resolver {
 }
 
 impl Resolver {
-    // Puts a resolver together that has taken nothing.
+    // Puts a resolver together whose lanes are new. It starts where its core does.
     pub(crate) fn new(core: Core, all_lanes: Vec<ProxyLanes>) -> Self
-        requires core { Stands core [] (λ _. []) }
         requires no_stop { core.stop ≡ None }
         requires all_lanes { All AreNewLanes all_lanes.items }
         requires count { length all_lanes.items ≡ length core.owed }
         requires some { 1 ≤ length all_lanes.items }
         requires few { length all_lanes.items ≤ MAX_PROXIES }
-        ensures stands { StandsOver result [] }
+        ensures stands { (version : ℤ)
+            → Stands core (opening_log (length core.owed) version) (λ _. [])
+            → StandsOverFrom version result [] }
         ensures core { result.core ≡ core }
         ensures lanes { result.lanes ≡ lanes_of all_lanes.items }
         ensures next { result.next ≡ 0 }
@@ -110,7 +112,7 @@ impl Resolver {
     /// [`share`](crate::share) were taken for which no answer was made. So it never comes where
     /// each client never has more than the share of batches sent for which it has no answer.
     pub fn turn(&mut self) -> Result<Turn, Stop>
-        // The log that the resolver represents afterwards.
+        // The log that the resolver represents afterwards, from whichever version it started.
         ensures step { IfOk result (λ turn. StepsBy turn self.old self.new) }
         ensures stop_met { IfErr result (λ _. self.old.core.stop ≡ None
             → ((proxy : ℕ) × TakesFrom proxy self.old self.new) ⊎ Finishes self.old self.new) }
@@ -118,7 +120,8 @@ impl Resolver {
         ensures stop { IfErr result (λ stop. self.new.core.stop ≡ Some stop) }
         ensures stop_stays { IfSome self.old.core.stop (λ stop. result ≡ Err stop) }
         ensures no_stop { OnOk result (self.new.core.stop ≡ None) }
-        ensures resolving { IsResolving self.old → IsResolving self.new }
+        ensures resolving { (version : ℤ) → IsResolvingFrom version self.old
+            → IsResolvingFrom version self.new }
 
         // What it has looked through.
         ensures looked_through { IfOk result (λ turn. IfNotTaken turn
@@ -143,14 +146,15 @@ impl Resolver {
             × (self.old.core.version <ℤ took.batch.previous)
             × (length self.old.core.held ≡ MAX_HELD) }
         ensures beyond_share { self.old.core.stop ≡ None → result ≡ Err Stop.GateFull
-            → IsResolving self.old
+            → (version : ℤ) → IsResolvingFrom version self.old
             → (proxy : ℕ) × (proxy < length self.new.lanes)
             × HasMoreUnanswered (share_of (length self.new.lanes)) proxy self.new }
         ensures arena_full { self.old.core.stop ≡ None → result ≡ Err Stop.ArenaFull
-            → (log : List Step) → StandsOver self.old log
+            → (version : ℤ) (log : List Step) → StandsOverFrom version self.old log
             → (proxy : ℕ) × (took : TakesFrom proxy self.old self.new)
             × StopsAtLimit self.old.core.set.map.limit self.old.core.set.window proxy took.batch
-            (run self.old.core.set.window log) (sent_to self.new.lanes) self.new.core }
+            (run self.old.core.set.window (log_from version (length self.old.lanes) log))
+            (sent_to self.new.lanes) self.new.core }
 
         ensures lanes { Each (λ _ l m. LanesGoOn l m) self.old.lanes self.new.lanes }
         ensures goes_on { GoesOn self.old.core self.new.core }
@@ -169,12 +173,15 @@ impl Resolver {
     /// number. It takes no memory, and no batch or answer moves.
     pub fn settle(&mut self, clients: &mut [Client]) -> Account
         requires clients { AreClients self.old.lanes clients.old }
-        ensures settled { (log : List Step) → StandsOver self.old log
-            → Settled self.old.core.set.window log self.old.lanes clients.old result }
-        ensures settled_for_some { IsResolving self.old → (log : List Step)
-            × Settled self.old.core.set.window log self.old.lanes clients.old result }
-        ensures stands { (log : List Step) → StandsOver self.old log → StandsOver self.new log }
-        ensures resolving { IsResolving self.old → IsResolving self.new }
+        ensures settled { (version : ℤ) (log : List Step) → StandsOverFrom version self.old log
+            → SettledFrom version self.old.core.set.window log self.old.lanes clients.old result }
+        ensures settled_for_some { (version : ℤ) → IsResolvingFrom version self.old
+            → (log : List Step)
+            × SettledFrom version self.old.core.set.window log self.old.lanes clients.old result }
+        ensures stands { (version : ℤ) (log : List Step) → StandsOverFrom version self.old log
+            → StandsOverFrom version self.new log }
+        ensures resolving { (version : ℤ) → IsResolvingFrom version self.old
+            → IsResolvingFrom version self.new }
         ensures complete { (result.complete ≡ true) ↔ IsComplete self.old clients.old }
         // A client that has taken answers to their end has taken all that were sent.
         ensures ended { (proxy : ℕ) (client : ClientEnds)
@@ -238,10 +245,11 @@ impl Resolver {
             × (self.old.core.version <ℤ took.batch.previous)
             × (length self.old.core.held ≡ MAX_HELD) }
         ensures arena_full { self.old.core.stop ≡ None → result ≡ Err Stop.ArenaFull
-            → (log : List Step) → StandsOver self.old log
+            → (version : ℤ) (log : List Step) → StandsOverFrom version self.old log
             → (proxy : ℕ) × (took : TakesFrom proxy self.old self.new)
             × StopsAtLimit self.old.core.set.map.limit self.old.core.set.window proxy took.batch
-            (run self.old.core.set.window log) (sent_to self.new.lanes) self.new.core }
+            (run self.old.core.set.window (log_from version (length self.old.lanes) log))
+            (sent_to self.new.lanes) self.new.core }
         ensures replies { Each (λ _ l m. m.replies ≡ l.replies) self.old.lanes self.new.lanes }
         ensures lanes { Each (λ _ l m. LanesGoOn l m) self.old.lanes self.new.lanes }
         ensures goes_on { GoesOn self.old.core self.new.core }
@@ -270,7 +278,8 @@ impl Resolver {
 
     // Sends each proxy the answers owed to it, while its reply lane accepts them.
     fn hand_out(&mut self)
-        ensures stands { (log : List Step) → StandsOver self.old log → StandsOver self.new log }
+        ensures stands { (version : ℤ) (log : List Step) → StandsOverFrom version self.old log
+            → StandsOverFrom version self.new log }
         ensures made { (proxy : ℕ) → made_to proxy (sent_to self.new.lanes) self.new.core
             ≡ made_to proxy (sent_to self.old.lanes) self.old.core }
         ensures owed { Each (λ proxy l m. owed_to proxy self.new.core.owed ≢ []
@@ -284,7 +293,8 @@ impl Resolver {
 
     // Closes the reply lanes where no answer is still to come.
     fn close(&mut self)
-        ensures stands { (log : List Step) → StandsOver self.old log → StandsOver self.new log }
+        ensures stands { (version : ℤ) (log : List Step) → StandsOverFrom version self.old log
+            → StandsOverFrom version self.new log }
         ensures closed { (proxy : ℕ) (l : Lanes) → slice_get self.new.lanes proxy ≡ Some l
             → (l.replies.closed ≡ true) ↔ IsThrough self.new }
         ensures core { self.new.core ≡ self.old.core }

@@ -4,7 +4,7 @@ ghost use Rattle.std.specs.Prelude.{◌≡◌, IfOk, false};
 ghost use Rattle.clap.specs.Words.{app_of, rule_of};
 ghost use Rattle.replay_arguments.specs.Words.{capacity_rule, check_rule, file_rule, frames_rule};
 ghost use Rattle.replay_arguments.specs.Words.{json_rule, limit_rule, number_rule, replay_app};
-ghost use Rattle.replay_arguments.specs.Words.{window_rule};
+ghost use Rattle.replay_arguments.specs.Words.{replies_rule, stream_rule, window_rule};
 
 use clap::builder::ValueParser;
 use clap::{Arg, ArgAction, Command};
@@ -34,6 +34,8 @@ pub fn command<'a>(alloc: Global) -> Result<Command<'a>, AllocError>
         .arg(frames(alloc))?
         .arg(json(alloc))?
         .arg(check(alloc))?
+        .arg(stream(alloc))?
+        .arg(replies(alloc))?
         .arg(file(alloc))
 }
 
@@ -108,6 +110,27 @@ fn check<'a>(alloc: Global) -> Arg<'a>
         .value_name("REPLIES")
         .action(ArgAction::Append)
         .help("Compares with the reply frames of another resolver; once a FILE, in order")
+}
+
+fn stream<'a>(alloc: Global) -> Arg<'a>
+    ensures rule { rule_of result ≡ stream_rule }
+    ensures local { result.global ≡ false }
+{
+    Arg::new(alloc, "stream")
+        .long("stream")
+        .action(ArgAction::SetTrue)
+        .help("Prints each answer as it comes, in the order of each proxy")
+}
+
+fn replies<'a>(alloc: Global) -> Arg<'a>
+    ensures rule { rule_of result ≡ replies_rule }
+    ensures local { result.global ≡ false }
+{
+    Arg::new(alloc, "replies")
+        .long("replies")
+        .value_name("OUT")
+        .action(ArgAction::Append)
+        .help("With --stream, writes the records of answers to a file; once a FILE, in order")
 }
 
 fn file<'a>(alloc: Global) -> Arg<'a>

@@ -2,7 +2,7 @@
 
 ghost use Rattle.std.specs.Prelude.{◌≡◌, ℕ, List, Option, IfOk, OnOk};
 
-use wire::Source;
+use wire::{Sink, Source};
 
 /// The name of standard input, which is read instead of a file.
 pub const STANDARD_INPUT: &str = "-";
@@ -20,6 +20,8 @@ pub enum FileError {
 pub trait Files {
     type Reader: Source + Send + Drop + 'static;
 
+    type Writer: Sink + Send + Drop + 'static;
+
     // The bytes of the file of this name, if they are reported.
     ghost contents: { Self → List ℕ → Option (List ℕ) };
 
@@ -29,8 +31,17 @@ pub trait Files {
     // The file of this name can't be opened.
     ghost cannot_open: { Self → List ℕ → Type 0 };
 
-    // Memory is refused in the opening of the file of this name.
+    // Memory is refused in the opening of the file of this name, to be read or written.
     ghost lacks_memory: { Self → List ℕ → Type 0 };
+
+    // The bytes that a new writer of the file of this name was given, if they are reported.
+    ghost begun: { Self → List ℕ → Option (List ℕ) };
+
+    // The file of this name was opened to be written.
+    ghost has_created: { Self → List ℕ → Type 0 };
+
+    // The file of this name can't be opened to be written.
+    ghost cannot_create: { Self → List ℕ → Type 0 };
 
     /// Opens the file of this name, to be read from its beginning.
     fn open(&self, name: &str) -> Result<Self::Reader, FileError>
@@ -38,5 +49,12 @@ pub trait Files {
             ≡ contents self.now name.now) }
         ensures opened { OnOk result (has_opened self.now name.now) }
         ensures refused { result ≡ Err FileError.CannotOpen → cannot_open self.now name.now }
+        ensures memory { result ≡ Err FileError.Memory → lacks_memory self.now name.now };
+
+    /// Opens the file of this name, to be written from its beginning. Creates it, if there is none.
+    fn create(&self, name: &str) -> Result<Self::Writer, FileError>
+        ensures begun { IfOk result (λ writer. Self.Writer.given writer ≡ begun self.now name.now) }
+        ensures created { OnOk result (has_created self.now name.now) }
+        ensures refused { result ≡ Err FileError.CannotOpen → cannot_create self.now name.now }
         ensures memory { result ≡ Err FileError.Memory → lacks_memory self.now name.now };
 }

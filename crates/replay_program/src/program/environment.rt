@@ -5,10 +5,12 @@ ghost use Rattle.std.specs.Io.KnownBytes.{Appends, Keeps};
 ghost use Rattle.replay_program.specs.Program.{HasDifferences, HasNoMemory, HasReadNoText, IsDone};
 ghost use Rattle.replay_program.specs.Program.{IsFailed, Told, not_text};
 ghost use Rattle.replay_program.specs.Replayed.{written};
+ghost use Rattle.replay_workers.specs.Sinks.{state_by};
 ghost use Rattle.replay_output.specs.Start.{start_line};
 ghost use Rattle.replay_arguments.specs.Words.{IsMistaken};
 
 use super::run;
+use crate::report::RunReport;
 use replay_arguments::Files;
 use replay_output::{StartError, Status, fail_to_start};
 use std::alloc::Global;
@@ -36,35 +38,39 @@ pub fn run_in<R: Threads + Wait + Copy + Send + 'static, V: Env, F: Files, O: Si
     files: &F,
     out: &mut O,
     error: &mut E,
-) -> Status
-    ensures done { result ≡ Status.Done → (words : List (List ℕ))
-        × IsDone (F.contents files.now) words
+) -> RunReport<F::Writer>
+    ensures done { result.status ≡ Status.Done → (words : List (List ℕ))
+        × IsDone (state_by F.Writer.given F.Writer.failures) (F.contents files.now)
+        (F.begun files.now) words result.recorders.items
         (written (O.given out.old) (O.given out.new) (O.failures out.old) (O.failures out.new)) }
-    ensures quiet { result ≡ Status.Done → Keeps (E.given error.old) (E.given error.new) }
-    ensures differs { result ≡ Status.Differs → (words : List (List ℕ))
+    ensures quiet { result.status ≡ Status.Done → Keeps (E.given error.old) (E.given error.new) }
+    ensures differs { result.status ≡ Status.Differs → (words : List (List ℕ))
         × HasDifferences (F.contents files.now) words
         (written (O.given out.old) (O.given out.new) (O.failures out.old) (O.failures out.new)) }
-    ensures quiet_too { result ≡ Status.Differs → Keeps (E.given error.old) (E.given error.new) }
-    ensures failed { result ≡ Status.Failed → HasNoMemory
+    ensures quiet_too { result.status ≡ Status.Differs
+        → Keeps (E.given error.old) (E.given error.new) }
+    ensures failed { result.status ≡ Status.Failed → HasNoMemory
         (written (O.given out.old) (O.given out.new) (O.failures out.old) (O.failures out.new))
         (written (E.given error.old) (E.given error.new) (E.failures error.old) (E.failures error.new))
-        ⊎ ((words : List (List ℕ)) × IsFailed (F.has_opened files.now) (F.cannot_open files.now)
-        (F.contents files.now) words
+        ⊎ ((words : List (List ℕ)) × IsFailed (state_by F.Writer.given F.Writer.failures)
+        (F.has_opened files.now) (F.cannot_open files.now) (F.contents files.now)
+        (F.has_created files.now) (F.cannot_create files.now) (F.begun files.now) words
+        result.recorders.items
         (written (O.given out.old) (O.given out.new) (O.failures out.old) (O.failures out.new))
         (written (E.given error.old) (E.given error.new) (E.failures error.old)
         (E.failures error.new))) }
-    ensures mistaken { result ≡ Status.Usage → HasReadNoText
+    ensures mistaken { result.status ≡ Status.Usage → HasReadNoText
         (written (O.given out.old) (O.given out.new) (O.failures out.old) (O.failures out.new))
         (written (E.given error.old) (E.given error.new) (E.failures error.old) (E.failures error.new))
         ⊎ ((words : List (List ℕ)) × IsMistaken words) }
-    ensures nothing { result ≡ Status.Usage → O.given out.new ≡ O.given out.old }
-    ensures usage { result ≡ Status.Usage → (text : List ℕ)
+    ensures nothing { result.status ≡ Status.Usage → O.given out.new ≡ O.given out.old }
+    ensures usage { result.status ≡ Status.Usage → (text : List ℕ)
         × Told (written (E.given error.old) (E.given error.new) (E.failures error.old)
         (E.failures error.new)) text }
 {
     match command_line(alloc, environment) {
         Ok(words) => run(rt, alloc, files, &words, out, error),
-        Err(cause) => fail_to_read(error, cause),
+        Err(cause) => RunReport::without_recorders(alloc, fail_to_read(error, cause)),
     }
 }
 

@@ -1,7 +1,7 @@
 use Rattle.std.proofs.Common.{[], ◌∷◌, List, set, refl, sym, ◌∙◌, arith}
 use Rattle.std.proofs.lemmas.List.{length-set}
 use Rattle.std.proofs.lemmas.Option.{slice_get-get_or}
-use Rattle.std.specs.Prelude.{slice_index_or}
+use Rattle.std.specs.Prelude.{negsuc, slice_index_or}
 use Rattle.keyspace.specs.declared.batch.Batch.{Batch}
 use Rattle.keyspace.specs.declared.TheConstants.{WINDOW}
 use Rattle.resolver.specs.declared.client.Client.{Client}
@@ -50,7 +50,7 @@ module _ (g : Over) (c : In_ok-receive-2 g) where
   turned =
       let is = c.turn.ensures in
       serving_turned WINDOW c.loop.resolver before sent (c.loop.first.items ∷ c.loop.second.items ∷ [])
-      c.loop.invariant c.turn.new.self (is.resolving c.loop.invariant.resolving) is.goes_on is.lanes
+      c.loop.invariant c.turn.new.self (is.resolving (negsuc 0) c.loop.invariant.resolving) is.goes_on is.lanes
 
   first_received : AreServing WINDOW c.turn.new.self between sent
       (c.receive.new.received.items ∷ c.loop.second.items ∷ [])

@@ -1,4 +1,5 @@
 use Rattle.std.proofs.Common.{◌≡◌, ℕ, [], ◌∷◌, ◌++◌, List, length, map, set, get_or, take, refl, sym, subst, ◌∙◌, arith}
+use Rattle.std.specs.Prelude.{negsuc}
 use Rattle.std.proofs.lemmas.List.{length-set, take-append-le, take_all}
 use Rattle.std.proofs.lemmas.Option.{slice_get_read}
 use Rattle.keyspace.specs.declared.batch.Batch.{Batch}
@@ -116,5 +117,5 @@ returns c =
           (subst
           (λ (clients : List Client). (log : List Step)
           × Settled r.core.set.window log r.lanes clients account)
-          back (c.settle-account.ensures.settled_for_some serving.resolving));
+          back (c.settle-account.ensures.settled_for_some (negsuc 0) serving.resolving));
     }

@@ -1,6 +1,10 @@
-use Rattle.std.proofs.Common.{List, subst, inl, inr}
-use Rattle.clap.specs.Words.{Row}
-use Rattle.replay_arguments.specs.Words.{HasFiles, HasNumbers}
+use Rattle.std.proofs.Common.{◌≡◌, ◌∙◌, Bor, Err, List, ℕ, length, map, subst, sym, inl, inr, rules, arith}
+use Rattle.std.proofs.lemmas.Grind.{common_steps}
+use Rattle.std.proofs.lemmas.List.{length-map}
+use Rattle.replay_arguments.specs.declared.arguments.refusal.Refusal.TheVariants.{Refused}
+use Rattle.clap.specs.Words.{Row, found_of, rows_of}
+use Rattle.replay_arguments.specs.Words.{HasFiles, HasNumbers, HasRecords, HasRecordsEach, HasStream}
+use Rattle.replay_arguments.proofs.Refusals.{no_records_each}
 use Rattle.replay_arguments.proofs.arguments.read_words.Goals as goal
 
 pub returns-in_default-options_of-clause-refused : goal.returns-in_default-options_of-clause-refused
@@ -12,3 +16,20 @@ pub returns-in_default-files_of-clause-refused : goal.returns-in_default-files_o
 returns-in_default-files_of-clause-refused c = λ text is.
     inr (inr (inr (inl (subst (λ (rows : List Row). ¬ (HasFiles rows)) c.in_ok-matches.ensures.rows
     (c.files_of.ensures.none c.in_default-files_of.is)))))
+
+pub returns-in_default-is_streamed-clause-refused : goal.returns-in_default-is_streamed-clause-refused
+returns-in_default-is_streamed-clause-refused c = λ text is.
+    inr (inr (inr (inr (inr (inr (inl (subst (λ (rows : List Row). ¬ (HasStream rows)) c.in_ok-matches.ensures.rows
+    (c.is_streamed.ensures.none c.in_default-is_streamed.is c.in-Some.ensures.form))))))))
+
+pub returns-in_err-records-clause-refused : goal.returns-in_err-records-clause-refused
+returns-in_err-records-clause-refused c = λ text is.
+    let found = rows_of (found_of c.in_ok-matches.matches) in
+    let files = c.in-Some-files_of.files.now in
+    let names : List (List ℕ) = map (λ (v : Bor (List ℕ)). v.now) files in
+    let was : c.records_of.result ≡ Err (Refused text) = first_of (search rules, grind (arith, common_steps)) in
+    let refused = c.records_of.ensures.refused text was c.in-Some-is_streamed.ensures.stream in
+    let count : length files ≡ length names = sym (length-map files (λ (v : Bor (List ℕ)). v.now)) in
+    let none = subst (λ (n : ℕ). ¬ (HasRecords n found)) count refused.1 in
+    inr (inr (inr (inr (inr (inr (inr (subst (λ (rows : List Row). ¬ (HasRecordsEach rows)) c.in_ok-matches.ensures.rows
+    (no_records_each found names c.in-Some-files_of.ensures.files refused.0 none))))))))

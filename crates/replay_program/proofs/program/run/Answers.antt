@@ -1,23 +1,31 @@
-use Rattle.std.proofs.Common.{◌∙◌, List, ℕ, Err, ap, map, arith}
-use Rattle.std.specs.Prelude.{string_bytes, IsTrue}
+use Rattle.std.proofs.Common.{◌≡◌, ◌∙◌, List, ℕ, Err, ap, inl, inr, map, subst, sym, arith, rules}
+use Rattle.std.specs.Prelude.{◌⊎◌, true, false, string_bytes, vec_len, IsTrue}
 use Rattle.stepmap.proofs.callers.Booleans.{is_false}
 use Rattle.std.proofs.lemmas.List.{length-map}
+use Rattle.replay_arguments.specs.Words.{HoldsStream, rows_of_words}
 use Rattle.replay_program.specs.Replayed.{written}
-use Rattle.replay_program.proofs.Programs.{ends_by, ends_checked, ends_replayed, not_kept}
+use Rattle.replay_output.specs.declared.status.Status.{Status}
+use Rattle.replay_workers.specs.Sinks.{state_by}
+use Rattle.replay_program.proofs.Programs.{Ends, ends_by, ends_checked, ends_replayed, ends_streamed, not_kept, not_streamed}
 use Rattle.replay_program.proofs.program.run.Goals as goal
 
 pub returns-in-Err : goal.returns-in-Err
 returns-in-Err g c =
     let files = c.args.files.now in
+    let state = state_by g.F.Writer.Sink.given g.F.Writer.Sink.failures in
+    let recorders = c.without_recorders-in-Err.result.recorders.items in
     let words : List (List ℕ) = map string_bytes c.args.words.now in
     let out = written (g.O.Sink.given c.args.out.now) (g.O.Sink.given c.end.new.out)
     (g.O.Sink.failures c.args.out.now) (g.O.Sink.failures c.end.new.out) in
     let error = written (g.E.Sink.given c.args.error.now) (g.E.Sink.given c.end.new.error)
     (g.E.Sink.failures c.args.error.now) (g.E.Sink.failures c.end.new.error) in
     let end = c.end.ensures in
-    let ends = ends_by (g.F.Files.has_opened files) (g.F.Files.cannot_open files) (g.F.Files.contents files) out error
-    words c.end.result c.in-Err.refusal (λ text is. c.read_words.ensures.shown text (c.in-Err.is ∙ ap Err is)) (λ text is. c.read_words.ensures.refused text (c.in-Err.is ∙ ap Err is))
+    let ends_by_status = ends_by (g.F.Files.has_opened files) (g.F.Files.cannot_open files) (g.F.Files.contents files) out error
+    state (g.F.Files.has_created files) (g.F.Files.cannot_create files) (g.F.Files.begun files) recorders words c.end.result c.in-Err.refusal (λ text is. c.read_words.ensures.shown text (c.in-Err.is ∙ ap Err is)) (λ text is. c.read_words.ensures.refused text (c.in-Err.is ∙ ap Err is))
     end.shown end.not_shown end.quiet end.refused end.told end.memory end.memory_told in
+    let ends = subst (λ (s : Status). Ends (g.F.Files.has_opened files) (g.F.Files.cannot_open files) (g.F.Files.contents files) out error
+    state (g.F.Files.has_created files) (g.F.Files.cannot_create files) (g.F.Files.begun files) recorders words s)
+    (sym c.without_recorders-in-Err.ensures.status) ends_by_status in
     record {
       done = ends.done;
       quiet = ends.quiet;
@@ -32,6 +40,8 @@ returns-in-Err g c =
 pub returns-in-Ok : goal.returns-in-Ok
 returns-in-Ok g c =
     let files = c.args.files.now in
+    let state = state_by g.F.Writer.Sink.given g.F.Writer.Sink.failures in
+    let recorders = c.without_recorders.result.recorders.items in
     let words : List (List ℕ) = map string_bytes c.args.words.now in
     let line = c.in-Ok.line in
     let names : List (List ℕ) = map (λ name. name.now) line.files.items in
@@ -42,8 +52,8 @@ returns-in-Ok g c =
     (g.E.Sink.failures c.args.error.now) (g.E.Sink.failures c.check_files.new.error) in
     let checked = c.check_files.ensures in
     let kept = c.is_kept.ensures.kept.0 c.if-is_kept.true in
-    let ends = ends_checked (g.F.Files.has_opened files) (g.F.Files.cannot_open files) (g.F.Files.contents files) out error
-    words c.check_files.result line.options names replies
+    let ends_by_status = ends_checked (g.F.Files.has_opened files) (g.F.Files.cannot_open files) (g.F.Files.contents files) out error
+    state (g.F.Files.has_created files) (g.F.Files.cannot_create files) (g.F.Files.begun files) recorders words c.check_files.result line.options names replies
     (record {
       taken = c.in-Ok.ensures.taken;
       holds_options = c.in-Ok.ensures.options;
@@ -54,8 +64,14 @@ returns-in-Ok g c =
       input = c.in-Ok.ensures.input;
       as_many = omega (arith, c.in-Ok.ensures.as_many kept, length-map line.files.items (λ name. name.now), length-map line.replies.items (λ name. name.now));
       kept = kept;
+      at_the_end =
+          subst (HoldsStream (rows_of_words words)) (not_streamed line.is_streamed (λ on. c.in-Ok.ensures.plain on kept))
+          c.in-Ok.ensures.streamed;
     })
     checked.done checked.differs checked.quiet checked.failed checked.ends in
+    let ends = subst (λ (s : Status). Ends (g.F.Files.has_opened files) (g.F.Files.cannot_open files) (g.F.Files.contents files) out error
+    state (g.F.Files.has_created files) (g.F.Files.cannot_create files) (g.F.Files.begun files) recorders words s)
+    (sym c.without_recorders.ensures.status) ends_by_status in
     record {
       done = ends.done;
       quiet = ends.quiet;
@@ -70,6 +86,62 @@ returns-in-Ok g c =
 pub returns-in-Ok-2 : goal.returns-in-Ok-2
 returns-in-Ok-2 g c =
     let files = c.args.files.now in
+    let state = state_by g.F.Writer.Sink.given g.F.Writer.Sink.failures in
+    let recorders = c.stream_files.result.recorders.items in
+    let words : List (List ℕ) = map string_bytes c.args.words.now in
+    let line = c.in-Ok.line in
+    let names : List (List ℕ) = map (λ name. name.now) line.files.items in
+    let records : List (List ℕ) = map (λ name. name.now) line.records.items in
+    let on : line.is_streamed ≡ true = search rules in
+    let each : (vec_len line.records ≡ 0) ⊎ (vec_len line.records ≡ vec_len line.files) =
+    elim c.in-Ok.ensures.records_each [ inl none ↦ inl none | inr some ↦ inr some.1 ] in
+    let out = written (g.O.Sink.given c.args.out.now) (g.O.Sink.given c.stream_files.new.out)
+    (g.O.Sink.failures c.args.out.now) (g.O.Sink.failures c.stream_files.new.out) in
+    let error = written (g.E.Sink.given c.args.error.now) (g.E.Sink.given c.stream_files.new.error)
+    (g.E.Sink.failures c.args.error.now) (g.E.Sink.failures c.stream_files.new.error) in
+    let streamed = c.stream_files.ensures in
+    let no : ¬ IsTrue c.is_kept.result = is_false c.is_kept.result c.if-is_kept.false in
+    let ends = ends_streamed (g.F.Files.has_opened files) (g.F.Files.cannot_open files) (g.F.Files.contents files) out error
+    state (g.F.Files.has_created files) (g.F.Files.cannot_create files) (g.F.Files.begun files) recorders words c.stream_files.result.status line.options names records
+    (record {
+      taken = c.in-Ok.ensures.taken;
+      holds_options = c.in-Ok.ensures.options;
+      holds_names = c.in-Ok.ensures.files;
+      holds_records = sym c.in-Ok.ensures.records;
+      least = omega (arith, c.in-Ok.ensures.least, length-map line.files.items (λ name. name.now));
+      most = omega (arith, c.in-Ok.ensures.most, length-map line.files.items (λ name. name.now));
+      input = c.in-Ok.ensures.input;
+      as_they_come = subst (HoldsStream (rows_of_words words)) on c.in-Ok.ensures.streamed;
+      records_each = elim each [
+        | inl none ↦ inl (omega (arith, none, line.records.ok.0, length-map line.records.items (λ name. name.now)))
+        | inr same ↦ inr (omega (
+          arith,
+          same,
+          line.records.ok.0,
+          line.files.ok.0,
+          length-map line.records.items (λ name. name.now),
+          length-map line.files.items (λ name. name.now),
+        ))
+      ];
+      plain = not_kept line.options.form (λ is. no (c.is_kept.ensures.kept.1 is));
+    })
+    streamed.done streamed.quiet streamed.failed streamed.ends streamed.same in
+    record {
+      done = ends.done;
+      quiet = ends.quiet;
+      failed = ends.failed;
+      mistaken = ends.mistaken;
+      nothing = ends.nothing;
+      usage = ends.usage;
+      differs = ends.differs;
+      quiet_too = ends.quiet_too;
+    }
+
+pub returns-in-Ok-3 : goal.returns-in-Ok-3
+returns-in-Ok-3 g c =
+    let files = c.args.files.now in
+    let state = state_by g.F.Writer.Sink.given g.F.Writer.Sink.failures in
+    let recorders = c.without_recorders-in-Ok-3.result.recorders.items in
     let words : List (List ℕ) = map string_bytes c.args.words.now in
     let line = c.in-Ok.line in
     let names : List (List ℕ) = map (λ name. name.now) line.files.items in
@@ -78,9 +150,10 @@ returns-in-Ok-2 g c =
     let error = written (g.E.Sink.given c.args.error.now) (g.E.Sink.given c.replay_files.new.error)
     (g.E.Sink.failures c.args.error.now) (g.E.Sink.failures c.replay_files.new.error) in
     let replayed = c.replay_files.ensures in
+    let off : line.is_streamed ≡ false = search rules in
     let no : ¬ IsTrue c.is_kept.result = is_false c.is_kept.result c.if-is_kept.false in
-    let ends = ends_replayed (g.F.Files.has_opened files) (g.F.Files.cannot_open files) (g.F.Files.contents files) out error
-    words c.replay_files.result line.options names
+    let ends_by_status = ends_replayed (g.F.Files.has_opened files) (g.F.Files.cannot_open files) (g.F.Files.contents files) out error
+    state (g.F.Files.has_created files) (g.F.Files.cannot_create files) (g.F.Files.begun files) recorders words c.replay_files.result line.options names
     (record {
       taken = c.in-Ok.ensures.taken;
       holds_options = c.in-Ok.ensures.options;
@@ -88,9 +161,13 @@ returns-in-Ok-2 g c =
       least = omega (arith, c.in-Ok.ensures.least, length-map line.files.items (λ name. name.now));
       most = omega (arith, c.in-Ok.ensures.most, length-map line.files.items (λ name. name.now));
       input = c.in-Ok.ensures.input;
+      at_the_end = subst (HoldsStream (rows_of_words words)) off c.in-Ok.ensures.streamed;
       plain = not_kept line.options.form (λ is. no (c.is_kept.ensures.kept.1 is));
     })
     replayed.done replayed.quiet replayed.failed replayed.ends replayed.same in
+    let ends = subst (λ (s : Status). Ends (g.F.Files.has_opened files) (g.F.Files.cannot_open files) (g.F.Files.contents files) out error
+    state (g.F.Files.has_created files) (g.F.Files.cannot_create files) (g.F.Files.begun files) recorders words s)
+    (sym c.without_recorders-in-Ok-3.ensures.status) ends_by_status in
     record {
       done = ends.done;
       quiet = ends.quiet;

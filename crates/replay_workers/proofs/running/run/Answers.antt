@@ -1,7 +1,7 @@
 use Rattle.std.proofs.lemmas.Bool.{false≢true}
 use Rattle.std.proofs.Common.{◌≡◌, ℕ, List, [], ap, sym, subst, ◌∙◌, arith, rules, ℤ, length, w64, to_z, of_z}
 use Rattle.std.proofs.lemmas.Int.{ints, to_z-of_z}
-use Rattle.std.specs.Prelude.{map, true, Option, None, IfSome, slice_get, vec_len}
+use Rattle.std.specs.Prelude.{negsuc, map, true, Option, None, IfSome, slice_get, vec_len}
 use Rattle.std.specs.List.{All, AllZip}
 use Rattle.resolver.specs.declared.client.Client.{Client}
 use Rattle.resolver.specs.declared.stop.Stop.{Stop}
@@ -82,7 +82,7 @@ returns g c =
     let limit_is = c.turn_to_end.ensures.goes_on.limit ∙ c.in_ok-resolver.ensures.limit in
     let handed_back = c.as_mut_slice.ensures.value ∙ worked.2.clients in
     let windowed = subst (λ (window : ℤ). Settled window told.log resolver.lanes c.as_mut_slice.result.now account) window_is
-    (c.settle-account.ensures.settled told.log told.stands) in
+    (c.settle-account.ensures.settled (negsuc 0) told.log told.stands) in
     let settled = subst (λ (back : List Client). Settled c.args.options.window told.log resolver.lanes back account)
     handed_back windowed in
     let outcome = c.join_all-outcome.result in

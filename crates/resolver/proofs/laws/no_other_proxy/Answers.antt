@@ -6,8 +6,9 @@ pub returns-clause-takes_only : goal.returns-clause-takes_only
 returns-clause-takes_only c = λ proxies log. (none_of_others proxies log, takes_only proxies log)
 
 pub returns-clause-stands : goal.returns-clause-stands
-returns-clause-stands c = λ r log stands. none_of_others (length r.lanes) log (stands_only r log stands)
+returns-clause-stands c = λ version r log stands.
+    none_of_others (length r.lanes) log (stands_only version r log stands)
 
 pub returns-clause-settled : goal.returns-clause-settled
-returns-clause-settled c = λ window log ended clients account settled.
+returns-clause-settled c = λ version window log lanes clients account settled.
     none_of_others (length clients) log settled.proxies

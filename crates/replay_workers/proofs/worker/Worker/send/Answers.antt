@@ -1,4 +1,4 @@
-use Rattle.std.proofs.Common.{rules, ◌∙◌}
+use Rattle.std.proofs.Common.{rules}
 use Rattle.replay_workers.proofs.Keeping.{sends_on}
 use Rattle.replay_workers.proofs.worker.Worker.send.Goals as goal
 

@@ -1,13 +1,13 @@
-use Rattle.std.proofs.Common.{◌≡◌, ◌++◌, ℕ, List, true, length, take, drop, Some, ap, sym, subst, subst₂, ◌∙◌}
+use Rattle.std.proofs.Common.{◌≡◌, ◌++◌, ℕ, ℤ, List, true, length, take, drop, Some, ap, sym, subst, subst₂, ◌∙◌}
 use Rattle.std.specs.Prelude.{◌↔◌, slice_get}
 use Rattle.std.proofs.lemmas.List.{length-map}
 use Rattle.keyspace.specs.Run.{Step}
 use Rattle.lane.specs.Lane.{HasEnded}
 use Rattle.resolver.specs.declared.client.Client.{Client}
-use Rattle.resolver.specs.Resolver.{ResolverState, StandsOver, AreClients}
+use Rattle.resolver.specs.Resolver.{ResolverState, StandsOverFrom, AreClients}
 use Rattle.resolver.specs.Lanes.{Each, LanesGoOn, AreSameLists, sent_to}
 use Rattle.resolver.specs.Parts.{ProxyLanesView, Parts, AreParts, EachSettled, lanes_of, owed_with, resolver_of}
-use Rattle.resolver.specs.Settled.{Settled, IsComplete}
+use Rattle.resolver.specs.Settled.{SettledFrom, IsComplete}
 use Rattle.resolver.proofs.Resolving.{stands_settled}
 use Rattle.resolver.proofs.Settling.{written_back}
 use Rattle.resolver.proofs.Unchanged.{owed_with-settled, lanes_hold, lanes_settled, clients_settled, with_all_lanes, AreParts-settled}
@@ -70,9 +70,10 @@ pub returns-clause-settled : goal.returns-clause-settled
 returns-clause-settled c =
     let clients = c.args.clients.now in
     subst
-    (λ (r : ResolverState). (log : List Step) → StandsOver r log → Settled r.core.set.window log r.lanes clients c.new.result)
+    (λ (r : ResolverState). (version : ℤ) (log : List Step) → StandsOverFrom version r log
+    → SettledFrom version r.core.set.window log r.lanes clients c.new.result)
     c.self.view_is
-    (λ log stands. settled (parts c) c.self.invariant clients (many c) log stands
+    (λ version log stands. settled (parts c) c.self.invariant clients (many c) version log stands
     (lanes_hold (parts c).all_lanes (new c) clients c.settle-all_taken.new.clients (each c)
     (clients_are c).count)
     c.runs_are_chains.ensures.chain c.each_batch_is_answered.ensures.once
@@ -80,8 +81,8 @@ returns-clause-settled c =
     c.answers_tell_verdicts.ensures.tell _ (complete_is c).0 (c.new.ensures.stop ∙ c.stop.ensures.stop))
 
 pub returns-clause-settled_for_some : goal.returns-clause-settled_for_some
-returns-clause-settled_for_some c = λ before.
-    (before.log, returns-clause-settled c before.log before.stands)
+returns-clause-settled_for_some c = λ version before.
+    (before.log, returns-clause-settled c version before.log before.stands)
 
 pub returns-clause-complete : goal.returns-clause-complete
 returns-clause-complete c =
@@ -125,7 +126,7 @@ returns-clause-stands c =
     stands_settled c.args.self.now _ (returns-clause-core c) (returns-clause-lanes c)
 
 pub returns-clause-resolving : goal.returns-clause-resolving
-returns-clause-resolving c = λ before. record {
+returns-clause-resolving c = λ version before. record {
   log = before.log;
-  stands = returns-clause-stands c before.log before.stands;
+  stands = returns-clause-stands c version before.log before.stands;
 }

@@ -6,7 +6,8 @@ use Rattle.keyspace.specs.Run.{run}
 use Rattle.resolver.specs.declared.stop.Stop.TheVariants.{GateFull, ArenaFull}
 use Rattle.resolver.specs.Core.{GoesOn, StopsAtLimit}
 use Rattle.resolver.specs.Lanes.{Each, LanesGoOn, IsLookedThrough, ComesBefore, all_ended, sent_to}
-use Rattle.resolver.specs.Resolver.{ResolverState, StandsOver, TakesFrom, Finishes, TakesNoStep}
+use Rattle.resolver.specs.OpeningLog.{log_from}
+use Rattle.resolver.specs.Resolver.{ResolverState, StandsOverFrom, TakesFrom, Finishes, TakesNoStep}
 use Rattle.resolver.specs.Parts.{Parts, resolver_of, lanes_of, AreParts, FindsOne, FindsNone}
 use Rattle.resolver.proofs.Stops.{same_stop, IfErr-always}
 use Rattle.resolver.proofs.Stepping.{
@@ -143,21 +144,23 @@ returns-in_err-admit-in-Some-take_from-clause-gate_full c =
 
 pub returns-in_err-admit-in-Some-take_from-clause-arena_full : goal.returns-in_err-admit-in-Some-take_from-clause-arena_full
 returns-in_err-admit-in-Some-take_from-clause-arena_full c =
-    λ running is log s.
+    λ running is version log s.
     let stop = c.in_err-admit-in-Some-take_from.field-0.0 in
     let met = same_stop c.from_residual.result stop ArenaFull c.from_residual.ensures.1 is in
     let limit = c.self.inside.core.set.map.limit in
     let window = c.self.inside.core.set.window in
     let given = sent_to (lanes_of (stopped_new c).all_lanes) in
     let core = (resolver_of (stopped_new c)).core in
+    let whole = log_from version (length (lanes_of (stopped_old c).all_lanes)) log in
     subst (λ (r : ResolverState). (p : ℕ) × (t : TakesFrom p r (resolver_of (stopped_new c)))
-    × StopsAtLimit r.core.set.map.limit r.core.set.window p t.batch (run r.core.set.window log) given core)
+    × StopsAtLimit r.core.set.map.limit r.core.set.window p t.batch
+    (run r.core.set.window (log_from version (length r.lanes) log)) given core)
     c.self.view_is
     (takes_over (stopped_old c) (stopped_new c) c.self.inside.next c.in-Some-take_from.proxy c.in-Some-take_from.batch
-    (stopped_found c) c.self.invariant (stopped_running c) c.admit.ensures.goes_on refl refl refl (λ p b. StopsAtLimit limit window p b (run window log) given core)
+    (stopped_found c) c.self.invariant (stopped_running c) c.admit.ensures.goes_on refl refl refl (λ p b. StopsAtLimit limit window p b (run window whole) given core)
     (stops_at_limit (stopped_old c) (stopped_new c) c.self.inside.next c.in-Some-take_from.proxy c.in-Some-take_from.batch
-    (stopped_found c) c.self.invariant (stopped_running c) c.admit.ensures.goes_on refl refl refl log
-    (subst (λ r. StandsOver r log) (sym c.self.view_is) s)
+    (stopped_found c) c.self.invariant (stopped_running c) c.admit.ensures.goes_on refl refl refl version log
+    (subst (λ (r : ResolverState). StandsOverFrom version r log) (sym c.self.view_is) s)
     (c.admit.ensures.arena_full (stopped_running c) (c.in_err-admit-in-Some-take_from.was ∙ ap Err met)))
     (c.admit.ensures.stands (stopped_running c)))
 

@@ -1,9 +1,10 @@
 use Rattle.resolver.specs.declared.turn.Turn.{Turn}
 use Rattle.resolver.specs.declared.stop.Stop.{Stop}
 use Rattle.resolver.specs.Parts.{Parts}
-use Rattle.std.proofs.Common.{◌≡◌, Result, refl, sym, ap, ◌∙◌, Ok, Err, subst, inl, inr}
+use Rattle.std.proofs.Common.{◌≡◌, length, Result, refl, sym, ap, ◌∙◌, Ok, Err, subst, inl, inr}
 use Rattle.keyspace.specs.Run.{run}
 use Rattle.resolver.specs.Lanes.{Each, IsLookedThrough, ComesBefore}
+use Rattle.resolver.specs.OpeningLog.{log_from}
 use Rattle.resolver.specs.Resolver.{StepsBy, IsThrough, IfNotTaken}
 use Rattle.resolver.proofs.Turning.{TakesFrom-on, Finishes-on, TakesNoStep-on, looked_on, full_on, lanes_on, told, StepsBy-told, IfNotTaken-told, took-told, all_looked_on, stopped_on, stop_met_on, done_means, done_where, closed_by, answers_over, stops_on, same_set}
 use Rattle.resolver.proofs.Resolving.{resolving_turned, resolving_stopped}
@@ -57,8 +58,8 @@ returns-clause-step c =
     ]))
 
 pub returns-clause-resolving : goal.returns-clause-resolving
-returns-clause-resolving c = λ before.
-    resolving_turned c.args.self.now c.close.new.self before c.match-branch-2.result (returns-clause-step c)
+returns-clause-resolving c = λ version before.
+    resolving_turned version c.args.self.now c.close.new.self before c.match-branch-2.result (returns-clause-step c)
 
 pub returns-clause-passed : goal.returns-clause-passed
 returns-clause-passed c = λ proxy is.
@@ -99,25 +100,26 @@ returns-in_err-proxy-clause-stop_met c =
     (stop_met_on c.hand_out.ensures c.close.ensures c.in_err-proxy.ensures.stop_met)
 
 pub returns-in_err-proxy-clause-resolving : goal.returns-in_err-proxy-clause-resolving
-returns-in_err-proxy-clause-resolving c = λ before.
-    resolving_stopped c.args.self.now c.close.new.self before c.args.self.now.core.stop
+returns-in_err-proxy-clause-resolving c = λ version before.
+    resolving_stopped version c.args.self.now c.close.new.self before c.args.self.now.core.stop
     (stop_met_on c.hand_out.ensures c.close.ensures c.in_err-proxy.ensures.stop_met)
     (returns-in_err-proxy-clause-stopped c)
 
 pub returns-in_err-proxy-clause-arena_full : goal.returns-in_err-proxy-clause-arena_full
-returns-in_err-proxy-clause-arena_full c = λ running is log s.
+returns-in_err-proxy-clause-arena_full c = λ running is version log s.
     let met = same_stop c.from_residual.result c.in_err-proxy.field-0.0 stop.ArenaFull c.from_residual.ensures.1 is in
-    let full = c.in_err-proxy.ensures.arena_full running (ap Err met) log s in
-    let set = c.args.self.now.core.set in (
+    let full = c.in_err-proxy.ensures.arena_full running (ap Err met) version log s in
+    let set = c.args.self.now.core.set in
+    let whole = log_from version (length c.args.self.now.lanes) log in (
       full.0,
       TakesFrom-on c.hand_out.ensures c.close.ensures full.0 full.1,
-      stops_on c.hand_out.ensures c.close.ensures set.map.limit set.window full.0 full.1.batch (run set.window log) full.2,
+      stops_on c.hand_out.ensures c.close.ensures set.map.limit set.window full.0 full.1.batch (run set.window whole) full.2,
     )
 
 pub returns-in_err-proxy-clause-beyond_share : goal.returns-in_err-proxy-clause-beyond_share
-returns-in_err-proxy-clause-beyond_share c = λ running is before.
+returns-in_err-proxy-clause-beyond_share c = λ running is version before.
     let full = returns-in_err-proxy-clause-gate_full c running is in
     let set = same_set c.hand_out.ensures c.close.ensures in
-    beyond_share c.args.self.now c.close.new.self
+    beyond_share version c.args.self.now c.close.new.self (returns-in_err-proxy-clause-lanes c).count
     (ap (λ s. s.window) set ∙ c.step-stepped.ensures.goes_on.window) c.close.ensures.count running before full.0 full.1
     full.2 full.3

@@ -1,0 +1,41 @@
+//! What the sender of a proxy learns from other threads.
+
+use std::sync::atomic::{AtomicBool, AtomicU64, Ordering};
+
+/// How far the answers to a proxy have come, for its sender to see. No clause can say what another
+/// thread has stored.
+#[derive(Drop)]
+pub struct Progress {
+    answered: AtomicU64,
+    ended: AtomicBool,
+}
+
+impl Progress {
+    /// Creates the progress of a proxy that has got no answer.
+    pub fn new() -> Self {
+        Progress {
+            answered: AtomicU64::new(0),
+            ended: AtomicBool::new(false),
+        }
+    }
+
+    /// Tells that n answers were taken.
+    pub fn tell(&self, answered: u64) {
+        self.answered.store(answered, Ordering::SeqCst);
+    }
+
+    /// Tells that the proxy sends no more: its answers have ended, or its records can't be written.
+    pub fn end(&self) {
+        self.ended.store(true, Ordering::SeqCst);
+    }
+
+    /// Returns how many answers were taken, by what was told last.
+    pub fn answered(&self) -> u64 {
+        self.answered.load(Ordering::SeqCst)
+    }
+
+    /// Returns whether it was told that the proxy sends no more.
+    pub fn has_ended(&self) -> bool {
+        self.ended.load(Ordering::SeqCst)
+    }
+}
