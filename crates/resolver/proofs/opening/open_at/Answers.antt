@@ -22,5 +22,5 @@ returns-clause-resolving c = record { log = []; stands = returns-clause-stands c
 
 pub returns-clause-version : goal.returns-clause-version
 returns-clause-version c =
-    let none = ap (λ (core : CoreState). core.stop) c.new.ensures.core ∙ c.in_ok-core.ensures.open in
+    let none = ap (λ (core : CoreState). core.stop) c.new.ensures.core ∙ c.in_ok-core.ensures.«open» in
     version_opened c.args.version c.new.result (returns-clause-stands c) none c.requires.least_version
