@@ -83,7 +83,10 @@ pub fn open_at(
 }
 
 // Links the resolver with its clients, each of which has the ends at its number.
-fn linked(resolver: resolver::Resolver, ends: Vec<resolver::Client>) -> (Resolver, Vec<Client>) {
+fn linked(
+    resolver: resolver::Resolver,
+    ends: rattle_std::vec::Vec<resolver::Client>,
+) -> (Resolver, Vec<Client>) {
     let proxies = ends.len();
     let link = Arc::new(Link::new(proxies));
     let clients = ends.into_iter().enumerate();
