@@ -18,6 +18,7 @@ use crate::stop::{
 };
 use crate::waiting::Waiting;
 use rattle_std::alloc::Global;
+use rattle_std::vec;
 use std::error::Error;
 use std::fmt;
 use std::sync::Arc;
@@ -83,7 +84,10 @@ pub fn open_at(
 }
 
 // Links the resolver with its clients, each of which has the ends at its number.
-fn linked(resolver: resolver::Resolver, ends: Vec<resolver::Client>) -> (Resolver, Vec<Client>) {
+fn linked(
+    resolver: resolver::Resolver,
+    ends: vec::Vec<resolver::Client>,
+) -> (Resolver, Vec<Client>) {
     let proxies = ends.len();
     let link = Arc::new(Link::new(proxies));
     let clients = ends.into_iter().enumerate();
