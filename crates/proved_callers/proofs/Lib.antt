@@ -1,3 +1,2 @@
 pub mod TwoProxies
 pub mod Transferring
-pub mod OneProxy

@@ -3,8 +3,7 @@
 //!
 //! [`keep_two`] places records in an arena, [`there_and_back`] encodes a batch and decodes it
 //! again, [`through`] sends an item along a lane, [`judge_two`] resolves two batches with a
-//! conflict set, and [`serve_two`] has a resolver serve two proxies. [`serve_from`] has one that
-//! starts at a version. Nothing depends on this crate.
+//! conflict set, and [`serve_two`] has a resolver serve two proxies. Nothing depends on this crate.
 #![tactic(auto)]
 
 mod arena_use;
@@ -17,5 +16,5 @@ mod wire_use;
 pub use arena_use::keep_two;
 pub use conflict_use::judge_two;
 pub use lane_use::through;
-pub use serving::{Served, serve_from, serve_two, transfer_two};
+pub use serving::{Served, serve_two, transfer_two};
 pub use wire_use::there_and_back;

@@ -1,13 +1,9 @@
-//! The resolver: proxies served in one thread, from the opening to the account.
+//! The resolver: two proxies served in one thread, from the opening to the account.
 
-ghost use Rattle.std.specs.Prelude.{◌≡◌, ◌≤ℤ◌, ℕ, ℤ, negsuc, true, [], ◌∷◌, List, Some, IfOk, OnOk};
-ghost use Rattle.std.specs.Prelude.{slice_get};
+ghost use Rattle.std.specs.Prelude.{◌≡◌, true, [], ◌∷◌, List, IfOk, OnOk};
 ghost use Rattle.keyspace.specs.declared.TheConstants.{WINDOW};
-ghost use Rattle.keyspace.specs.declared.txn.Txn.{Txn};
 ghost use Rattle.keyspace.specs.Run.{Step};
-ghost use Rattle.serial.specs.Replies.{ReportsCommitted};
 ghost use Rattle.lane.specs.Lane.{PortGoesOn, IntakeGoesOn};
-ghost use Rattle.resolver.specs.OpeningLog.{ReadsFrom};
 ghost use Rattle.resolver.specs.Resolver.{IsNewClient};
 ghost use Rattle.keyspace.specs.declared.batch.Batch.{Batch};
 ghost use Rattle.proved_callers.specs.Served.{AreServed, AreServing};
@@ -15,7 +11,7 @@ ghost use Rattle.proved_callers.specs.Transfers.{SumStays};
 
 use keyspace::{Answer, Batch, WINDOW};
 use lane::Taken;
-use resolver::{Account, Client, OpenError, Resolver, Stop, open, open_at};
+use resolver::{Account, Client, OpenError, Resolver, open};
 use std::alloc::{AllocError, Global};
 use stepmap::MAX_LIMIT;
 
@@ -72,25 +68,6 @@ pub fn transfer_two(
         × SumStays WINDOW log first second) }
 {
     serve_two(alloc, first, second, turns)
-}
-
-/// Serves a batch after a restart, by a resolver that starts at the store's version, and returns
-/// the answers that come in one turn. No transaction is reported as committed that reads below the
-/// version.
-pub fn serve_from(alloc: Global, version: i64, batch: Batch) -> Result<(Vec<Answer>, Account), Stop>
-    requires least_version { negsuc 0 ≤ℤ version }
-    ensures reads { IfOk result (λ served. (at : ℤ) (j : ℕ) (t : Txn)
-        → ReportsCommitted served.0.items at j
-        → slice_get batch.txns j ≡ Some t → ReadsFrom version t) }
-{
-    resolver::laws::none_reads_below();
-    let (mut resolver, mut clients) = open_at(alloc, 1, 1, WINDOW, MAX_LIMIT, version)?;
-    send_only(&mut clients[0], batch);
-    resolver.turn()?;
-    let mut answers = Vec::new(alloc);
-    receive(&mut clients[0], &mut answers)?;
-    let account = resolver.settle(&mut clients);
-    Ok((answers, account))
 }
 
 // Takes n turns, and an answer of each of two proxies after each of them, if one has come. Returns
