@@ -15,6 +15,7 @@ _replay() {
                 ' --window') wanted=OTHER ;;
                 ' --limit') wanted=OTHER ;;
                 ' --check') wanted=FILE ;;
+                ' --replies') wanted=FILE ;;
                 *) ;;
             esac
         else
@@ -26,7 +27,7 @@ _replay() {
         :
     elif [[ ! $ended && $current == -* ]]; then
         case $command in
-            '') wanted='--capacity --window --limit --frames --json --check -h --help -V --version' ;;
+            '') wanted='--capacity --window --limit --frames --json --check --stream --replies -h --help -V --version' ;;
             *) wanted=OTHER ;;
         esac
     else

@@ -6,5 +6,7 @@ complete --command replay --long-option limit --exclusive --description 'Boundar
 complete --command replay --long-option frames --description 'Prints each reply as its frame in hexadecimal, in place of words'
 complete --command replay --long-option json --description 'Prints each answer as a line of JSON'
 complete --command replay --long-option check --require-parameter --force-files --description 'Compares with the reply frames of another resolver; once a FILE, in order'
+complete --command replay --long-option stream --description 'Prints each answer as it comes, in the order of each proxy'
+complete --command replay --long-option replies --require-parameter --force-files --description 'With --stream, writes the records of answers to a file; once a FILE, in order'
 complete --command replay --short-option h --long-option help --description 'Print help'
 complete --command replay --short-option V --long-option version --description 'Print version'
