@@ -17,7 +17,7 @@ padded zero xs = []
 padded (suc n) [] = None ∷ padded n []
 padded (suc n) (x ∷ xs) = Some x ∷ padded n xs
 
-error_or : {X E : Type 0} → E → Result X E → E
+abbrev error_or : {X E : Type 0} → E → Result X E → E
 error_or other (Ok x) = other
 error_or other (Err e) = e
 
