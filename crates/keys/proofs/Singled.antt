@@ -1,12 +1,12 @@
 -- Single keys of which only those are ranked whose hashes fall into the cells of written ones.
-use Rattle.std.proofs.Common.{◌≡◌, ℕ, zero, suc, ◌+◌, ◌<◌, Bool, true, false, cond, not, List, [], ◌∷◌, ◌++◌, length, get_or, map, filter, replicate, refl, sym, ap, subst, ◌∙◌, inl, inr, arith}
+use Rattle.std.proofs.Common.{◌≡◌, ℕ, zero, suc, ◌+◌, ◌<◌, ◌≤◌, Bool, true, false, cond, not, List, [], ◌∷◌, ◌++◌, length, get_or, map, filter, replicate, refl, sym, ap, subst, ◌∙◌, inl, inr, arith}
 use Rattle.std.specs.Prelude.{All, Contains, Option, Some, None, slice_get}
 use Rattle.std.specs.Option.{MatchOption}
 use Rattle.std.specs.List.{AllZip}
 use Rattle.std.specs.List.Sorted.{IsPermutation}
 use Rattle.std.proofs.lemmas.List.{ext_get_or, get_or-map, get_or-replicate, get_or_past, length-map, length-replicate, length_push}
-use Rattle.std.proofs.lemmas.List.Elements.{All-contains, All-cons, All-map, All-nil, Contains-append_cases, Contains-get_or, filter_passes}
-use Rattle.std.proofs.lemmas.List.Sorted.{Contains-permutation, IsPermutation-filter_both, IsPermutation-sym}
+use Rattle.std.proofs.lemmas.List.Elements.{All-contains, All-cons, All-filter, All-map, All-nil, Contains-append_cases, Contains-get_or, filter_passes}
+use Rattle.std.proofs.lemmas.List.Sorted.{All-permutation, Contains-permutation, IsPermutation-filter_both, IsPermutation-sym, length_permutation}
 use Rattle.std.proofs.lemmas.Option.{get_or_from_slice_get, slice_get-get_or, slice_get_cases, slice_get_within}
 use Rattle.std.proofs.lemmas.Slice.Zip.{AllZip-long}
 use Rattle.keys.specs.Hash.{hash_of, AreHashesOf, IsHashOf}
@@ -14,14 +14,14 @@ use Rattle.keys.specs.Key.{IsBefore, IsAtMost}
 use Rattle.keys.specs.Range.{is_filled, IsEmpty, IsSingle, Meets}
 use Rattle.keys.specs.Ranks.{filled_from, rank, run_or_none, runs_of, AreRanked, HaveBegin, RanksView}
 use Rattle.keys.specs.Sorting.{begin_at, begin_of, indices_of, AreInBeginOrder}
-use Rattle.keys.specs.Numbering.{run_at, IsNumbered, OthersStay}
-use Rattle.keys.specs.Singles.{counts_at, is_in_cells, is_marked, picked, AreInCells, AreNumberedAmong, AreRankedFor, HaveInOrder, IsRankedAs}
+use Rattle.keys.specs.Numbering.{run_at, IsFilledAt, IsNumbered, OthersStay}
+use Rattle.keys.specs.Singles.{counts_at, is_in_cells, is_marked, picked, AreInCells, AreNumberedAmong, AreRankedFor, HaveInOrder, IsRankedAs, IsSingleAt}
 use Rattle.keys.specs.declared.range.Range.{Range}
 use Rattle.keys.specs.declared.ranks.sorting.Headed.{Headed}
 use Rattle.keys.proofs.callers.KeyOrder.{at_most_antisym, at_most_itself}
 use Rattle.keys.proofs.callers.Lists.{AllZip-at}
 use Rattle.keys.proofs.callers.Meeting.{meets_by_ends}
-use Rattle.keys.proofs.Filled.{empty_if, filled_in, filled_unless}
+use Rattle.keys.proofs.Filled.{empty_if, filled_at, filled_few, filled_in, filled_unless}
 use Rattle.keys.proofs.Kept.{not_true}
 use Rattle.keys.proofs.Ranked.{begins_first}
 use Rattle.keys.proofs.SingleKeys.{before_next, rank_behind_key}
@@ -66,6 +66,65 @@ contains_passed p xs x has passes =
       | inr other ↦
           absurd (not_true (not (p x)) (ap not passes) (All-contains (λ y. q y ≡ true) (filter q xs) x (filter_passes q xs) other))
     ]
+
+filter_few : (p : ℕ → Bool) (xs : List ℕ) → length (filter p xs) ≤ length xs
+filter_few p [] = omega arith
+filter_few p (x ∷ xs) =
+    let rest = filter_few p xs in
+    elim (p x) as (λ b. length (cond b (x ∷ filter p xs) (filter p xs)) ≤ length (x ∷ xs)) [
+      | true ↦ omega (arith, rest)
+      | false ↦ omega (arith, rest)
+    ]
+
+pub chosen_listed_few : (p : ℕ → Bool) (ranges : List Range) (headed : List Headed)
+    → indices_of headed ≡ filter p (filled_from 0 ranges) → length headed ≤ length ranges
+chosen_listed_few p ranges headed is = omega (
+  arith,
+  filter_few p (filled_from 0 ranges),
+  filled_few 0 ranges,
+  ap length is,
+  length-map {B = ℕ} headed (λ h. h.index),
+)
+
+-- the ranges listed are chosen ones
+module _ (p : ℕ → Bool) (ranges : List Range) (headed : List Headed)
+    (moved : IsPermutation (filter p (filled_from 0 ranges)) (indices_of headed)) where
+  abbrev chosen : List ℕ
+  chosen = filter p (filled_from 0 ranges)
+
+  -- there are no more of them than ranges
+  pub chosen_few : length headed ≤ length ranges
+  chosen_few = omega (
+    arith,
+    filter_few p (filled_from 0 ranges),
+    filled_few 0 ranges,
+    length_permutation chosen (indices_of headed) moved,
+    length-map {B = ℕ} headed (λ h. h.index),
+  )
+
+  filled_listed_at : All (IsFilledAt ranges) (indices_of headed)
+  filled_listed_at =
+      All-permutation (IsFilledAt ranges) chosen (indices_of headed) moved
+      (All-filter p (IsFilledAt ranges) (filled_from 0 ranges)
+      (λ k d lt. filled_at ranges (get_or (filled_from 0 ranges) k d) (Contains-get_or (filled_from 0 ranges) k d lt)))
+
+  -- their indices are below the number of the ranges
+  pub chosen_within : (n : ℕ) → n ≡ length ranges → All (λ h. h.index < n) headed
+  chosen_within n is = λ k d lt.
+      let h = get_or headed k d in
+      let filled = All-contains (IsFilledAt ranges) (indices_of headed) h.index filled_listed_at
+      (contains_value (λ (x : Headed). x.index) headed h (Contains-get_or headed k d lt)) in
+      omega (arith, slice_get_within ranges h.index filled.0 filled.1, is)
+
+  pub chosen_single : All IsSingle ranges → All (IsSingleAt ranges) (indices_of headed)
+  chosen_single singles = λ k d lt.
+      let found = filled_listed_at k d lt in (
+        found.0,
+        found.1,
+        subst IsSingle (get_or_from_slice_get ranges (get_or (indices_of headed) k d) found.0 found.0 found.1)
+            (singles (get_or (indices_of headed) k d) found.0
+            (slice_get_within ranges (get_or (indices_of headed) k d) found.0 found.1)),
+      )
 
 -- what holds of each range that is marked holds of those picked
 all_picked : (P : Range → Type 0) (marks : List Bool) (ranges : List Range)

@@ -1,5 +1,5 @@
 -- The ranks of a batch that contains only single keys: only those count that may equal a written one. This project's own.
-use Rattle.std.specs.Prelude.{◌≡◌, ◌≢◌, ◌⊎◌, ℕ, ◌*◌, ◌/◌, ◌^◌, Bool, true, false, if◌then◌else◌, List, [], ◌∷◌, length, map, slice_index_or, Option, Some, slice_get, All, Contains}
+use Rattle.std.specs.Prelude.{◌≡◌, ◌≢◌, ◌⊎◌, ℕ, ◌*◌, ◌/◌, ◌^◌, Bool, true, false, if◌then◌else◌, List, [], ◌∷◌, ◌++◌, length, map, slice_index_or, Option, Some, slice_get, All, Contains}
 use Rattle.keys.specs.Hash.{hash_of}
 use Rattle.keys.specs.Range.{IsEmpty, IsSingle, Meets}
 use Rattle.keys.specs.Ranks.{runs_of, AreChosenInOrder, AreRising, HaveBegin, RanksView}
@@ -65,6 +65,12 @@ AreInCells cells marks hashes =
 -- the range at the index holds one key
 abbrev pub IsSingleAt : List Range → ℕ → Type 0
 IsSingleAt ranges index = (range : Range) × (slice_get ranges index ≡ Some range) × IsSingle range
+
+-- ranges have the same head if they have the same begin, or if the one begins right after the other's begin
+abbrev pub AreNearAlike : List Range → List Headed → Type 0
+AreNearAlike ranges headed = (a b : Headed) → Contains headed a → Contains headed b
+    → (begin_at ranges a.index ≡ begin_at ranges b.index) ⊎ (begin_at ranges a.index ++ 0 ∷ [] ≡ begin_at ranges b.index)
+    → a.head ≡ b.head
 
 -- how far the number of the next key is from that of a key after which this end comes: 0 if the two are equal, 1 if they touch,
 -- and else 2

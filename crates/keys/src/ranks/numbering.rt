@@ -31,9 +31,9 @@ pub fn number_begins<L: RangeList>(runs: &mut [(u32, u32)], sorted: &[Headed], r
     begins
 }
 
-/// Returns whether two ranges have the same begin. Keys are looked at only where the heads are the
-/// same.
-pub fn begin_alike<L: RangeList>(a: &Headed, b: &Headed, ranges: &L) -> bool
+// Returns whether two ranges have the same begin. Keys are looked at only where the heads are the
+// same.
+fn begin_alike<L: RangeList>(a: &Headed, b: &Headed, ranges: &L) -> bool
     requires alike { begin_at (L.ranges ranges.now) a.now.index
         ≡ begin_at (L.ranges ranges.now) b.now.index
         → a.now.head ≡ b.now.head }
