@@ -1,9 +1,10 @@
 -- Single keys of which only those are ranked whose hashes fall into the cells of written ones.
-use Rattle.std.proofs.Common.{◌≡◌, ℕ, zero, suc, ◌+◌, ◌<◌, ◌≤◌, Bool, true, false, cond, not, List, [], ◌∷◌, ◌++◌, length, get_or, map, filter, replicate, refl, sym, ap, subst, ◌∙◌, inl, inr, arith}
+use Rattle.std.proofs.Common.{◌≡◌, ℕ, zero, suc, ◌+◌, ◌<◌, ◌≤◌, Bool, true, false, cond, eqb, not, List, [], ◌∷◌, ◌++◌, length, get_or, map, filter, replicate, refl, sym, ap, subst, ◌∙◌, inl, inr, arith}
 use Rattle.std.specs.Prelude.{All, Contains, Option, Some, None, slice_get}
 use Rattle.std.specs.Option.{MatchOption}
 use Rattle.std.specs.List.{AllZip}
 use Rattle.std.specs.List.Sorted.{IsPermutation}
+use Rattle.std.proofs.lemmas.Bool.{cases_lt}
 use Rattle.std.proofs.lemmas.List.{ext_get_or, get_or-map, get_or-replicate, get_or_past, length-map, length-replicate, length_push}
 use Rattle.std.proofs.lemmas.List.Elements.{All-contains, All-cons, All-filter, All-map, All-nil, Contains-append_cases, Contains-get_or, filter_passes}
 use Rattle.std.proofs.lemmas.List.Sorted.{All-permutation, Contains-permutation, IsPermutation-filter_both, IsPermutation-sym, length_permutation}
@@ -38,7 +39,7 @@ same_if_met a b first second met =
     (up_to b.begin a.begin (subst (IsBefore b.begin) first told.3))
 
 -- a single key isn't an empty range
-single_filled : (range : Range) → IsSingle range → is_filled range ≡ true
+pub single_filled : (range : Range) → IsSingle range → is_filled range ≡ true
 single_filled range single =
     filled_unless range (λ empty. absurd (omega (arith, ap length (empty ∙ single), length_push range.begin 0)))
 
@@ -183,6 +184,7 @@ module _ (ranges : List Range) (hashes : List (Option ℕ)) (singles : All IsSin
     -- a range outside the cells meets none of those that are marked
     ranked_by : (range : Range) (b : Bool) → IsSingle range → is_in_cells cells (hash_of range.begin) ≡ b
         → IsRankedAs (picked marks ranges) range (cond b range (emptied range))
+    unfolding emptied
     ranked_by range true single e = inl refl
     ranked_by range false single e =
         inr (refl, all_picked (λ other. ¬ Meets range other) marks ranges (λ index other at marked met.
@@ -191,11 +193,13 @@ module _ (ranges : List Range) (hashes : List (Option ℕ)) (singles : All IsSin
         (ap (λ key. is_in_cells cells (hash_of key)) (sym same) ∙ e) (in_cell index other at marked)))
 
     pub each_ranked : All (λ range. IsRankedAs (picked marks ranges) range (ranked_in cells range)) ranges
+    unfolding ranked_in
     each_ranked k d lt =
         let range = get_or ranges k d in
         ranked_by range (is_in_cells cells (hash_of range.begin)) (singles k d lt) refl
 
     pub ranked_itself : All (λ range. ranked_in cells range ≡ range) (picked marks ranges)
+    unfolding ranked_in
     ranked_itself =
         all_picked (λ range. ranked_in cells range ≡ range) marks ranges (λ index range at marked.
         ap (λ b. cond b range (emptied range)) (in_cell index range at marked))
@@ -249,10 +253,12 @@ module _ (ranges : List Range) (hashes : List (Option ℕ)) (singles : All IsSin
 
         begin_by : (index : ℕ) (range : Range) (b : Bool) → slice_get ranges index ≡ Some range
             → is_in_cells cells (hash_of range.begin) ≡ b → HaveBegin keys (cond b range (emptied range))
+        unfolding emptied
         begin_by index range true at told filled = has_key index range at told
         begin_by index range false at told filled = absurd (filled refl)
 
         pub have_begins : All (HaveBegin keys) (map (ranked_in cells) ranges)
+        unfolding ranked_in
         have_begins = All-map (HaveBegin keys) (ranked_in cells) ranges (λ k d lt.
             let range = get_or ranges k d in
             begin_by k range (is_in_cells cells (hash_of range.begin)) (slice_get-get_or ranges k d lt) refl)
@@ -260,6 +266,7 @@ module _ (ranges : List Range) (hashes : List (Option ℕ)) (singles : All IsSin
         run_by : (index : ℕ) (range : Range) (b : Bool) → slice_get ranges index ≡ Some range
             → is_in_cells cells (hash_of range.begin) ≡ b
             → run_at runs index ≡ run_or_none keys (cond b range (emptied range))
+        unfolding emptied
         run_by index range true at told =
             let single = single_at index range at in
             let filled = single_filled range single in
@@ -281,6 +288,7 @@ module _ (ranges : List Range) (hashes : List (Option ℕ)) (singles : All IsSin
             ∙ sym (ap (λ b. cond b (rank keys range.begin, rank keys range.begin) (0, 0)) empty)
 
         pub are_runs : runs ≡ runs_of keys (map (ranked_in cells) ranges)
+        unfolding ranked_in
         are_runs =
             let long : length runs ≡ length ranges = count ∙ ap length none ∙ length-replicate (length ranges) (0, 0) in
             let first = length-map ranges (ranked_in cells) in
@@ -328,3 +336,25 @@ all_single_if ranges hashes some each hashed = λ k d lt. elim hashed [
       single_of range (get_or hashes k None) (each k (omega (arith, lt, AllZip-long IsHashOf ranges hashes all)))
       (AllZip-at IsHashOf ranges hashes k range None (slice_get-get_or ranges k d lt) all)
 ]
+
+-- the hash at one more index is in the cells
+pub cells_more : (marks : List Bool) (hashes : List (Option ℕ)) (i : ℕ) (old new : List Bool)
+    → ((own : ℕ) → get_or hashes i None ≡ Some own → is_marked marks i ≡ true → is_in_cells new own ≡ true)
+    → ((other : ℕ) → is_in_cells old other ≡ true → is_in_cells new other ≡ true)
+    → ((index hash : ℕ) → index < i → is_marked marks index ≡ true → slice_get hashes index ≡ Some (Some hash)
+    → is_in_cells old hash ≡ true)
+    → (index hash : ℕ) → index < i + 1 → is_marked marks index ≡ true → slice_get hashes index ≡ Some (Some hash)
+    → is_in_cells new hash ≡ true
+cells_more marks hashes i old new here stay before index hash below marked at = elim (cases_lt index i) [
+  | inl lower ↦ stay hash (before index hash lower marked at)
+  | inr upper ↦
+      let same : index ≡ i = omega (arith, below, upper) in
+      here hash
+      (ap (λ n. get_or hashes n None) (sym same) ∙ get_or_from_slice_get hashes index (Some hash) None at)
+      (ap (is_marked marks) (sym same) ∙ marked)
+]
+
+-- some hash is there
+pub some_hash : (hashes : List (Option ℕ)) (b : Bool) → b ≡ eqb (length hashes) 0 → not b ≡ true → 0 < length hashes
+some_hash [] b is told = absurd (not_true (not b) (ap not is) told)
+some_hash (hash ∷ hashes) b is told = omega arith

@@ -1,4 +1,4 @@
-use Rattle.std.proofs.Common.{◌≡◌, ◌++◌, ◌∷◌, ◌∙◌, [], if◌then◌else◌, length, take, drop, ap, sym, subst}
+use Rattle.std.proofs.Common.{◌≡◌, ◌++◌, ◌∷◌, ◌∙◌, [], cond, length, take, drop, ap, sym, subst}
 use Rattle.keyspace.specs.declared.txn.Txn.{Txn}
 use Rattle.conflict.specs.Written.{AreWrittenGaps, TellRuns}
 use Rattle.keyspace.specs.Writes.{counted}
@@ -17,7 +17,7 @@ returns-in_ok-place_if_marked-clause-judged c = λ keys written t shaped tell to
     met_entry written t c.args.entry.now c.new.result c.in-Some.place c.requires.open
     (c.in-Some.ensures.first keys written t.reads reads told have) c.new.ensures.verdict
     (c.new.ensures.places ∙ c.in_ok-place_if_marked.ensures.places
-    ∙ ap (λ marked. if marked then c.in-Some.place ∷ [] else []) (sym shaped.marked))
+    ∙ ap (λ marked. cond marked (c.in-Some.place ∷ []) []) (sym shaped.marked))
 
 pub returns-in_ok-place_if_marked-clause-marked : goal.returns-in_ok-place_if_marked-clause-marked
 returns-in_ok-place_if_marked-clause-marked c = λ keys written t shaped tell told have.
