@@ -17,8 +17,8 @@ marked c =
     read_before (λ n. n < length marks) (is_marked marks) c.args.order.items c.loop-place.order.items c.loop-place.len
     c.loop-place.place c.index-index.result.now c.loop-place.invariant (within c) c.requires.within c.index-index.ensures
 
-pub bounds-written : goal.bounds-written
-bounds-written c = marked (goal.at.bounds-written c).After-index-index
+pub bounds-written-index : goal.bounds-written-index
+bounds-written-index c = marked (goal.at.bounds-written-index c).After-index-index
 
 as_counted : (n : ℕ) (b : Bool) → n ≡ from_bool b → n ≡ cond b 1 0
 as_counted n true is = is

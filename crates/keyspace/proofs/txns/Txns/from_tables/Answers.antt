@@ -1,15 +1,18 @@
-use Rattle.std.proofs.Common.{arith, ◌≡◌, ◌⊎◌, ◌+◌, ◌<◌, Bool, List, All, filter, length, refl, sym, ap, ◌∙◌, subst}
+use Rattle.std.proofs.Common.{arith, ℕ, Option, ◌≡◌, ◌⊎◌, ◌+◌, ◌<◌, Bool, List, All, filter, length, refl, sym, ap, ◌∙◌, subst}
 use Rattle.std.proofs.lemmas.List.{length-map}
 use Rattle.keys.specs.Hash.{AreHashesOf}
 use Rattle.keys.specs.Range.{IsSingle}
-use Rattle.keys.specs.Ranks.{AreRanked}
+use Rattle.keys.specs.Ranks.{AreChosenInOrder, AreRanked, RanksView}
 use Rattle.keys.specs.Singles.{is_marked, picked, AreRankedFor, HaveInOrder}
 use Rattle.keys.specs.declared.range.Range.{Range}
 use Rattle.keys.proofs.callers.Ranks.{among_within}
-use Rattle.keyspace.specs.BatchRanges.{writes_in}
-use Rattle.keyspace.specs.Fields.{range_fields, txns_with}
+use Rattle.keyspace.specs.BatchRanges.{is_write_in, ranges_in, writes_in}
+use Rattle.keyspace.specs.Fields.{range_fields, txns_with, TxnLimits}
 use Rattle.keyspace.specs.RowMarks.{marks_of_rows}
-use Rattle.keyspace.specs.Tables.{range_told, txns_told}
+use Rattle.keyspace.specs.Tables.{range_told, txns_told, AreTables}
+use Rattle.keyspace.specs.declared.row.Row.{Row}
+use Rattle.keyspace.specs.declared.span.Span.{Span}
+use Rattle.keyspace.specs.declared.txn.Txn.{Txn}
 use Rattle.keyspace.proofs.FieldsBack.{fields_of_txns}
 use Rattle.keyspace.proofs.TablesRanges.{spans_hold, few_spans, ranges_are}
 use Rattle.keyspace.proofs.WriteMarks.{length-marks, picked_told, writes_in_order}
@@ -29,9 +32,12 @@ count c =
 
 -- and as many marks
 marks : (c : In_ok-written) → length c.in_ok-written.written.items ≡ length c.args.spans.items
-marks c =
-    ap length c.in_ok-written.ensures.marks ∙ ap (λ rows. length (marks_of_rows rows)) c.deref-3.ensures.value
-    ∙ length-marks 0 c.args.rows.items (length c.args.spans.items) c.requires.tables.rows_fit
+marks c = omega (
+  arith,
+  ap length c.in_ok-written.ensures.marks,
+  ap (λ (rows : List Row). length (marks_of_rows rows)) c.deref-3.ensures.value,
+  length-marks 0 c.args.rows.items (length c.args.spans.items) c.requires.tables.rows_fit,
+)
 
 pub for_written-requires : goal.for_written-requires
 for_written-requires c =
@@ -55,33 +61,44 @@ list_writes-requires c =
           omega (arith, inside, as_many, marked, ap length c.deref-6.ensures.value);
     }
 
+-- what is kept with the tables
+module _ (buffer : List ℕ) (spans : List Span) (rows : List Row) (tables : AreTables buffer spans rows)
+    (holds : All TxnLimits (txns_told buffer spans rows)) where
+  abbrev txns : List Txn
+  txns = txns_with (txns_told buffer spans rows) holds
+
+  kept : (ranges : List Range) (written : List Bool) (ranks : RanksView) (order writes : List ℕ) (hashes : List (Option ℕ))
+      → ranges ≡ ranges_in txns → written ≡ marks_of_rows rows → AreRankedFor (picked written ranges) ranges ranks
+      → AreRanked ranges ranks ⊎ All IsSingle ranges → HaveInOrder (is_marked written) ranges order
+      → writes ≡ filter (is_marked written) order → AreHashesOf ranges hashes
+      → AreRankedFor (writes_in txns) (ranges_in txns) ranks
+      × (AreRanked (ranges_in txns) ranks ⊎ All IsSingle (ranges_in txns))
+      × AreChosenInOrder (is_write_in txns) (ranges_in txns) writes × AreHashesOf (ranges_in txns) hashes
+  kept ranges written ranks order writes hashes same marked ranked exact in_order filtered hashed = (
+    subst (λ (rs : List Range). AreRankedFor (writes_in txns) rs ranks) same
+        (subst (λ (ws : List Range). AreRankedFor ws ranges ranks)
+        (picked_told buffer spans rows tables holds written ranges marked same) ranked),
+    subst (λ (rs : List Range). AreRanked rs ranks ⊎ All IsSingle rs) same exact,
+    writes_in_order buffer spans rows tables holds written ranges order order writes marked same refl in_order filtered,
+    subst (λ (rs : List Range). AreHashesOf rs hashes) same hashed,
+  )
+
 pub invariant_of-result-2 : goal.invariant_of-result-2
 invariant_of-result-2 c =
-    let holds = c.requires.tables.holds in
-    let txns = txns_with (txns_told c.args.buffer.items c.args.spans.items c.args.rows.items) holds in
     let ranges = c.new-ranges.result in
     let order = c.in_ok-ranks.order.items in
     let written = c.in_ok-written.written.items in
-    let same = ranges_are c.args.buffer.items c.args.spans.items c.args.rows.items c.requires.tables holds
-    c.deref.result.now c.deref-2.result.now ranges c.deref.ensures.value c.deref-2.ensures.value
-    c.new-ranges.ensures.told in
-    let same_marks : written ≡ marks_of_rows c.args.rows.items =
-    c.in_ok-written.ensures.marks ∙ ap marks_of_rows c.deref-3.ensures.value in
-    let picks : picked c.deref-5.result.now ranges ≡ writes_in txns =
-    ap (λ (ms : List Bool). picked ms ranges) c.deref-5.ensures.value
-    ∙ picked_told c.args.buffer.items c.args.spans.items c.args.rows.items c.requires.tables holds written ranges same_marks
-    same in
-    let in_order = subst (λ (ms : List Bool). HaveInOrder (is_marked ms) ranges order) c.deref-5.ensures.value
-    c.in_ok-ranks.ensures.order in
-    let writes = c.in_ok-write_order.ensures.writes
-    ∙ ap (λ (ms : List Bool). filter (is_marked ms) order) c.deref-6.ensures.value in (
-      subst (λ (rs : List Range). AreRankedFor (writes_in txns) rs c.in_ok-ranks.ranks) same
-          (subst (λ (ws : List Range). AreRankedFor ws ranges c.in_ok-ranks.ranks) picks c.in_ok-ranks.ensures.ranked),
-      subst (λ (rs : List Range). AreRanked rs c.in_ok-ranks.ranks ⊎ All IsSingle rs) same c.in_ok-ranks.ensures.exact,
-      writes_in_order c.args.buffer.items c.args.spans.items c.args.rows.items c.requires.tables holds written ranges order
-          order c.in_ok-write_order.write_order.items same_marks same refl in_order writes,
-      subst (λ (rs : List Range). AreHashesOf rs c.in_ok-hashes.hashes.items) same c.in_ok-hashes.ensures.hashes,
-    )
+    kept c.args.buffer.items c.args.spans.items c.args.rows.items c.requires.tables _ ranges written c.in_ok-ranks.ranks
+    order c.in_ok-write_order.write_order.items c.in_ok-hashes.hashes.items
+    (ranges_are c.args.buffer.items c.args.spans.items c.args.rows.items c.requires.tables _ c.deref.result.now
+    c.deref-2.result.now ranges c.deref.ensures.value c.deref-2.ensures.value c.new-ranges.ensures.told)
+    (c.in_ok-written.ensures.marks ∙ ap marks_of_rows c.deref-3.ensures.value)
+    (subst (λ (ms : List Bool). AreRankedFor (picked ms ranges) ranges c.in_ok-ranks.ranks) c.deref-5.ensures.value
+    c.in_ok-ranks.ensures.ranked)
+    c.in_ok-ranks.ensures.exact
+    (subst (λ (ms : List Bool). HaveInOrder (is_marked ms) ranges order) c.deref-5.ensures.value c.in_ok-ranks.ensures.order)
+    (c.in_ok-write_order.ensures.writes ∙ ap (λ (ms : List Bool). filter (is_marked ms) order) c.deref-6.ensures.value)
+    c.in_ok-hashes.ensures.hashes
 
 pub returns : goal.returns
 returns c = record { fields = fields_of_txns (txns_told c.args.buffer.items c.args.spans.items c.args.rows.items) _ }
