@@ -187,10 +187,13 @@ module _ (ranges : List Range) (hashes : List (Option ℕ)) (singles : All IsSin
     unfolding emptied
     ranked_by range true single e = inl refl
     ranked_by range false single e =
-        inr (refl, all_picked (λ other. ¬ Meets range other) marks ranges (λ index other at marked met.
-        let same = same_if_met range other single (single_at index other at) met in
-        not_true (is_in_cells cells (hash_of other.begin))
-        (ap (λ key. is_in_cells cells (hash_of key)) (sym same) ∙ e) (in_cell index other at marked)))
+        inr (
+          refl,
+          all_picked (λ other. ¬ Meets range other) marks ranges (λ index other at marked met.
+              let same = same_if_met range other single (single_at index other at) met in
+              not_true (is_in_cells cells (hash_of other.begin))
+              (ap (λ key. is_in_cells cells (hash_of key)) (sym same) ∙ e) (in_cell index other at marked)),
+        )
 
     pub each_ranked : All (λ range. IsRankedAs (picked marks ranges) range (ranked_in cells range)) ranges
     unfolding ranked_in
@@ -273,7 +276,7 @@ module _ (ranges : List Range) (hashes : List (Option ℕ)) (singles : All IsSin
             let begin : begin_at ranges index ≡ range.begin = ap begin_of at in
             let behind = rank_behind_key keys range.begin numbered.rising (has_key index range at told) in
             let own : (rank keys (begin_at ranges index), rank keys (begin_at ranges index) + 1)
-                ≡ (rank keys range.begin, rank keys range.end) =
+            ≡ (rank keys range.begin, rank keys range.end) =
             ap (λ (key : List ℕ). (rank keys key, rank keys key + 1)) begin
             ∙ ap (λ n. (rank keys range.begin, n)) (sym behind ∙ ap (rank keys) (sym single)) in
             All-contains (IsNumbered ranges keys runs) (indices_of headed) index numbered.numbers
