@@ -52,8 +52,8 @@ impl Union {
 
     /// Replaces the spans by those of ranges that unite the ones marked as written. `order` lists
     /// ranges that aren't empty in the order of their begins, and all of these that are marked. The
-    /// ranks are those of all ranges. After an error the spans are unspecified, and the next call
-    /// starts anew.
+    /// ranks are those of all ranges, of which some may be ranked as empty ones. After an error the
+    /// spans are unspecified, and the next call starts anew.
     pub fn gather<L: RangeList>(
         &mut self,
         ranges: &L,
