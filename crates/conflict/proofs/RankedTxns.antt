@@ -22,7 +22,7 @@ use Rattle.conflict.proofs.Parts.{all_split}
 
 module _ (ranked_as : Range → Range) where
   -- the transaction with what its ranges are ranked as
-  pub ranked_txn : Txn → Txn
+  abbrev pub ranked_txn : Txn → Txn
   ranked_txn t = record {
     snapshot = t.snapshot;
     marked = t.marked;

@@ -76,6 +76,20 @@ module _ (ranges : List Range) (runs : List (ℕ × ℕ)) (have : HaveRuns range
         absurd (omega (arith, none, some))
   ]
 
+  -- so they are apart
+  behind_by_runs : (i j : ℕ) (first second : Range) (d e : ℕ × ℕ) → slice_get ranges i ≡ Some first
+      → slice_get ranges j ≡ Some second → (0 < (get_or runs i d).1) × (0 < (get_or runs j e).0)
+      → ((keys : List (List ℕ)) (a b : Range) → get_or runs i d ≡ run_or_none keys a
+      → get_or runs j e ≡ run_or_none keys b → IsBefore a.end b.begin)
+      → IsBefore first.end second.begin
+  behind_by_runs i j first second d e at_i at_j some apart =
+      let own = run_at ranges runs have i first d at_i in
+      let next = run_at ranges runs have j second e at_j in
+      subst (λ (a : Range). IsBefore a.end second.begin) (itself_if_ends i first (get_or runs i d) at_i own some.0)
+      (subst (λ (b : Range). IsBefore (have.ranked_as first).end b.begin)
+      (itself_if_begins j second (get_or runs j e) at_j next some.1)
+      (apart have.keys (have.ranked_as first) (have.ranked_as second) own next))
+
 pub range-requires : goal.range-requires
 range-requires g c =
     let ranges = g.L.RangeList.ranges c.args.ranges.now in
@@ -178,18 +192,10 @@ returns g c =
                 (subst (λ xs. AreSpanned ranges xs c.requires.spanned.0) (sym c.self.view_is) c.requires.spanned.1) spans.ok.0 some
                 w.in-Some.ensures.value in
                 let runs = c.args.runs.now in
-                let have = c.requires.runs in
                 let told = w.if-not-are_told_apart.false in
-                let first = run_at ranges runs have last.end ends.0 _ ends.1 in
-                let second = run_at ranges runs have c.args.index range _ at in
-                let some_each = w.are_told_apart.ensures.filled told in
-                let apart = w.are_told_apart.ensures.apart told have.keys (have.ranked_as ends.0) (have.ranked_as range)
-                first second in
                 let behind : IsBefore ends.0.end range.begin =
-                subst (λ (a : Range). IsBefore a.end range.begin)
-                (itself_if_ends ranges runs have last.end ends.0 _ ends.1 first some_each.0)
-                (subst (λ (b : Range). IsBefore (have.ranked_as ends.0).end b.begin)
-                (itself_if_begins ranges runs have c.args.index range _ at second some_each.1) apart) in
+                behind_by_runs ranges runs c.requires.runs last.end c.args.index ends.0 range _ _ ends.1 at
+                (w.are_told_apart.ensures.filled told) (w.are_told_apart.ensures.apart told) in
                 let after = c.in_ok-push.ensures.items ∙ ap (λ (u : Inside). u.spans.items ++ own ∷ []) w.self-inside-is
                 ∙ ap (λ xs. xs ++ own ∷ []) (set_last spans.items n last spans.ok.0 some) in
                 subst (λ xs. AreUnited ranges xs (added ++ range ∷ [])) (sym after)
