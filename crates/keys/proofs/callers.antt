@@ -7,3 +7,4 @@ pub mod KeyOrder
 pub mod Meeting
 pub mod KeyHeads
 pub mod Ranks
+pub mod Picked
