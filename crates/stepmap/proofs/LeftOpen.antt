@@ -45,7 +45,7 @@ length_answered marks (place ∷ places) (answer ∷ answers) =
     length_answered (set marks place answer) places answers ∙ length-set marks place answer
 
 -- the answers instead of the marks that are set, in order
-answered : List Bool → List Bool → List Bool
+abbrev answered : List Bool → List Bool → List Bool
 answered [] answers = []
 answered (false ∷ marks) answers = false ∷ answered marks answers
 answered (true ∷ marks) [] = true ∷ answered marks []
@@ -77,7 +77,7 @@ put_open R index before (true ∷ marks) after (answer ∷ answers) is all =
     ∙ append_assoc before (answer ∷ []) (answered marks answers ++ after)
 
 module _ (m : Steps) (queries : List (Range × ℤ)) where
-  abbrev Right : ℕ → Bool → Type 0
+  abbrev pub Right : ℕ → Bool → Type 0
   Right place above = IsSomeAnd (slice_get queries place) (λ q. IsTrue above ↔ IsAbove m q.0 q.1)
 
   -- these queries stand among all from the index on
@@ -127,84 +127,84 @@ module _ (m : Steps) (queries : List (Range × ℤ)) where
   module _ (marks : List Bool) (from to : ℕ) (rises : from < to) (within : to ≤ length marks)
       (marked : AllZip (λ q mark. IsMark m q mark) (drop from queries) (drop from marks))
     where
-    abbrev qs : List (Range × ℤ)
-    qs = slice_range queries from to
+      abbrev qs : List (Range × ℤ)
+      qs = slice_range queries from to
 
-    abbrev part : List Bool
-    part = slice_range marks from to
+      abbrev part : List Bool
+      part = slice_range marks from to
 
-    part_marked : AllZip (λ q mark. IsMark m q mark) qs part
-    part_marked = AllZip-take (λ (q : Range × ℤ) mark. IsMark m q mark) (to - from) (drop from queries) (drop from marks) marked
+      part_marked : AllZip (λ q mark. IsMark m q mark) qs part
+      part_marked = AllZip-take (λ (q : Range × ℤ) mark. IsMark m q mark) (to - from) (drop from queries) (drop from marks) marked
 
-    part_from : AreFrom from qs
-    part_from = λ k q is. part_get queries from to k q is
+      part_from : AreFrom from qs
+      part_from = λ k q is. part_get queries from to k q is
 
-    pub open_filled : All (λ place. IsSomeAnd (slice_get queries place) (λ q. ¬ IsEmpty q.0)) (open_from from part)
-    open_filled = filled from qs part part_from part_marked
+      pub open_filled : All (λ place. IsSomeAnd (slice_get queries place) (λ q. ¬ IsEmpty q.0)) (open_from from part)
+      open_filled = filled from qs part part_from part_marked
 
-    count : length part ≡ to - from
-    count = length-take-le (to - from) (drop from marks) (omega (arith, length-drop from marks, within))
+      count : length part ≡ to - from
+      count = length-take-le (to - from) (drop from marks) (omega (arith, length-drop from marks, within))
 
-    pub open_within : All (λ place. place < length marks) (open_from from part)
-    open_within = within_all (length marks) from part (omega (arith, count, rises, within))
+      pub open_within : All (λ place. place < length marks) (open_from from part)
+      open_within = within_all (length marks) from part (omega (arith, count, rises, within))
 
-    module _ (answers : List Bool) (right : AllZip Right (open_from from part) answers) where
-      abbrev now : List Bool
-      now = with_answers marks (open_from from part) answers
+      module _ (answers : List Bool) (right : AllZip Right (open_from from part) answers) where
+        abbrev now : List Bool
+        now = with_answers marks (open_from from part) answers
 
-      part_right : AllZip (λ q above. IsTrue above ↔ IsAbove m q.0 q.1) qs (answered part answers)
-      part_right = right_of_all from qs part answers part_from part_marked right
+        part_right : AllZip (λ q above. IsTrue above ↔ IsAbove m q.0 q.1) qs (answered part answers)
+        part_right = right_of_all from qs part answers part_from part_marked right
 
-      far : from + (to - from) ≡ to
-      far = omega (arith, rises)
+        far : from + (to - from) ≡ to
+        far = omega (arith, rises)
 
-      before_long : length (take from marks) ≡ from
-      before_long = length-take-le from marks (omega (arith, rises, within))
+        before_long : length (take from marks) ≡ from
+        before_long = length-take-le from marks (omega (arith, rises, within))
 
-      rest : part ++ drop to marks ≡ drop from marks
-      rest = ap (λ (xs : List Bool). part ++ xs)
-          (ap (λ n. drop n marks) (sym far) ∙ sym (drop-drop (to - from) from marks)) ∙ take-append-drop (to - from) (drop from marks)
+        rest : part ++ drop to marks ≡ drop from marks
+        rest = ap (λ (xs : List Bool). part ++ xs)
+            (ap (λ n. drop n marks) (sym far) ∙ sym (drop-drop (to - from) from marks)) ∙ take-append-drop (to - from) (drop from marks)
 
-      parted : now ≡ take from marks ++ (answered part answers ++ drop to marks)
-      parted = ap (λ (ms : List Bool). with_answers ms (open_from from part) answers)
-          (sym (ap (λ (xs : List Bool). take from marks ++ xs) rest ∙ take-append-drop from marks))
-          ∙ put_open Right from (take from marks) part (drop to marks) answers before_long right
+        parted : now ≡ take from marks ++ (answered part answers ++ drop to marks)
+        parted = ap (λ (ms : List Bool). with_answers ms (open_from from part) answers)
+            (sym (ap (λ (xs : List Bool). take from marks ++ xs) rest ∙ take-append-drop from marks))
+            ∙ put_open Right from (take from marks) part (drop to marks) answers before_long right
 
-      front : now ≡ (take from marks ++ answered part answers) ++ drop to marks
-      front = parted ∙ sym (append_assoc (take from marks) (answered part answers) (drop to marks))
+        front : now ≡ (take from marks ++ answered part answers) ++ drop to marks
+        front = parted ∙ sym (append_assoc (take from marks) (answered part answers) (drop to marks))
 
-      front_long : length (take from marks ++ answered part answers) ≡ to
-      front_long = omega (
-        arith,
-        length-append (take from marks) (answered part answers),
-        before_long,
-        length_these part answers,
-        count,
-        rises,
-      )
+        front_long : length (take from marks ++ answered part answers) ≡ to
+        front_long = omega (
+          arith,
+          length-append (take from marks) (answered part answers),
+          before_long,
+          length_these part answers,
+          count,
+          rises,
+        )
 
-      -- with answers before the part, there are answers up to its end
-      pub told_up_to : AllZip (λ q above. IsTrue above ↔ IsAbove m q.0 q.1) (take from queries) (take from marks)
-          → AllZip (λ q above. IsTrue above ↔ IsAbove m q.0 q.1) (take to queries) (take to now)
-      told_up_to before =
-          let Told = λ (q : Range × ℤ) (above : Bool). IsTrue above ↔ IsAbove m q.0 q.1 in
-          subst (AllZip Told (take to queries))
-          (sym (ap (take to) front ∙ take_at (take from marks ++ answered part answers) (drop to marks) to front_long))
-          (subst (λ qs. AllZip Told qs (take from marks ++ answered part answers))
-          (sym (ap (λ n. take n queries) (sym far) ∙ take-add from (to - from) queries))
-          (AllZip-append Told (take from queries) qs (take from marks) (answered part answers) before part_right))
+        -- with answers before the part, there are answers up to its end
+        pub told_up_to : AllZip (λ q above. IsTrue above ↔ IsAbove m q.0 q.1) (take from queries) (take from marks)
+            → AllZip (λ q above. IsTrue above ↔ IsAbove m q.0 q.1) (take to queries) (take to now)
+        told_up_to before =
+            let Told = λ (q : Range × ℤ) (above : Bool). IsTrue above ↔ IsAbove m q.0 q.1 in
+            subst (AllZip Told (take to queries))
+            (sym (ap (take to) front ∙ take_at (take from marks ++ answered part answers) (drop to marks) to front_long))
+            (subst (λ qs. AllZip Told qs (take from marks ++ answered part answers))
+            (sym (ap (λ n. take n queries) (sym far) ∙ take-add from (to - from) queries))
+            (AllZip-append Told (take from queries) qs (take from marks) (answered part answers) before part_right))
 
-      -- the marks behind the part stay
-      pub marked_behind : AllZip (λ q mark. IsMark m q mark) (drop to queries) (drop to now)
-      marked_behind =
-          let Marked = λ (q : Range × ℤ) (mark : Bool). IsMark m q mark in
-          let k = to - from in
-          let same : drop to now ≡ drop to marks =
-          ap (drop to) front ∙ drop_at (take from marks ++ answered part answers) (drop to marks) to front_long in
-          subst (AllZip Marked (drop to queries)) (sym same)
-          (subst (λ qs. AllZip Marked qs (drop to marks)) (drop-drop k from queries ∙ ap (λ n. drop n queries) far)
-          (subst (AllZip Marked (drop k (drop from queries))) (drop-drop k from marks ∙ ap (λ n. drop n marks) far)
-          (AllZip-drop Marked k (drop from queries) (drop from marks) marked)))
+        -- the marks behind the part stay
+        pub marked_behind : AllZip (λ q mark. IsMark m q mark) (drop to queries) (drop to now)
+        marked_behind =
+            let Marked = λ (q : Range × ℤ) (mark : Bool). IsMark m q mark in
+            let k = to - from in
+            let same : drop to now ≡ drop to marks =
+            ap (drop to) front ∙ drop_at (take from marks ++ answered part answers) (drop to marks) to front_long in
+            subst (AllZip Marked (drop to queries)) (sym same)
+            (subst (λ qs. AllZip Marked qs (drop to marks)) (drop-drop k from queries ∙ ap (λ n. drop n queries) far)
+            (subst (AllZip Marked (drop k (drop from queries))) (drop-drop k from marks ∙ ap (λ n. drop n marks) far)
+            (AllZip-drop Marked k (drop from queries) (drop from marks) marked)))
 
 -- what is put back in place of all
 pub put_back : (n : ℕ) (new old : List Bool) → n ≡ length old → length new ≡ length old

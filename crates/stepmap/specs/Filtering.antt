@@ -18,8 +18,8 @@ abbrev pub IsBound : Steps → Range → ℤ → Type 0
 IsBound m range bound =
     IsSingle range → (s : ℤ) → m.edge ≤ℤ s → bound ≤ℤ s → ¬ IsAbove m range s
 
--- The mark of a query: if it is set, the query is open, and its range isn't empty. If it isn't, the function isn't above the
--- version at any key of the range.
+-- a mark of a query: if it is set, the query is open, and its range isn't empty; if it isn't set,
+-- the function isn't above the version at any key of the range
 abbrev pub IsMark : Steps → Range × ℤ → Bool → Type 0
 IsMark m q mark = (IsTrue mark → ¬ IsEmpty q.0) × (¬ IsTrue mark → ¬ IsAbove m q.0 q.1)
 

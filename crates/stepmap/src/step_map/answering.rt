@@ -110,9 +110,7 @@ impl StepMap {
         ensures count { length marks.new ≡ length marks.old }
     {
         let next = next_open(marks, from);
-        let told = self
-            .boundaries
-            .are_above(queries, next.places.as_slice());
+        let told = self.boundaries.are_above(queries, next.places.as_slice());
         put_answers(marks, next.places.as_slice(), told.as_slice());
         next.to
     }

@@ -18,8 +18,8 @@ not_above m bound version (Some hash) None some is_bound hash_is version_is from
 not_above m bound version (Some hash) (Some q) some is_bound hash_is version_is from_edge from_bound =
     subst (λ (v : ℤ). ¬ IsAbove m q.0 v) version_is (is_bound hash_is.0 version from_edge from_bound)
 
-pub returns-else-is_none-clause-others : goal.returns-else-is_none-clause-others
-returns-else-is_none-clause-others g c = λ not_below.
+pub returns-clause-others : goal.returns-clause-others
+returns-clause-others g c = λ not_below.
     let version = c.version.result in
     let fits : SFits w64 version = search rules in
     let bound_fits : SFits w64 c.args.bound = search rules in

@@ -1,4 +1,4 @@
-use Rattle.std.proofs.Common.{◌≡◌, ◌+◌, ◌-◌, ◌<◌, ℕ, ℤ, pos, Bool, None, Some, [], ◌∷◌, ◌++◌, length, get_or, set, take, drop, slice_get, ap, sym, subst, ◌∙◌, arith, length-set}
+use Rattle.std.proofs.Common.{◌≡◌, ◌+◌, ◌-◌, ◌<◌, ℕ, ℤ, pos, Bool, None, Some, List, [], ◌∷◌, ◌++◌, length, get_or, set, take, drop, slice_get, ap, sym, subst, ◌∙◌, arith, length-set}
 use Rattle.std.specs.Prelude.{Option, IsSomeAnd, IsTrue}
 use Rattle.std.specs.List.{AllZip}
 use Rattle.std.proofs.lemmas.List.{take_more_set}
