@@ -1,9 +1,11 @@
-use Rattle.std.proofs.Common.{◌≡◌, ◌+◌, ◌-◌, ◌<◌, ℕ, ℤ, pos, Bool, None, Some, List, [], ◌∷◌, ◌++◌, length, get_or, set, take, drop, slice_get, ap, sym, subst, ◌∙◌, arith, length-set}
+use Rattle.std.proofs.Common.{rules, SFits, w64, ◌≡◌, ◌+◌, ◌-◌, ◌<◌, ℕ, ℤ, pos, Bool, None, Some, List, [], ◌∷◌, ◌++◌, length, get_or, set, take, drop, slice_get, ap, sym, subst, ◌∙◌, arith, length-set}
 use Rattle.std.specs.Prelude.{Option, IsSomeAnd, IsTrue}
 use Rattle.std.specs.List.{AllZip}
+use Rattle.std.proofs.lemmas.Int.{to_z-of_z}
 use Rattle.std.proofs.lemmas.List.{take_more_set}
 use Rattle.std.proofs.lemmas.Option.{slice_get-get_or}
-use Rattle.filter.specs.Filter.{bound}
+use mir.Val.{to_z, of_z}
+use Rattle.filter.specs.Filter.{bound as bound_of}
 use Rattle.keys.specs.Hash.{IsHashOf, hash_of}
 use Rattle.keys.specs.Range.{IsEmpty}
 use Rattle.keys.specs.declared.range.Range.{Range}
@@ -33,6 +35,8 @@ is_open-requires g c =
     let n = c.args.to - from in
     let hashes = c.hashes_from-hashes.result in
     let bounds = c.bounds_at-bounds.result in
+    let bound = get_or bounds place (pos 0) in
+    let fits : SFits w64 bound = search rules in
     let rises = c.loop-index.invariant.from in
     let few : place < n = omega (arith, c.loop-index-test.true, rises) in
     let found = some_at queries index (omega (arith, c.loop-index-test.true, c.requires.within)) in
@@ -44,15 +48,15 @@ is_open-requires g c =
     c.hashes_from-hashes.ensures.hashes (ap (slice_get queries) there ∙ found.1) in
     let inside : place < length hashes = omega (arith, few, c.requires.few) in
     let same : 0 + place ≡ place = omega arith in
-    let told : (key : List ℕ) → hash ≡ Some (hash_of key) → get_or bounds place (pos 0) ≡ bound f key =
-    AllZip-part (λ (hash : Option ℕ) (found : ℤ). (key : List ℕ) → hash ≡ Some (hash_of key) → found ≡ bound f key) 0 n place
+    let told : (key : List ℕ) → hash ≡ Some (hash_of key) → bound ≡ bound_of f key =
+    AllZip-part (λ (hash : Option ℕ) (found : ℤ). (key : List ℕ) → hash ≡ Some (hash_of key) → found ≡ bound_of f key) 0 n place
     hashes bounds hash (pos 0) few c.bounds_at-bounds.ensures.bounds
     (ap (slice_get hashes) same ∙ slice_get-get_or hashes place None inside) in
     let tells = subst (FilterTells f) c.self.view_is c.self.invariant.tells in
     record {
       hash = held (λ q. IsHashOf q.0 hash) (slice_get queries index) q found.1 is_hash;
-      bound = held (λ q. IsBound m q.0 (get_or bounds place (pos 0))) (slice_get queries index) q found.1
-          (is_bound f m q.0 hash (get_or bounds place (pos 0)) tells is_hash told);
+      bound = held (λ q. IsBound m q.0 (to_z w64 (of_z w64 bound))) (slice_get queries index) q found.1
+          (subst (λ (b : ℤ). IsBound m q.0 b) (sym (to_z-of_z w64 bound fits)) (is_bound f m q.0 hash bound tells is_hash told));
     }
 
 pub loop-index-preserved : goal.loop-index-preserved
