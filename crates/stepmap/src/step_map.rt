@@ -147,10 +147,8 @@ impl StepMap {
             (L.queries queries.now) answers.new.items) }
     {
         answers.clear();
-        answers.reserve(queries.len())?;
-        while answers.len() < queries.len() {
-            self.answer_some(queries, answers)?;
-        }
+        answers.resize(queries.len(), false)?;
+        self.answer_all(queries, &mut answers[..]);
         Ok(())
     }
 
