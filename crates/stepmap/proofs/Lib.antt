@@ -45,6 +45,7 @@ pub mod PlacedKeys
 pub mod Exchanged
 pub mod Overwritten
 pub mod WritingOn
+pub mod Copying
 pub mod NextReady
 pub mod NoneReady
 pub mod SingleKeys
