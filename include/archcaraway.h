@@ -213,6 +213,16 @@ typedef struct archcaraway_stats {
 /* Fills in the stats of a set. Statuses: OK, ARGUMENT. */
 int archcaraway_set_stats(const archcaraway_set *set, archcaraway_stats *stats);
 
+/*
+ * Frees memory that the set doesn't need for its boundaries: it copies these into new memory, and
+ * frees what they had and what is kept from batch to batch. Call it when a set keeps far fewer
+ * boundaries than it did. It takes about as long as writing each of them once.
+ *
+ * Statuses: OK; ARGUMENT; FRAME_MEMORY if an allocation failed. The set stays as it is with every
+ * status, and a set that has stopped can be trimmed, too.
+ */
+int archcaraway_set_trim(archcaraway_set *set);
+
 /* Frees a set, and empties the handle. Does nothing for no handle and for null. */
 void archcaraway_set_free(archcaraway_set *set);
 
@@ -463,6 +473,7 @@ int32_t archcaraway_export_set_try_resolve(archcaraway_set set, const uint8_t *f
                                            uint8_t *reply, size_t capacity, size_t *reply_length,
                                            void **at);
 uint64_t archcaraway_export_set_boundaries(archcaraway_set set, void **at);
+int32_t archcaraway_export_set_trim(archcaraway_set set, void **at);
 void archcaraway_export_set_free(archcaraway_set set);
 int32_t archcaraway_export_core_new(uint32_t proxies, int64_t window, uint64_t limit, void **at);
 int32_t archcaraway_export_core_admit(archcaraway_core core, uint32_t proxy, const uint8_t *frame,
