@@ -162,7 +162,7 @@ func (s *Set) Stats() (Stats, error) {
 }
 
 // Trim frees memory that the set doesn't need for its boundaries. The set stays as it is, also after
-// FrameMemory.
+// the error 111, when an allocation failed.
 func (s *Set) Trim() error {
 	defer lock(&s.mutex)()
 	return check(C.archcaraway_set_trim(&s.handle))
