@@ -2,20 +2,24 @@
 use Rattle.std.proofs.Common.{◌≡◌, ◌≢◌, ℕ, zero, suc, ◌+◌, ◌<◌, ◌≤◌, true, false, not, List, [], ◌∷◌, ◌++◌, length, replicate, filter, refl, sym, ◌∙◌, ap, subst, inl, inr, arith, append_assoc, append-nil, length-append}
 use Rattle.std.specs.Prelude.{ℤ, negsuc, ◌≤ℤ◌, All}
 use Rattle.std.proofs.lemmas.Bool.{cases_lt}
-use Rattle.std.proofs.lemmas.List.Elements.{All-head, All-tail, All-cons, All-nil, All-append, All-weaker, filter-append}
+use Rattle.std.proofs.lemmas.List.Elements.{All-head, All-tail, All-cons, All-nil, All-append, All-weaker, filter-append, filter_agree}
 use Rattle.keys.specs.Key.{IsBytes, IsKey, is_before, IsBefore, IsAtMost}
 use Rattle.keys.specs.Range.{IsEmpty}
 use Rattle.keys.specs.declared.range.Range.{Range}
 use Rattle.keys.proofs.callers.KeyHeads.{after_by_first, before_behind_first}
 use Rattle.keys.proofs.callers.Booleans.{not_both_ways}
 use Rattle.keys.proofs.callers.KeyOrder.{before_trans, before_at_most_same, not_before_itself, not_before_if}
+use Rattle.arena.specs.Arena.{Arena}
+use Rattle.tree.specs.Path.{behind as items_behind}
+use Rattle.tree.specs.Tree.{Items}
 use Rattle.tree.proofs.callers.Partitions.{All-back}
 use Rattle.stepmap.specs.Boundary.{Boundary, AreBoundaries, AreInOrder, RiseFrom, value_from, value_at, last_version, below, from_on}
 use Rattle.stepmap.specs.Copying.{behind, IsCopiedTo}
-use Rattle.stepmap.specs.Stored.{first_key}
+use Rattle.stepmap.specs.KeyBound.{is_below_at, slot_is_below}
+use Rattle.stepmap.specs.Stored.{boundaries_of, first_key, IsStored}
 use Rattle.stepmap.specs.Writing.{closed_at, written}
-use Rattle.stepmap.proofs.Indexes.{up_to}
-use Rattle.stepmap.proofs.Looking.{below_middle, filter_yes, filter_no}
+use Rattle.stepmap.proofs.Looking.{below_middle, filter_yes, filter_no, not_not}
+use Rattle.stepmap.proofs.Partitioning.{stored_partitioned}
 use Rattle.stepmap.proofs.Order.{Rising, rising_in_order, rise_middle, rise_above, rise_lower}
 use Rattle.stepmap.proofs.Values.{value_back, last_has}
 use Rattle.stepmap.proofs.WritingOrder.{written_boundaries}
@@ -294,3 +298,11 @@ module _ (bs : List Boundary) (are : AreBoundaries bs) where
             let least : negsuc 0 ≤ℤ h.version = here_has (λ b. negsuc 0 ≤ℤ b.version) are.versions in
             subst AreBoundaries (sym e)
             (written_boundaries range filled version copy (subst (λ v. negsuc 0 ≤ℤ v) (sym is) least) copy_are)
+
+-- the items behind the bound up to a key are those of the boundaries after the key
+pub behind_stored : {H : Type 0} (keys : Arena H) (tree : Items) → IsStored keys tree → (key : List ℕ)
+    → boundaries_of keys (items_behind (slot_is_below keys true key) tree.items) ≡ behind key (boundaries_of keys tree.items)
+behind_stored keys tree s key =
+    (stored_partitioned keys tree s true key).behind
+    ∙ filter_agree (λ b. not (is_below_at true key b.key)) (λ b. is_before key b.key)
+    (λ b. sym (not_not (is_before key b.key))) (boundaries_of keys tree.items)
