@@ -7,7 +7,7 @@ use std::ptr;
 
 thread_local! {
     // How many bytes this thread has allocated and not freed.
-    static HELD: Cell<usize> = const { Cell::new(0) };
+    static HELD: Cell<isize> = const { Cell::new(0) };
     // How many allocations of this thread succeed before the rest fail.
     static LEFT: Cell<usize> = const { Cell::new(usize::MAX) };
 }
@@ -26,12 +26,12 @@ unsafe impl GlobalAlloc for Counting {
         if is_refused() {
             return ptr::null_mut();
         }
-        HELD.set(HELD.get().wrapping_add(layout.size()));
+        HELD.set(HELD.get() + layout.size() as isize);
         unsafe { System.alloc(layout) }
     }
 
     unsafe fn dealloc(&self, pointer: *mut u8, layout: Layout) {
-        HELD.set(HELD.get().wrapping_sub(layout.size()));
+        HELD.set(HELD.get() - layout.size() as isize);
         unsafe { System.dealloc(pointer, layout) }
     }
 
@@ -39,7 +39,7 @@ unsafe impl GlobalAlloc for Counting {
         if is_refused() {
             return ptr::null_mut();
         }
-        HELD.set(HELD.get().wrapping_add(size).wrapping_sub(layout.size()));
+        HELD.set(HELD.get() + size as isize - layout.size() as isize);
         unsafe { System.realloc(pointer, layout, size) }
     }
 }
@@ -55,7 +55,7 @@ fn key(number: usize) -> String {
     format!("{number:0100}")
 }
 
-fn batch(version: i64, txns: impl IntoIterator<Item = Txn<'static>>) -> Batch {
+fn batch<'a>(version: i64, txns: impl IntoIterator<Item = Txn<'a>>) -> Batch {
     let mut builder = BatchBuilder::new(version - 1, version);
     for txn in txns {
         builder.add(&txn).expect("it is within the limits");
@@ -68,7 +68,8 @@ fn swept() -> ConflictSet {
     let mut set = ConflictSet::new(WINDOW, MAX_LIMIT).expect("the numbers are right");
     for number in 0..BATCHES {
         let first = number as usize * WRITES;
-        let txns = (first..first + WRITES).map(|at| Txn::at(0).write_key(key(at)));
+        let keys: Vec<_> = (first..first + WRITES).map(key).collect();
+        let txns = keys.iter().map(|key| Txn::at(0).write_key(key));
         set.resolve(&batch(number, txns)).expect("memory is ample");
     }
     assert_eq!(set.boundaries(), 2 * BATCHES as usize * WRITES + 1);

@@ -45,7 +45,7 @@ pub mod PlacedKeys
 pub mod Exchanged
 pub mod Overwritten
 pub mod WritingOn
-pub mod Copying
+pub mod CopiedOn
 pub mod NextReady
 pub mod NoneReady
 pub mod SingleKeys

@@ -1,7 +1,11 @@
 -- Boundaries are copied in order, one by one. This project's own.
-use Rattle.std.specs.Prelude.{◌≡◌, ℕ, ℤ, negsuc, List, [], ◌∷◌, ◌++◌, filter}
+use Rattle.std.specs.Prelude.{◌≡◌, ℕ, ℤ, negsuc, List, [], ◌∷◌, ◌++◌, filter, replicate}
 use Rattle.keys.specs.Key.{is_before}
 use Rattle.stepmap.specs.Boundary.{Boundary, last_version}
+
+-- The greatest key of this length: bytes of 255. No key of at most this length comes after it.
+unfoldable pub greatest_of_length : ℕ → List ℕ
+greatest_of_length count = replicate count 255
 
 -- the boundaries whose keys are after the key
 abbrev pub behind : List ℕ → List Boundary → List Boundary

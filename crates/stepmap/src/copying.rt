@@ -5,7 +5,7 @@ ghost use Rattle.std.specs.Prelude.{IfOk, OnOk};
 ghost use Rattle.keys.specs.Key.{IsKey};
 ghost use Rattle.keys.specs.declared.key.TheConstants.{MAX_KEY_LENGTH};
 ghost use Rattle.stepmap.specs.Boundary.{AreBoundaries, last_version, value_at};
-ghost use Rattle.stepmap.specs.Copying.{behind, IsCopiedTo};
+ghost use Rattle.stepmap.specs.Copying.{behind, greatest_of_length, IsCopiedTo};
 ghost use Rattle.stepmap.specs.Stored.{first_key};
 ghost use Rattle.stepmap.specs.declared.step_map.TheConstants.{MAX_LIMIT};
 
@@ -57,7 +57,7 @@ impl<const N: usize> Boundaries<N> {
         ensures last { IfOk result (λ version. version
             ≡ last_version (negsuc 0) self.now.boundaries) }
     {
-        let greatest = vec![in alloc; 255; MAX_KEY_LENGTH]?;
+        let greatest = bytes_of_greatest(alloc, MAX_KEY_LENGTH)?;
         Ok(self.version_at(&greatest))
     }
 
@@ -109,4 +109,12 @@ impl<const N: usize> Boundaries<N> {
         move_to(&self.keys, next, later);
         last.unwrap().version
     }
+}
+
+// Returns the bytes of the greatest key of this length.
+#[tactic(auto, unfolding(crate::specs::Copying::greatest_of_length))]
+fn bytes_of_greatest(alloc: Global, count: usize) -> Result<Vec<u8>, AllocError>
+    ensures bytes { IfOk result (λ bytes. bytes.items ≡ greatest_of_length count) }
+{
+    vec![in alloc; 255; count]
 }

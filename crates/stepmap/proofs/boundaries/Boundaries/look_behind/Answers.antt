@@ -14,7 +14,7 @@ use Rattle.stepmap.specs.KeyBound.{slot_is_below}
 use Rattle.stepmap.specs.Stored.{Stored, bytes_at, boundaries_of, first_key}
 use Rattle.stepmap.specs.Copying.{behind as behind_key}
 use Rattle.stepmap.proofs.Asking.{can_search}
-use Rattle.stepmap.proofs.Copying.{behind_stored}
+use Rattle.stepmap.proofs.CopiedOn.{behind_stored}
 use Rattle.stepmap.proofs.LastFound.{some_is_below, last_boundary, value_of_last}
 use Rattle.stepmap.proofs.Passed.{first_bytes, first_has, keys_have}
 use Rattle.stepmap.proofs.boundaries.Boundaries.look_behind.Goals as goal

@@ -14,7 +14,8 @@ use Rattle.tree.specs.Path.{behind as items_behind}
 use Rattle.tree.specs.Tree.{Items}
 use Rattle.tree.proofs.callers.Partitions.{All-back}
 use Rattle.stepmap.specs.Boundary.{Boundary, AreBoundaries, AreInOrder, RiseFrom, value_from, value_at, last_version, below, from_on}
-use Rattle.stepmap.specs.Copying.{behind, IsCopiedTo}
+use Rattle.keys.specs.declared.key.TheConstants.{MAX_KEY_LENGTH}
+use Rattle.stepmap.specs.Copying.{behind, greatest_of_length, IsCopiedTo}
 use Rattle.stepmap.specs.KeyBound.{is_below_at, slot_is_below}
 use Rattle.stepmap.specs.Stored.{boundaries_of, first_key, IsStored}
 use Rattle.stepmap.specs.Writing.{closed_at, written}
@@ -25,7 +26,8 @@ use Rattle.stepmap.proofs.Values.{value_back, last_has}
 use Rattle.stepmap.proofs.WritingOrder.{written_boundaries}
 
 -- no key of at most so many bytes comes after as many bytes of 255
-not_after : (count : ℕ) (key : List ℕ) → IsBytes key → length key ≤ count → is_before (replicate count 255) key ≡ false
+not_after : (count : ℕ) (key : List ℕ) → IsBytes key → length key ≤ count → is_before (greatest_of_length count) key ≡ false
+unfolding greatest_of_length
 not_after zero [] bytes short = refl
 not_after zero (byte ∷ key) bytes short = absurd (omega (arith, short))
 not_after (suc count) [] bytes short = refl
@@ -46,12 +48,12 @@ value_at_last bs key none =
     ap (λ xs. value_at xs key) (sym (append-nil bs)) ∙ value_back (negsuc 0) bs [] key none
 
 -- so it is at the greatest key
-pub value_at_greatest : (count : ℕ) (bs : List Boundary) → All (λ b. IsBytes b.key × (length b.key ≤ count)) bs
-    → value_at bs (replicate count 255) ≡ last_version (negsuc 0) bs
-value_at_greatest count bs short =
-    value_at_last bs (replicate count 255)
-    (All-weaker (λ b. IsBytes b.key × (length b.key ≤ count)) (λ b. is_before (replicate count 255) b.key ≡ false)
-    (λ b h. not_after count b.key h.0 h.1) bs short)
+pub value_at_greatest : (bs : List Boundary) → All (λ b. IsKey b.key) bs
+    → value_at bs (greatest_of_length MAX_KEY_LENGTH) ≡ last_version (negsuc 0) bs
+value_at_greatest bs keys =
+    value_at_last bs (greatest_of_length MAX_KEY_LENGTH)
+    (All-weaker (λ b. IsKey b.key) (λ b. is_before (greatest_of_length MAX_KEY_LENGTH) b.key ≡ false)
+    (λ b h. not_after MAX_KEY_LENGTH b.key h.bytes h.short) bs keys)
 
 -- the last version of a list that ends so
 last_version_of : (v : ℤ) (xs : List Boundary) (b : Boundary) → last_version v (xs ++ b ∷ []) ≡ b.version
@@ -219,7 +221,7 @@ module _ (bs : List Boundary) (are : AreBoundaries bs) where
     pub record IsNext (next : List ℕ) : Type 0 where
       pub version : ℤ
       pub rest : List Boundary
-      pub are : h.later ≡ record { key = next; version = version } ∷ rest
+      pub later_is : h.later ≡ record { key = next; version = version } ∷ rest
 
     pub has_next : length copy < length bs → (next : List ℕ) → next ≡ first_key (behind key bs) → IsNext next
     has_next more next is = some h.later refl
@@ -231,7 +233,7 @@ module _ (bs : List Boundary) (are : AreBoundaries bs) where
             record {
               version = y.version;
               rest = ys;
-              are = e ∙ ap (λ (k : List ℕ). record { key = k; version = y.version } ∷ ys) (sym same);
+              later_is = e ∙ ap (λ (k : List ℕ). record { key = k; version = y.version } ∷ ys) (sym same);
             }
 
     module _ (P : Boundary → Type 0) (all : All P bs) where
@@ -246,13 +248,13 @@ module _ (bs : List Boundary) (are : AreBoundaries bs) where
     module _ (next : List ℕ) (n : IsNext next) where
       pub rises : IsBefore key next
       unfolding here
-      rises = (subst (RiseFrom key) n.are (after_middle h.before here h.later rising)).0
+      rises = (subst (RiseFrom key) n.later_is (after_middle h.before here h.later rising)).0
 
       pub next_has : (P : Boundary → Type 0) → All P bs → P (record { key = next; version = n.version })
       unfolding here
       next_has P all =
           All-head P (record { key = next; version = n.version }) n.rest
-          (subst (All P) n.are (All-tail P here h.later (from_here P all)))
+          (subst (All P) n.later_is (All-tail P here h.later (from_here P all)))
 
       -- it is written: the boundary at the key takes its version, and the next one is copied
       module _ (copy_are : AreBoundaries copy) (range : Range) (begin : range.begin ≡ key) (end : range.end ≡ next)
@@ -284,7 +286,7 @@ module _ (bs : List Boundary) (are : AreBoundaries bs) where
           before = h.before ++ here ∷ [];
           version = n.version;
           later = n.rest;
-          are = h.are ∙ ap (λ ys. h.before ++ here ∷ ys) n.are ∙ sym (append_assoc h.before (here ∷ []) _);
+          are = h.are ∙ ap (λ ys. h.before ++ here ∷ ys) n.later_is ∙ sym (append_assoc h.before (here ∷ []) _);
           copied = e ∙ written_next ∙ sym (append_assoc h.before (here ∷ []) _);
         }
 
