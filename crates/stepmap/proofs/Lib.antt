@@ -46,6 +46,7 @@ pub mod Exchanged
 pub mod Overwritten
 pub mod WritingOn
 pub mod CopiedOn
+pub mod InCopy
 pub mod NextReady
 pub mod NoneReady
 pub mod SingleKeys

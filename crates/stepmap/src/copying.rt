@@ -48,7 +48,8 @@ impl<const N: usize> Boundaries<N> {
         ensures one { IfOk result (λ copy. length copy.boundaries ≡ 1) }
     {
         let last = self.last_version(alloc)?;
-        Boundaries::everywhere(alloc, last).map_err(|_| AllocError)
+        let copy = Boundaries::everywhere(alloc, last).map_err(|_| AllocError)?;
+        Ok(copy)
     }
 
     // Returns the version of the last boundary: that at the greatest key.

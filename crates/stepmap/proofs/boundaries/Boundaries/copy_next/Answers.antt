@@ -1,4 +1,4 @@
-use Rattle.std.proofs.Common.{arith, rules, ◌≡◌, ◌≤◌, ◌+◌, ℕ, List, [], ◌∷◌, length, sym, ap, ap₂, subst, ◌∙◌, w64}
+use Rattle.std.proofs.Common.{arith, rules, ◌≡◌, ◌≤◌, ◌+◌, ℕ, List, [], ◌∷◌, length, sym, ap, ap₂, subst, ◌∙◌, w64, to_z, of_z}
 use Rattle.std.specs.Prelude.{ℤ, FitsSigned}
 use Rattle.std.proofs.lemmas.Int.{to_z-of_z}
 use Rattle.arena.specs.Arena.{HasRoomFor}
@@ -85,7 +85,8 @@ is_written : (g : given.Over) (c : After-write g)
 is_written g c =
     let fits : FitsSigned w64 c.look_behind-version.result = search rules in
     c.write.ensures.boundaries
-    ∙ ap (λ (bs : List Boundary). written c.of-2.result _ bs) c.reserve.ensures.boundaries
+    ∙ ap (λ (bs : List Boundary). written c.of-2.result (to_z w64 (of_z w64 c.look_behind-version.result)) bs)
+    c.reserve.ensures.boundaries
     ∙ ap (λ (v : ℤ). written c.of-2.result v c.args.copy.now.boundaries) (to_z-of_z w64 c.look_behind-version.result fits)
 
 pub returns-clause-copied : goal.returns-clause-copied
