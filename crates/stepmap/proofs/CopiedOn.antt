@@ -138,11 +138,11 @@ module _ (xs : List Boundary) (b : Boundary) (rising : Rising (xs ++ b ∷ [])) 
       ≡ xs ++ record { key = b.key; version = version } ∷ record { key = range.end; version = b.version } ∷ []
   written_last =
       ap (λ (ys : List Boundary). ys ++ record { key = range.begin; version = version }
-          ∷ closed_at range.end (value_at (xs ++ b ∷ []) range.end) (from_on range.end (xs ++ b ∷ []))) below_begin
+      ∷ closed_at range.end (value_at (xs ++ b ∷ []) range.end) (from_on range.end (xs ++ b ∷ []))) below_begin
       ∙ ap (λ (key : List ℕ). xs ++ record { key = key; version = version }
-          ∷ closed_at range.end (value_at (xs ++ b ∷ []) range.end) (from_on range.end (xs ++ b ∷ []))) begin
+      ∷ closed_at range.end (value_at (xs ++ b ∷ []) range.end) (from_on range.end (xs ++ b ∷ []))) begin
       ∙ ap (λ (ys : List Boundary). xs ++ record { key = b.key; version = version }
-          ∷ closed_at range.end (value_at (xs ++ b ∷ []) range.end) ys) none_from
+      ∷ closed_at range.end (value_at (xs ++ b ∷ []) range.end) ys) none_from
       ∙ ap (λ (v : ℤ). xs ++ record { key = b.key; version = version } ∷ record { key = range.end; version = v } ∷ []) value_end
 
 -- at first the copy has one boundary
@@ -276,9 +276,9 @@ module _ (bs : List Boundary) (are : AreBoundaries bs) where
             ∙ written_last h.before last_one (subst Rising h.copied (rising_in_order copy copy_are.in_order)) range version begin
             (subst (IsBefore key) (sym end) rises)
             ∙ ap (λ (v : ℤ). h.before ++ record { key = key; version = v }
-                ∷ record { key = range.end; version = last_version (negsuc 0) bs } ∷ []) is
+            ∷ record { key = range.end; version = last_version (negsuc 0) bs } ∷ []) is
             ∙ ap (λ (k : List ℕ). h.before ++ record { key = key; version = h.version }
-                ∷ record { key = k; version = last_version (negsuc 0) bs } ∷ []) end
+            ∷ record { key = k; version = last_version (negsuc 0) bs } ∷ []) end
 
         pub copied_next : (new : List Boundary) → new ≡ written range version copy → IsCopiedTo next bs new
         unfolding here
