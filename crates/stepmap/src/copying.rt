@@ -45,7 +45,6 @@ impl<const N: usize> Boundaries<N> {
         requires boundaries { AreBoundaries self.now.boundaries }
         ensures copied { IfOk result (λ copy. IsCopiedTo [] self.now.boundaries copy.boundaries) }
         ensures boundaries { IfOk result (λ copy. AreBoundaries copy.boundaries) }
-        ensures one { IfOk result (λ copy. length copy.boundaries ≡ 1) }
     {
         let last = self.last_version(alloc)?;
         let copy = Boundaries::everywhere(alloc, last).map_err(|_| AllocError)?;

@@ -5,10 +5,10 @@ use Rattle.stepmap.specs.Boundary.{Boundary, last_version}
 use Rattle.stepmap.proofs.CopiedOn.{copied_first, first_boundaries}
 use Rattle.stepmap.proofs.boundaries.Boundaries.copied_first.Given as given
 use Rattle.stepmap.proofs.boundaries.Boundaries.copied_first.Goals as goal
-use Rattle.stepmap.proofs.boundaries.Boundaries.copied_first.Goals.{After-in_ok-copy}
+use Rattle.stepmap.proofs.boundaries.Boundaries.copied_first.Goals.{In_ok-copy}
 
 -- the boundary with which the copy begins
-first_is : (g : given.Over) (c : After-in_ok-copy g)
+first_is : (g : given.Over) (c : In_ok-copy g)
     → c.in_ok-copy.copy.boundaries ≡ record { key = []; version = last_version (negsuc 0) c.args.self.now.boundaries } ∷ []
 first_is g c =
     let last = c.in_ok-last.last in
@@ -19,9 +19,9 @@ first_is g c =
 pub returns-clause-copied : goal.returns-clause-copied
 returns-clause-copied g c =
     copied_first c.args.self.now.boundaries c.requires.boundaries c.in_ok-copy.copy.boundaries
-    (first_is g (goal.at.returns-clause-copied g c).After-in_ok-copy)
+    (first_is g (goal.at.returns-clause-copied g c).In_ok-copy)
 
 pub returns-clause-boundaries : goal.returns-clause-boundaries
 returns-clause-boundaries g c =
     first_boundaries c.args.self.now.boundaries c.requires.boundaries c.in_ok-copy.copy.boundaries
-    (first_is g (goal.at.returns-clause-boundaries g c).After-in_ok-copy)
+    (first_is g (goal.at.returns-clause-boundaries g c).In_ok-copy)
