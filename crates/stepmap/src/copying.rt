@@ -47,7 +47,9 @@ impl<const N: usize> Boundaries<N> {
         ensures boundaries { IfOk result (λ copy. AreBoundaries copy.boundaries) }
     {
         let last = self.last_version(alloc)?;
-        let copy = Boundaries::everywhere(alloc, last).map_err(|_| AllocError)?;
+        let Ok(copy) = Boundaries::everywhere(alloc, last) else {
+            return Err(AllocError);
+        };
         Ok(copy)
     }
 
