@@ -16,4 +16,3 @@ mod serving;
 mod shards;
 mod sizes;
 mod step_map;
-mod trimming;
