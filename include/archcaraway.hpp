@@ -85,6 +85,8 @@ public:
         check(archcaraway_set_stats(&set_, &stats));
         return stats;
     }
+    // Frees memory that the set doesn't need for its boundaries. It stays as it is.
+    void trim() { check(archcaraway_set_trim(&set_)); }
     // The handle, for the C functions. It stays this object's.
     archcaraway_set* handle() { return &set_; }
 

@@ -98,6 +98,11 @@ int archcaraway_set_stats(const archcaraway_set *set, archcaraway_stats *stats) 
     return ARCHCARAWAY_OK;
 }
 
+int archcaraway_set_trim(archcaraway_set *set) {
+    if (set == NULL || set->at == NULL) return ARCHCARAWAY_ARGUMENT;
+    return archcaraway_export_set_trim(*set, &set->at);
+}
+
 void archcaraway_set_free(archcaraway_set *set) {
     if (set == NULL || set->at == NULL) return;
     archcaraway_export_set_free(*set);

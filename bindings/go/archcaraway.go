@@ -161,6 +161,13 @@ func (s *Set) Stats() (Stats, error) {
 	return statsOf(stats), err
 }
 
+// Trim frees memory that the set doesn't need for its boundaries. The set stays as it is, also after
+// the error 111, when an allocation failed.
+func (s *Set) Trim() error {
+	defer lock(&s.mutex)()
+	return check(C.archcaraway_set_trim(&s.handle))
+}
+
 // Kind says what a core gives a proxy.
 type Kind int
 

@@ -61,6 +61,7 @@ _FUNCTIONS = {
     "set_resolve": (c_int, _HANDLE, *_KEY, *_BUFFER),
     "set_try_resolve": (c_int, _HANDLE, *_KEY, *_BUFFER),
     "set_boundaries": (c_uint64, _HANDLE),
+    "set_trim": (c_int, _HANDLE),
     "set_free": (None, _HANDLE),
     "core_new": (c_int, c_uint32, c_int64, c_uint64, _HANDLE),
     "core_new_at": (c_int, c_uint32, c_int64, c_uint64, c_int64, _HANDLE),

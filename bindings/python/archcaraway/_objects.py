@@ -197,6 +197,10 @@ class ConflictSet(_Judge):
                 raise
             return None
 
+    def trim(self) -> None:
+        """Frees memory that the set doesn't need for its boundaries. It stays as it is."""
+        check(self._call("trim"))
+
     @property
     def boundaries(self) -> int:
         """The number of boundaries that the set keeps; 0 if it is closed."""

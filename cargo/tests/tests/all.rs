@@ -16,3 +16,4 @@ mod serving;
 mod shards;
 mod sizes;
 mod step_map;
+mod trimming;

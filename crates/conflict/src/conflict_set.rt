@@ -15,7 +15,7 @@ use crate::error::SetStop;
 use crate::scratch::Scratch;
 use crate::unknown::write_every_key;
 use keyspace::Batch;
-use std::alloc::Global;
+use std::alloc::{AllocError, Global};
 use std::marker::Model;
 use stepmap::StepMap;
 
@@ -116,6 +116,19 @@ impl ConflictSet {
             stop: None,
             scratch: Scratch::new(alloc),
         })
+    }
+
+    /// Copies the boundaries into new memory with room for few more, and frees the memory that they
+    /// had and that of the vectors kept from batch to batch. The set stays as it is, also if memory
+    /// is refused for the copy. It takes about as long as writing each boundary once.
+    ///
+    /// The filter of single keys keeps its memory. The boundaries keep theirs if there are
+    /// [`MAX_LIMIT`](stepmap::MAX_LIMIT) of them.
+    pub fn trim(&mut self) -> Result<(), AllocError>
+        ensures same { self.new ≡ self.old }
+    {
+        self.scratch = Scratch::new(self.alloc);
+        self.map.trim(self.alloc)
     }
 
     /// Returns the number of boundaries, that at the empty key included. It never exceeds the

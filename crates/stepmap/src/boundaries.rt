@@ -66,9 +66,21 @@ impl<const N: usize> Boundaries<N> {
         ensures room { IfOk result (λ b. 1 ≤ b.room) }
         ensures memory { IsOkUnless result ArenaError.Memory }
     {
+        Boundaries::everywhere(alloc, -1)
+    }
+
+    // Makes the one boundary of the function that has this version everywhere.
+    pub fn everywhere(alloc: Global, version: i64) -> Result<Self, ArenaError>
+        requires fan_out { 4 ≤ N }
+        requires few { N ≤ 65536 }
+        ensures first { IfOk result (λ b. b.boundaries
+            ≡ (record { key = []; version = version }) ∷ []) }
+        ensures room { IfOk result (λ b. 1 ≤ b.room) }
+        ensures memory { IsOkUnless result ArenaError.Memory }
+    {
         let mut keys = Arena::new(alloc);
         let empty = keys.place((), &[])?;
-        let tree = Tree::new(alloc, empty, -1)?;
+        let tree = Tree::new(alloc, empty, version)?;
         Ok(Boundaries {
             wanted: Vec::new(alloc),
             keys,

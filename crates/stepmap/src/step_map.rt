@@ -1,5 +1,4 @@
 //! The step map: boundaries, a filter before them, an edge, and a limit.
-
 ghost use Rattle.std.specs.Prelude.{◌≡◌, ℕ, ◌+◌, ◌*◌, ◌≤◌, ◌<◌, ℤ, negsuc, ◌≤ℤ◌, ◌↔◌};
 ghost use Rattle.std.specs.Prelude.{List, [], length, slice_get, Some, None, Err};
 ghost use Rattle.std.specs.Prelude.{IfOk, OnOk, OnErr, IfErr, IsTrue};
@@ -18,6 +17,7 @@ ghost use Rattle.stepmap.specs.Counting.{live_count};
 
 mod answering;
 mod room;
+mod trimming;
 
 use crate::boundaries::Boundaries;
 use crate::error::StepError;
