@@ -5,5 +5,6 @@ pub mod Lists
 pub mod SomeElement
 pub mod KeyOrder
 pub mod Meeting
+pub mod SingleRanges
 pub mod KeyHeads
 pub mod Ranks
