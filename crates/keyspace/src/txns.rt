@@ -1,6 +1,7 @@
 //! The transactions of a batch, in one buffer with tables beside it.
 
-ghost use Rattle.std.specs.Prelude.{◌≡◌, ◌⊎◌, ◌<◌, ◌≤◌, All, Some, length, vec_len, map, slice_get};
+ghost use Rattle.std.specs.Prelude.{◌≡◌, ◌⊎◌, ◌+◌, ◌<◌, ◌≤◌, ℕ, All, Some, length, vec_len};
+ghost use Rattle.std.specs.Prelude.{map, slice_get};
 ghost use Rattle.std.specs.Prelude.{IfOk, IsSomeAnd};
 ghost use Rattle.keys.specs.Hash.{IsHashOf};
 ghost use Rattle.keys.specs.Range.{IsSingle};
@@ -149,6 +150,18 @@ impl Txns {
             → slice_get (ranges_in self.now) result ≡ Some range }
     {
         first_span(&self.rows, index) + read as u32
+    }
+
+    /// Returns the index in [`Txns::ranges`] of the first write range of a transaction. Those of its
+    /// other write ranges follow.
+    pub fn first_write_index(&self, index: usize) -> u32
+        requires within { index < length self.now }
+        ensures writes { (txn : TxnValue) (write : ℕ) (range : Range)
+            → slice_get self.now index ≡ Some txn → slice_get txn.writes write ≡ Some range
+            → slice_get (ranges_in self.now) (result + write) ≡ Some range }
+    {
+        let row = self.rows[index];
+        row.end - row.writes as u32
     }
 
     /// Returns the range at the index in [`Txns::ranges`], without copying its keys, and with its
