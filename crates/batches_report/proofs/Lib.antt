@@ -1,0 +1,3 @@
+mod Pairing
+mod Judging
+mod Hitting
