@@ -8,6 +8,7 @@ use rattle_std::string::String;
 use rattle_std::sync::Arc;
 use rattle_std::vec::{SliceWith, Vec};
 use rattle_std::{format_in, vec_in};
+use std::cmp::Reverse;
 use std::io::Write;
 use std::rc::Rc;
 
@@ -126,6 +127,9 @@ fn sorting_keeps_the_order_of_equal_keys() {
         let mut expected = items.to_vec();
         expected.sort();
         assert_eq!(items.sort_by_key_with(Global, |item| item.0), Ok(()));
+        assert_eq!(items.as_slice(), expected);
+        expected.sort_by_key(|item| (Reverse(item.0), item.1));
+        assert_eq!(items.sort_by(|left, right| right.0.cmp(&left.0)), Ok(()));
         assert_eq!(items.as_slice(), expected);
     }
 }

@@ -2,7 +2,8 @@
 
 ghost use Rattle.std.specs.Prelude.{◌≡◌, ◌≢◌, ◌⊎◌, IfOk, string_bytes};
 ghost use Rattle.batches_program.specs.Told.{IsLine, TellsLine};
-ghost use Rattle.batches_program.specs.declared.failure.Failure.TheVariants.{Memory, Read, Write};
+ghost use Rattle.batches_program.specs.declared.failure.Failure.TheVariants.{Memory, Read, Report};
+ghost use Rattle.batches_program.specs.declared.failure.Failure.TheVariants.{Write};
 
 use crate::status::Status;
 use batches_report::ReportError;
@@ -120,7 +121,7 @@ impl<T: Drop> From<AllocFailed<T>> for Failure {
 }
 
 impl From<ReportError> for Failure {
-    ghost from_gives = { λ _ failure. failure ≢ Write };
+    ghost from_gives = { λ error failure. (failure ≡ Memory) ⊎ (failure ≡ Report error) };
 
     fn from(error: ReportError) -> Failure {
         match error {

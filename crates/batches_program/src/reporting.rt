@@ -35,13 +35,40 @@ pub fn write_report<R: Files<File = File> + Input + AllocGlobal, O: Sink, E: Sin
         Err((name, failure)) => return fail_in(error, alloc, name, &failure),
     };
     let text = text_of_page(rt, &tally, inputs);
-    let Some(name) = page else {
-        return print(rt, text, out, error);
-    };
-    match text.and_then(|text| write_file(rt, name, &text)) {
-        Ok(()) => Status::Done,
-        Err(failure) => fail_in(error, alloc, name, &failure),
+    match page {
+        Some(name) => save(rt, name, text, error),
+        None => print(rt, text, out, error),
     }
+}
+
+// Writes the text to a file, or tells why it can't.
+fn save<R: Files<File = File> + AllocGlobal, E: Sink>(
+    rt: &R,
+    name: &str,
+    text: Result<Vec<u8>, Failure>,
+    error: &mut E,
+) -> Status
+    ensures quiet { result ≡ Status.Done → error.new ≡ error.old }
+    ensures told { result ≡ Status.Failed
+        → TellsLine (E.given error.old) (E.given error.new) (E.failures error.old)
+        (E.failures error.new) }
+{
+    match write_file(rt, name, text) {
+        Ok(()) => Status::Done,
+        Err(failure) => fail_in(error, rt.alloc(), name, &failure),
+    }
+}
+
+fn write_file<R: Files<File = File>>(
+    rt: &R,
+    name: &str,
+    text: Result<Vec<u8>, Failure>,
+) -> Result<(), Failure> {
+    let text = text?;
+    let Ok(file) = File::create(rt, name) else {
+        return Err(Failure::Create);
+    };
+    Ok(write_and_flush(&mut StdSink::new(file), &text)?)
 }
 
 fn text_of_page<R: AllocGlobal>(
@@ -51,13 +78,6 @@ fn text_of_page<R: AllocGlobal>(
 ) -> Result<Vec<u8>, Failure> {
     let page = page_of(rt.alloc(), tally, inputs)?;
     Ok(page.into_bytes())
-}
-
-fn write_file<R: Files<File = File>>(rt: &R, name: &str, text: &[u8]) -> Result<(), Failure> {
-    let Ok(file) = File::create(rt, name) else {
-        return Err(Failure::Create);
-    };
-    Ok(write_and_flush(&mut StdSink::new(file), text)?)
 }
 
 // Counts the replies of files, and then the batches of files. An error names the file.

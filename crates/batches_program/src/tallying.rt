@@ -1,10 +1,11 @@
 //! From frames of batches and of replies to what they add up to.
 
-ghost use Rattle.std.specs.Prelude.{◌≡◌, OnOk};
+ghost use Rattle.std.specs.Prelude.{◌≡◌, ◌<◌, IfErr, IfOk};
 ghost use Rattle.batches_program.specs.Tallying.{TalliesBatches, TalliesReplies};
+ghost use Rattle.batches_program.specs.declared.failure.Failure.TheVariants.{Read};
 
 use crate::failure::Failure;
-use crate::frame::{next_batch, next_frame, reply_in};
+use crate::frame::{next_batch, next_reply};
 use batches_report::Tally;
 use std::alloc::Global;
 use wire::Source;
@@ -15,15 +16,15 @@ pub fn tally_replies<R: Source>(
     reader: &mut R,
     tally: &mut Tally,
 ) -> Result<u64, Failure>
-    ensures tallied { OnOk result (TalliesReplies (R.remaining reader.old) tally.old tally.new) }
+    ensures tallied { IfOk result (TalliesReplies (R.remaining reader.old) tally.old tally.new) }
+    ensures read { IfErr result (λ e. e ≡ Read → R.failures reader.old < R.failures reader.new) }
 {
     let mut frame = Vec::new(alloc);
     for number in 1..u64::MAX {
-        next_frame(reader, &mut frame)?;
-        if frame.is_empty() {
+        let Some(reply) = next_reply(alloc, number, reader, &mut frame)? else {
             return Ok(number - 1);
-        }
-        tally.add_reply(reply_in(alloc, number, &frame)?)?;
+        };
+        tally.add_reply(reply)?;
     }
     // The number of one frame more wouldn't fit. No input is so long.
     Err(Failure::Memory)
@@ -35,7 +36,8 @@ pub fn tally_batches<R: Source>(
     reader: &mut R,
     tally: &mut Tally,
 ) -> Result<u64, Failure>
-    ensures tallied { OnOk result (TalliesBatches (R.remaining reader.old) tally.old tally.new) }
+    ensures tallied { IfOk result (TalliesBatches (R.remaining reader.old) tally.old tally.new) }
+    ensures read { IfErr result (λ e. e ≡ Read → R.failures reader.old < R.failures reader.new) }
 {
     let mut frame = Vec::new(alloc);
     for number in 1..u64::MAX {

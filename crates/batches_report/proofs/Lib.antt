@@ -1,3 +1,5 @@
 mod Pairing
-mod Judging
-mod Hitting
+mod Naming
+mod Counting
+mod Tallying
+mod Falling

@@ -4,7 +4,7 @@ use Rattle.std.specs.Ordering.{int_eq}
 use Rattle.std.specs.List.{list_any}
 use Rattle.std.proofs.lemmas.Bool.Decides.{Decides-int_eq}
 use Rattle.keyspace.specs.declared.reply.Reply.{Reply}
-use Rattle.batches_report.specs.Pairs.{first_reply, reply_unless_seen}
+use Rattle.batches_report.specs.Answered.{first_reply, reply_unless_seen}
 
 or_else : Option Reply → Option Reply → Option Reply
 or_else None other = other

@@ -1,9 +1,11 @@
 //! Parts of the versions.
 
-use crate::error::ReportError;
+ghost use Rattle.std.specs.Prelude.{All, IfOk};
+ghost use Rattle.batches_report.specs.Bins.{IsBinOf};
+
 use crate::row::Row;
-use crate::rows::{Totals, totals_between};
-use std::alloc::Global;
+use crate::totals::{Totals, totals_between};
+use std::alloc::{AllocError, Global};
 
 // The most parts.
 const PARTS: i64 = 60;
@@ -16,9 +18,11 @@ pub struct Bin {
     pub totals: Totals,
 }
 
-/// Divides the versions from the least to the greatest one evenly, and counts the batches of each
-/// part.
-pub fn bins_of(alloc: Global, rows: &[Row]) -> Result<Vec<Bin>, ReportError> {
+/// Divides the versions from the least to the greatest one into up to 60 parts, all but the last of
+/// one width, and counts the batches of each.
+pub fn bins_of(alloc: Global, rows: &[Row]) -> Result<Vec<Bin>, AllocError>
+    ensures totals { IfOk result (λ bins. All (IsBinOf rows.now) bins.items) }
+{
     let mut bins = Vec::new(alloc);
     let Some((least, greatest)) = versions_of(rows) else {
         return Ok(bins);
@@ -28,21 +32,14 @@ pub fn bins_of(alloc: Global, rows: &[Row]) -> Result<Vec<Bin>, ReportError> {
         let first = least.saturating_add(width.saturating_mul(part));
         if first <= greatest {
             let last = first.saturating_add(width.saturating_sub(1)).min(greatest);
-            bins.push(bin_between(rows, first, last)?)?;
+            bins.push(Bin {
+                first,
+                last,
+                totals: totals_between(rows, first, last),
+            })?;
         }
     }
     Ok(bins)
-}
-
-fn bin_between(rows: &[Row], first: i64, last: i64) -> Result<Bin, ReportError> {
-    match totals_between(rows, first, last) {
-        Some(totals) => Ok(Bin {
-            first,
-            last,
-            totals,
-        }),
-        None => Err(ReportError::Sum),
-    }
 }
 
 // Returns the least and the greatest version.

@@ -9,8 +9,9 @@ pub enum ReportError {
     /// The reply of this version has another number of verdicts than its batch has transactions.
     #[error("the reply of version {0} doesn't fit its batch")]
     Unfit(i64),
-    #[error("a sum is above 64 bits")]
-    Sum,
+    /// A range conflicts with more transactions than 64 bits can count.
+    #[error("a range conflicts too often")]
+    Count,
     #[error("memory was refused")]
     Memory,
 }

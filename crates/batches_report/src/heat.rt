@@ -1,65 +1,52 @@
 //! How many transactions each read range was in conflict for.
 
-ghost use Rattle.std.specs.Prelude.{◌≡◌, ◌+◌, ◌<◌, length, map, slice_get, string_bytes, OnOk};
-ghost use Rattle.std.specs.Prelude.{if◌then◌else◌, List, ℕ};
+ghost use Rattle.std.specs.Prelude.{◌≡◌, ◌+◌, ℕ, List, OnOk, count_by, map, string_bytes};
+ghost use Rattle.std.specs.Prelude.{if◌then◌else◌};
 ghost use Rattle.std.specs.Str.{bytes_eq};
-ghost use Rattle.batches_report.specs.Heat.{AddsHits, heat_of, IsCold};
-ghost use Rattle.batches_report.specs.Hits.{hits_in, hits_of};
+ghost use Rattle.batches_report.specs.Names.{is_among, names_at};
 
 use crate::error::ReportError;
 use crate::names::names_of;
-use keyspace::{Batch, Reply};
-use std::alloc::{AllocError, Global};
+use keyspace::{Entry, TxnRef};
+use std::alloc::Global;
 use std::collections::BTreeMap;
 
 /// How many transactions each read range was in conflict for, by the name of the range.
 #[derive(Debug, Drop)]
 pub struct Heat {
-    pub counts: BTreeMap<String, u64>,
+    pub counts: BTreeMap<String, usize>,
 }
 
 impl Heat {
+    ghost use Rattle.batches_report.specs.Heat.{heat_of};
+
     /// Creates it without ranges.
     pub fn new(alloc: Global) -> Self
-        ensures cold { IsCold result }
+        ensures cold { (name : List ℕ) → heat_of result name ≡ 0 }
     {
         Heat {
             counts: BTreeMap::new(alloc),
         }
     }
 
-    /// Counts the transactions of a batch for the ranges that they read in conflict.
-    pub fn add(&mut self, alloc: Global, batch: &Batch, reply: &Reply) -> Result<(), ReportError>
-        ensures added { OnOk result (AddsHits self.old self.new (hits_of batch.now reply.now)) }
-    {
-        for index in 0..batch.txns.len() {
-            self.add_txn(alloc, batch, reply, index)?;
-        }
-        Ok(())
-    }
-
-    // Counts the transaction at the index.
-    fn add_txn(
+    /// Counts a transaction for the ranges that it read in conflict, once for each.
+    pub fn add(
         &mut self,
         alloc: Global,
-        batch: &Batch,
-        reply: &Reply,
-        index: usize,
+        txn: &TxnRef<'_>,
+        entry: &Entry,
     ) -> Result<(), ReportError>
-        requires within { index < length batch.now.txns }
-        ensures added { OnOk result (AddsHits self.old self.new
-            (hits_in (slice_get batch.now.txns index) (slice_get reply.now.entries index))) }
+        ensures added { OnOk result ((name : List ℕ) → heat_of self.new name ≡ heat_of self.old name
+            + (if is_among (names_at txn.now entry.now.places) name then 1 else 0)) }
     {
-        let Some(entry) = reply.entries.as_slice().get(index) else {
-            return Ok(());
-        };
-        let names = names_of(alloc, &batch.txns.txn(index), entry.places.as_slice())?;
+        let names = names_of(alloc, txn, entry.places.as_slice())?;
         self.add_names(alloc, &names)
     }
 
     // Counts a transaction for each of the names.
     fn add_names(&mut self, alloc: Global, names: &[String]) -> Result<(), ReportError>
-        ensures added { OnOk result (AddsHits self.old self.new (map string_bytes names.now)) }
+        ensures added { OnOk result ((name : List ℕ) → heat_of self.new name ≡ heat_of self.old name
+            + count_by (bytes_eq name) (map string_bytes names.now)) }
     {
         for name in names {
             self.add_name(alloc, name.as_str())?;
@@ -68,14 +55,15 @@ impl Heat {
     }
 
     fn add_name(&mut self, alloc: Global, name: &str) -> Result<(), ReportError>
-        ensures added { OnOk result ((q : List ℕ) → heat_of self.new q
-            ≡ heat_of self.old q + (if bytes_eq q name.now then 1 else 0)) }
+        ensures added { OnOk result ((other : List ℕ) → heat_of self.new other
+            ≡ heat_of self.old other + (if bytes_eq other name.now then 1 else 0)) }
     {
         let before = self.counts.get(name).copied().unwrap_or(0);
         let Some(after) = before.checked_add(1) else {
-            return Err(ReportError::Sum);
+            return Err(ReportError::Count);
         };
-        self.counts.insert(String::from_str(alloc, name)?, after)?;
+        let key = String::from_str(alloc, name)?;
+        self.counts.insert(key, after)?;
         Ok(())
     }
 }

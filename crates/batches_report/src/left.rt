@@ -2,7 +2,7 @@
 
 ghost use Rattle.std.specs.Prelude.{◌≡◌, ◌∷◌, ◌++◌, [], List, ℤ, OnOk};
 ghost use Rattle.keyspace.specs.declared.reply.Reply.{Reply as ReplyValue};
-ghost use Rattle.batches_report.specs.Pairs.{AreLeft, reply_unless_seen};
+ghost use Rattle.batches_report.specs.Answered.{AreLeft, reply_unless_seen};
 
 use keyspace::Reply;
 use std::alloc::{AllocError, Global};
@@ -11,7 +11,7 @@ use std::collections::BTreeMap;
 /// Replies that wait for their batches, by version.
 #[derive(Debug, Drop)]
 pub struct Left {
-    replies: BTreeMap<i64, Reply>,
+    pub replies: BTreeMap<i64, Reply>,
 }
 
 impl Left {

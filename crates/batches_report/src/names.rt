@@ -1,9 +1,9 @@
 //! Names of ranges, as a report shows them.
 
-ghost use Rattle.std.specs.Prelude.{◌≡◌, ◌++◌, IfOk, OnOk, map, string_bytes};
-ghost use Rattle.std.specs.List.{list_any};
-ghost use Rattle.std.specs.Str.{bytes_eq};
-ghost use Rattle.batches_report.specs.Hits.{each_once, name_of, names_at, put_once, quoted};
+ghost use Rattle.std.specs.Prelude.{◌≡◌, ◌∷◌, ◌++◌, [], List, ℕ, IfOk, OnOk, map, slice_get};
+ghost use Rattle.std.specs.Prelude.{string_bytes};
+ghost use Rattle.batches_report.specs.Names.{AreEachOnce, is_among, name_if_some, name_of};
+ghost use Rattle.batches_report.specs.Names.{names_at, quoted};
 
 use crate::error::ReportError;
 use json_lines::put_key_form;
@@ -17,36 +17,51 @@ pub fn names_of(
     txn: &TxnRef<'_>,
     places: &[u16],
 ) -> Result<Vec<String>, ReportError>
-    ensures names { IfOk result
-        (λ names. map string_bytes names.items ≡ each_once (names_at txn.now places.now)) }
+    ensures once { IfOk result (λ names.
+        AreEachOnce (names_at txn.now places.now) (map string_bytes names.items)) }
 {
     let mut names = Vec::new(alloc);
     for place in places {
-        let index = usize::from(*place);
-        if index < txn.reads.len() {
-            let name = name_of(alloc, &txn.reads.get(index))?;
-            put_once(&mut names, name)?;
-        }
+        put_name_at(alloc, &mut names, txn, usize::from(*place))?;
     }
     Ok(names)
 }
 
-// Appends a name, unless it is among the names.
-fn put_once(names: &mut Vec<String>, name: String) -> Result<(), AllocError>
-    ensures put { OnOk result (map string_bytes names.new.items
-        ≡ put_once (map string_bytes names.old.items) (string_bytes name)) }
+// Appends the name of the read range at a place, unless it is among the names.
+fn put_name_at(
+    alloc: Global,
+    names: &mut Vec<String>,
+    txn: &TxnRef<'_>,
+    place: usize,
+) -> Result<(), ReportError>
+    ensures put { OnOk result ((all : List (List ℕ)) → AreEachOnce all (map string_bytes names.old.items)
+        → AreEachOnce (all ++ name_if_some (slice_get txn.now.reads place))
+        (map string_bytes names.new.items)) }
 {
-    if has(names, &name) {
-        return Ok(());
+    if place < txn.reads.len() {
+        let name = name_of(alloc, &txn.reads.get(place))?;
+        put_once(names, name)?;
     }
-    Ok(names.push(name)?)
+    Ok(())
 }
 
-fn has(names: &[String], name: &str) -> bool
-    ensures exact { result ≡ list_any (bytes_eq name.now) (map string_bytes names.now) }
+// Appends a name, unless it is among the names.
+fn put_once(names: &mut Vec<String>, name: String) -> Result<(), AllocError>
+    ensures put { OnOk result ((all : List (List ℕ)) → AreEachOnce all (map string_bytes names.old.items)
+        → AreEachOnce (all ++ string_bytes name ∷ []) (map string_bytes names.new.items)) }
+{
+    if is_among(names, &name) {
+        return Ok(());
+    }
+    names.push(name)?;
+    Ok(())
+}
+
+fn is_among(names: &[String], name: &str) -> bool
+    ensures exact { result ≡ is_among (map string_bytes names.now) name.now }
 {
     for other in names {
-        if other.as_str() == name {
+        if name == other.as_str() {
             return true;
         }
     }

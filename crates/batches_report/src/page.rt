@@ -1,14 +1,13 @@
 //! The page that shows a tally: one file of HTML, with plots as SVG and without scripts.
 
 use crate::bins::bins_of;
-use crate::error::ReportError;
 use crate::plots::{Verdicts, put_plot};
-use crate::rows::{Totals, totals_between};
 use crate::share::share_of;
 use crate::style::{END, HEAD};
 use crate::tables::{put_ages, put_hot, put_sizes};
 use crate::tally::Tally;
 use crate::top::hottest;
+use crate::totals::{Totals, totals_between};
 use std::alloc::{AllocError, Global};
 use std::fmt::Write as _;
 
@@ -23,19 +22,17 @@ pub struct Inputs {
 }
 
 /// Returns the page of a tally.
-pub fn page_of(alloc: Global, tally: &Tally, inputs: Inputs) -> Result<String, ReportError> {
-    let Some(totals) = totals_between(&tally.rows, i64::MIN, i64::MAX) else {
-        return Err(ReportError::Sum);
-    };
+pub fn page_of(alloc: Global, tally: &Tally, inputs: Inputs) -> Result<String, AllocError> {
+    let totals = totals_between(&tally.rows, i64::MIN, i64::MAX);
     let bins = bins_of(alloc, &tally.rows)?;
-    let hot = hottest(alloc, &tally.heat, MOST_HOT)?;
+    let hot = hottest(alloc, &tally.txns.heat, MOST_HOT)?;
     let mut out = String::new(alloc);
     out.push_str(HEAD)?;
     put_inputs(&mut out, inputs, &totals)?;
     put_verdicts(&mut out, &totals)?;
     put_plot(&mut out, Verdicts::Conflicts, &bins)?;
     put_plot(&mut out, Verdicts::TooOld, &bins)?;
-    put_ages(&mut out, &tally.ages)?;
+    put_ages(&mut out, &tally.txns.ages)?;
     put_sizes(&mut out, &tally.rows)?;
     put_hot(&mut out, &totals, &hot)?;
     out.push_str(END)?;
@@ -43,7 +40,7 @@ pub fn page_of(alloc: Global, tally: &Tally, inputs: Inputs) -> Result<String, R
 }
 
 fn put_inputs(out: &mut String, inputs: Inputs, totals: &Totals) -> Result<(), AllocError> {
-    let counted = totals.batches;
+    let counted = totals.batches as u64;
     let batches = inputs.batches.saturating_sub(counted);
     let replies = inputs.replies.saturating_sub(counted);
     writeln!(out, "<p>{counted} batches with their replies.")?;
@@ -68,14 +65,14 @@ fn put_verdicts(out: &mut String, totals: &Totals) -> Result<(), AllocError> {
     out.push_str("</table>\n")
 }
 
-fn put_verdict(out: &mut String, name: &str, count: u64, all: u64) -> Result<(), AllocError> {
+fn put_verdict(out: &mut String, name: &str, count: usize, all: usize) -> Result<(), AllocError> {
     write!(out, "<tr><td>{name}</td><td>{count}</td><td>")?;
     put_share(out, count, all)?;
     out.push_str("</td></tr>\n")
 }
 
 /// Appends a share in percent.
-pub fn put_share(out: &mut String, part: u64, whole: u64) -> Result<(), AllocError> {
+pub fn put_share(out: &mut String, part: usize, whole: usize) -> Result<(), AllocError> {
     match share_of(part, whole) {
         Some(tenths) => write!(out, "{}.{} %", tenths / 10, tenths % 10),
         None => out.push_str("none"),

@@ -7,7 +7,7 @@ use std::alloc::AllocError;
 use std::fmt::Write as _;
 
 // The height of the highest bar, in units of the plot.
-const HEIGHT: u64 = 1_000;
+const HEIGHT: usize = 1_000;
 
 /// The verdicts whose share is plotted.
 #[derive(Clone, Copy, Debug, PartialEq, Eq)]
@@ -24,7 +24,7 @@ impl Verdicts {
         }
     }
 
-    fn count(self, bin: &Bin) -> u64 {
+    fn count(self, bin: &Bin) -> usize {
         match self {
             Verdicts::Conflicts => bin.totals.conflicts,
             Verdicts::TooOld => bin.totals.too_old,
@@ -60,7 +60,7 @@ fn put_bars(
     out: &mut String,
     verdicts: Verdicts,
     bins: &[Bin],
-    greatest: u64,
+    greatest: usize,
 ) -> Result<(), AllocError> {
     let (title, width) = (verdicts.title(), bins.len());
     writeln!(
@@ -79,7 +79,7 @@ fn put_bar(
     verdicts: Verdicts,
     index: usize,
     bin: &Bin,
-    greatest: u64,
+    greatest: usize,
 ) -> Result<(), AllocError> {
     let height = scaled(tenths(verdicts, bin), greatest, HEIGHT);
     let top = HEIGHT.saturating_sub(height);
@@ -95,12 +95,12 @@ fn put_bar(
 }
 
 // Returns the share in tenths of a percent, or 0 if there are no transactions.
-fn tenths(verdicts: Verdicts, bin: &Bin) -> u64 {
+fn tenths(verdicts: Verdicts, bin: &Bin) -> usize {
     share_of(verdicts.count(bin), bin.totals.txns).unwrap_or(0)
 }
 
 /// Returns how long a bar is whose number is `number`, if that of the greatest number is `length`.
-pub fn scaled(number: u64, greatest: u64, length: u64) -> u64 {
+pub fn scaled(number: usize, greatest: usize, length: usize) -> usize {
     match number.checked_mul(length) {
         Some(product) => product.checked_div(greatest).unwrap_or(0),
         None => length,

@@ -1,8 +1,8 @@
 //! How the transactions of a batch were judged, counted.
 
-ghost use Rattle.std.specs.Prelude.{◌≡◌, ◌+◌, ◌∷◌, ◌++◌, [], List, OnSome, IfSome, if◌then◌else◌};
-ghost use Rattle.keyspace.specs.declared.reply.Entry.{Entry as EntryValue};
-ghost use Rattle.batches_report.specs.Rows.{is_conflict, is_reported, is_too_old, row_of, row_with};
+ghost use Rattle.std.specs.Prelude.{◌≡◌, count_by};
+ghost use Rattle.batches_report.specs.JudgedTxns.{is_conflict, is_reported, is_too_old};
+ghost use Rattle.batches_report.specs.Rows.{row_of};
 
 use keyspace::{Batch, Entry, Reply, Verdict};
 
@@ -11,66 +11,64 @@ use keyspace::{Batch, Entry, Reply, Verdict};
 pub struct Row {
     /// The version of the batch.
     pub version: i64,
-    pub txns: u64,
-    pub conflicts: u64,
-    pub too_old: u64,
+    pub txns: usize,
+    pub conflicts: usize,
+    pub too_old: usize,
     /// The conflicts whose reply says which reads conflict.
-    pub reported: u64,
+    pub reported: usize,
 }
 
 impl Row {
-    /// Counts what the reply says of a batch. Returns none if a sum wouldn't fit.
-    pub fn of(batch: &Batch, reply: &Reply) -> Option<Row>
-        ensures row { IfSome result (λ row. row ≡ row_of batch.now reply.now) }
+    /// Counts what the reply says of a batch.
+    pub fn of(batch: &Batch, reply: &Reply) -> Row
+        ensures row { result ≡ row_of batch.now reply.now }
     {
-        let mut row = Row {
+        let entries = reply.entries.as_slice();
+        Row {
             version: batch.version,
-            txns: batch.txns.len() as u64,
-            conflicts: 0,
-            too_old: 0,
-            reported: 0,
-        };
-        for entry in reply.entries.as_slice() {
-            row.add(entry)?;
+            txns: batch.txns.len(),
+            conflicts: conflicts_in(entries),
+            too_old: too_old_in(entries),
+            reported: reported_in(entries),
         }
-        Some(row)
-    }
-
-    // Counts an entry. Returns none if a sum wouldn't fit.
-    fn add(&mut self, entry: &Entry) -> Option<()>
-        ensures added { OnSome result ((before : List EntryValue)
-            → self.old ≡ row_with self.old.version self.old.txns before
-            → self.new ≡ row_with self.old.version self.old.txns (before ++ entry.now ∷ [])) }
-    {
-        self.conflicts = with_one_if(self.conflicts, is_conflict(entry))?;
-        self.too_old = with_one_if(self.too_old, is_too_old(entry))?;
-        self.reported = with_one_if(self.reported, is_reported(entry))?;
-        Some(())
     }
 }
 
-// Returns the number, or the next one. There is none if that doesn't fit.
-fn with_one_if(number: u64, more: bool) -> Option<u64>
-    ensures sum { IfSome result (λ sum. sum ≡ (if more then number + 1 else number)) }
+fn conflicts_in(entries: &[Entry]) -> usize
+    ensures count { result ≡ count_by is_conflict entries.now }
 {
-    if more {
-        number.checked_add(1)
-    } else {
-        Some(number)
-    }
+    entries.iter().filter(|entry| is_conflict(entry)).count()
+}
+
+fn too_old_in(entries: &[Entry]) -> usize
+    ensures count { result ≡ count_by is_too_old entries.now }
+{
+    entries.iter().filter(|entry| is_too_old(entry)).count()
+}
+
+fn reported_in(entries: &[Entry]) -> usize
+    ensures count { result ≡ count_by is_reported entries.now }
+{
+    entries.iter().filter(|entry| is_reported(entry)).count()
 }
 
 fn is_conflict(entry: &Entry) -> bool
     ensures exact { result ≡ is_conflict entry.now }
 {
-    matches!(entry.verdict, Verdict::Conflict)
+    match entry.verdict {
+        Verdict::Conflict => true,
+        Verdict::TooOld | Verdict::Committed => false,
+    }
 }
 
 /// Returns `true` if the transaction was too old.
 pub fn is_too_old(entry: &Entry) -> bool
     ensures exact { result ≡ is_too_old entry.now }
 {
-    matches!(entry.verdict, Verdict::TooOld)
+    match entry.verdict {
+        Verdict::TooOld => true,
+        Verdict::Conflict | Verdict::Committed => false,
+    }
 }
 
 fn is_reported(entry: &Entry) -> bool

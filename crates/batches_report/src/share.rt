@@ -1,12 +1,13 @@
 //! Shares.
 
-ghost use Rattle.std.specs.Prelude.{◌≡◌, IfSome};
-ghost use Rattle.batches_report.specs.Share.{share_of};
+ghost use Rattle.std.specs.Prelude.{◌≡◌, ◌⊎◌, ◌≤◌, ◌+◌, ◌*◌, ◌^◌, IfSome, OnNone};
+ghost use Rattle.batches_report.specs.Share.{IsRoundedShare};
 
 /// Returns the share of a whole in tenths of a percent, rounded to the nearest one, and up from the
-/// middle. There is none of nothing, or if a thousand times the part doesn't fit.
-pub fn share_of(part: u64, whole: u64) -> Option<u64>
-    ensures share { IfSome result (λ share. share ≡ share_of part whole) }
+/// middle. There is none of nothing, or of a part beyond 64 bits in thousandths.
+pub fn share_of(part: usize, whole: usize) -> Option<usize>
+    ensures share { IfSome result (IsRoundedShare part whole) }
+    ensures none { OnNone result ((whole ≡ 0) ⊎ (2 ^ 64 ≤ 1000 * part + whole)) }
 {
     part.checked_mul(1_000)?
         .checked_add(whole / 2)?

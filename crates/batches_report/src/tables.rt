@@ -4,13 +4,13 @@ use crate::ages::covered;
 use crate::page::put_share;
 use crate::plots::scaled;
 use crate::row::Row;
-use crate::rows::{Totals, batches_of_size};
 use crate::top::Hot;
+use crate::totals::{Totals, batches_of_size};
 use std::alloc::AllocError;
 use std::fmt::Write as _;
 
 // The length of the longest bar, in its own units.
-const LENGTH: u64 = 1_000;
+const LENGTH: usize = 1_000;
 
 // The most bytes of a name that are shown.
 const MOST_BYTES: usize = 120;
@@ -57,7 +57,7 @@ const WINDOWS: [i64; 37] = [
 ];
 
 // The sizes that are counted together: the least and the greatest.
-const SIZES: [(u64, u64); 14] = [
+const SIZES: [(usize, usize); 14] = [
     (0, 0),
     (1, 1),
     (2, 3),
@@ -76,7 +76,7 @@ const SIZES: [(u64, u64); 14] = [
 
 /// Appends how many of the transactions wouldn't have been too old in larger windows.
 pub fn put_ages(out: &mut String, ages: &[i64]) -> Result<(), AllocError> {
-    let all = ages.len() as u64;
+    let all = ages.len();
     out.push_str("<h2>Snapshot age of transactions that were too old</h2>\n")?;
     if all == 0 {
         return out.push_str("<p>none</p>\n");
@@ -94,7 +94,7 @@ pub fn put_ages(out: &mut String, ages: &[i64]) -> Result<(), AllocError> {
     out.push_str("</table>\n")
 }
 
-fn put_window(out: &mut String, window: i64, count: u64, all: u64) -> Result<(), AllocError> {
+fn put_window(out: &mut String, window: i64, count: usize, all: usize) -> Result<(), AllocError> {
     write!(out, "<tr><td>{window}</td><td>{count}</td><td>")?;
     put_share(out, count, all)?;
     out.push_str("</td>")?;
@@ -105,7 +105,7 @@ fn put_window(out: &mut String, window: i64, count: u64, all: u64) -> Result<(),
 pub fn put_sizes(out: &mut String, rows: &[Row]) -> Result<(), AllocError> {
     out.push_str("<h2>Batch sizes</h2>\n<table>\n")?;
     out.push_str("<tr><th>transactions</th><th>batches</th><th>share</th><th></th></tr>\n")?;
-    let all = rows.len() as u64;
+    let all = rows.len();
     for (least, most) in &SIZES {
         let count = batches_of_size(rows, *least, *most);
         if count > 0 {
@@ -117,10 +117,10 @@ pub fn put_sizes(out: &mut String, rows: &[Row]) -> Result<(), AllocError> {
 
 fn put_size(
     out: &mut String,
-    least: u64,
-    most: u64,
-    count: u64,
-    all: u64,
+    least: usize,
+    most: usize,
+    count: usize,
+    all: usize,
 ) -> Result<(), AllocError> {
     if least == most {
         write!(out, "<tr><td>{least}</td><td>{count}</td><td>")?;
@@ -150,8 +150,8 @@ pub fn put_hot(out: &mut String, totals: &Totals, hot: &[Hot]) -> Result<(), All
     for range in hot {
         out.push_str("<tr><td><code>")?;
         put_name(out, &range.name)?;
-        write!(out, "</code></td><td>{}</td>", range.count.0)?;
-        put_bar(out, range.count.0, hottest.count.0)?;
+        write!(out, "</code></td><td>{}</td>", range.count)?;
+        put_bar(out, range.count, hottest.count)?;
     }
     out.push_str("</table>\n")
 }
@@ -179,7 +179,7 @@ fn put_byte(out: &mut String, byte: u8) -> Result<(), AllocError> {
 }
 
 // Appends the last cell of a row, with a bar.
-fn put_bar(out: &mut String, number: u64, greatest: u64) -> Result<(), AllocError> {
+fn put_bar(out: &mut String, number: usize, greatest: usize) -> Result<(), AllocError> {
     let length = scaled(number, greatest, LENGTH);
     writeln!(
         out,
