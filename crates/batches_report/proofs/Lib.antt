@@ -3,3 +3,4 @@ mod Naming
 mod Counting
 mod Tallying
 mod Falling
+mod Parting

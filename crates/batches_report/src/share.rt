@@ -1,13 +1,13 @@
 //! Shares.
 
-ghost use Rattle.std.specs.Prelude.{◌≡◌, ◌⊎◌, ◌≤◌, ◌+◌, ◌*◌, ◌^◌, IfSome, OnNone};
+ghost use Rattle.std.specs.Prelude.{◌≡◌, ◌⊎◌, ◌≤◌, ◌+◌, ◌*◌, ◌^◌, IfSome, IfNone};
 ghost use Rattle.batches_report.specs.Share.{IsRoundedShare};
 
 /// Returns the share of a whole in tenths of a percent, rounded to the nearest one, and up from the
 /// middle. There is none of nothing, or of a part beyond 64 bits in thousandths.
 pub fn share_of(part: usize, whole: usize) -> Option<usize>
     ensures share { IfSome result (IsRoundedShare part whole) }
-    ensures none { OnNone result ((whole ≡ 0) ⊎ (2 ^ 64 ≤ 1000 * part + whole)) }
+    ensures none { IfNone result ((whole ≡ 0) ⊎ (2 ^ 64 ≤ 1000 * part + whole)) }
 {
     part.checked_mul(1_000)?
         .checked_add(whole / 2)?
