@@ -26,7 +26,7 @@ txns_of b r = map (judged_with b.version) (zip b.txns r.entries)
 abbrev pub txns_in : List Answered → List JudgedTxn
 txns_in answered = flat_map (λ a. txns_of a.batch a.reply) answered
 
--- each transaction has an entry, and each entry a transaction
+-- the reply has one entry per transaction
 abbrev pub Fits : Answered → Type 0
 Fits a = length a.reply.entries ≡ length a.batch.txns
 

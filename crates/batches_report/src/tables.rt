@@ -74,14 +74,14 @@ const SIZES: [(usize, usize); 14] = [
     (4_096, 4_096),
 ];
 
-/// Appends how many of the transactions wouldn't have been too old in larger windows.
+/// Appends how many of the transactions that were too old a larger window would cover.
 pub fn put_ages(out: &mut String, ages: &[i64]) -> Result<(), AllocError> {
     let all = ages.len();
     out.push_str("<h2>Snapshot age of transactions that were too old</h2>\n")?;
     if all == 0 {
         return out.push_str("<p>none</p>\n");
     }
-    out.push_str("<p>With this window, so many of them wouldn't have been too old.</p>\n")?;
+    out.push_str("<p>Transactions that aren't too old with a window of this many versions.</p>\n")?;
     out.push_str("<table>\n<tr><th>window</th><th>transactions</th><th>share</th><th></th></tr>\n")?;
     let mut before = 0;
     for window in &WINDOWS {
