@@ -54,10 +54,11 @@ impl Tally {
             → IsTally replies batches self.old
             → IsTally replies (batches ++ batch.now ∷ []) self.new) }
     {
-        match self.left.take(batch.version) {
-            None => Ok(()),
-            Some(reply) => self.add_answered(alloc, batch, &reply),
-        }
+        let Some(reply) = self.left.take(batch.version) else {
+            return Ok(());
+        };
+        self.add_answered(alloc, batch, &reply)?;
+        Ok(())
     }
 
     // Adds a batch with the reply to it.
