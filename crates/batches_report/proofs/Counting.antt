@@ -1,5 +1,5 @@
 -- One transaction more, and one name more.
-use Rattle.std.proofs.Common.{◌≡◌, ℕ, ◌+◌, ◌<◌, ℤ, Bool, true, false, cond, List, [], ◌∷◌, ◌++◌, length, take, get_or, map, count_by, Option, Some, String, BTreeMap, refl, sym, ap, ◌∙◌, arith, unwrap_or, if◌then◌else◌}
+use Rattle.std.proofs.Common.{◌≡◌, ℕ, ◌+◌, ◌<◌, ℤ, Bool, true, false, cond, List, [], ◌∷◌, ◌++◌, length, take, get_or, map, count_by, Option, Some, String, BTreeMap, append_assoc, refl, sym, ap, ◌∙◌, arith, unwrap_or, if◌then◌else◌}
 use Rattle.std.specs.Prelude.{filter, slice_get, string_bytes}
 use Rattle.std.specs.BTreeMap.{get_by_text}
 use Rattle.std.specs.Cmp.Lexicographic.{bytes_decides, nat_list_eq_equiv}
@@ -41,6 +41,17 @@ pairs_more version ts es i t e txn entry =
     (take_more (zip ts es) i (t, e) within
     ∙ ap (λ p. take i (zip ts es) ++ p ∷ []) (get_or-zip ts es i (t, e) in_ts in_es ∙ (λ k. (first k, second k))))
     ∙ map_push (judged_with version) (take i (zip ts es)) (t, e)
+
+-- the transactions up to the index i
+pub batch_more : (version v : ℤ) (ts : List Txn) (es : List Entry) (i : ℕ) (t : Txn) (e : Entry) (js : List JudgedTxn) → v ≡ version
+    → slice_get ts i ≡ Some t → slice_get es i ≡ Some e
+    → (js ++ map (judged_with version) (take i (zip ts es))) ++ judged_with v (t, e) ∷ []
+    ≡ js ++ map (judged_with version) (take (i + 1) (zip ts es))
+batch_more version v ts es i t e js same txn entry =
+    let before = map (judged_with version) (take i (zip ts es)) in
+    ap (λ (x : ℤ). (js ++ before) ++ judged_with x (t, e) ∷ []) same
+    ∙ append_assoc js before (judged_with version (t, e) ∷ [])
+    ∙ ap (λ (more : List JudgedTxn). js ++ more) (sym (pairs_more version ts es i t e txn entry))
 
 -- all pairs
 pub pairs_all : (ts : List Txn) (es : List Entry) (n : ℕ) → length ts ≡ n → length es ≡ n → take n (zip ts es) ≡ zip ts es

@@ -2,7 +2,7 @@
 
 ghost use Rattle.std.specs.Prelude.{◌≡◌, ◌∷◌, ◌++◌, [], List, count_by};
 ghost use Rattle.batches_report.specs.declared.row.Row.{Row as RowValue};
-ghost use Rattle.batches_report.specs.Totals.{has_size, rows_between, totals_of};
+ghost use Rattle.batches_report.specs.Totals.{has_size, is_between, rows_between, totals_of};
 
 use crate::row::Row;
 
@@ -28,11 +28,17 @@ pub fn totals_between(rows: &[Row], first: i64, last: i64) -> Totals
         reported: 0,
     };
     for row in rows {
-        if first <= row.version && row.version <= last {
+        if is_between(row, first, last) {
             totals.add(row);
         }
     }
     totals
+}
+
+fn is_between(row: &Row, first: i64, last: i64) -> bool
+    ensures exact { result ≡ is_between first last row.now }
+{
+    first <= row.version && row.version <= last
 }
 
 impl Totals {
