@@ -71,11 +71,7 @@ fn write_file<R: Files<File = File>>(
     Ok(write_and_flush(&mut StdSink::new(file), &text)?)
 }
 
-fn text_of_page<R: AllocGlobal>(
-    rt: &R,
-    tally: &Tally,
-    inputs: Inputs,
-) -> Result<Vec<u8>, Failure> {
+fn text_of_page<R: AllocGlobal>(rt: &R, tally: &Tally, inputs: Inputs) -> Result<Vec<u8>, Failure> {
     let page = page_of(rt.alloc(), tally, inputs)?;
     Ok(page.into_bytes())
 }

@@ -48,7 +48,7 @@ tally_unanswered rs bs b old new tally none left rows txns =
       fit = subst (All Fits) (sym same) tally.fit;
       rows = rows ∙ tally.rows ∙ ap (map (λ (a : Answered). row_of a.batch a.reply)) (sym same);
       txns = subst (λ (t : TxnTally). Counts (txns_in (answered rs (bs ++ b ∷ []))) t) (sym txns)
-      (subst (λ (them : List Answered). Counts (txns_in them) old.txns) (sym same) tally.txns);
+          (subst (λ (them : List Answered). Counts (txns_in them) old.txns) (sym same) tally.txns);
     }
 
 -- a batch with a reply
@@ -67,8 +67,8 @@ tally_answered rs bs b r old new tally some left fits rows txns =
       left = left_last rs bs b new left;
       fit = subst (All Fits) (sym more) (All-append Fits before (a ∷ []) tally.fit one);
       rows = rows ∙ ap (λ (t : List Row). t ++ row_of b r ∷ []) tally.rows
-      ∙ sym (map_push (λ (x : Answered). row_of x.batch x.reply) before a)
-      ∙ ap (map (λ (x : Answered). row_of x.batch x.reply)) (sym more);
+          ∙ sym (map_push (λ (x : Answered). row_of x.batch x.reply) before a)
+          ∙ ap (map (λ (x : Answered). row_of x.batch x.reply)) (sym more);
       txns = subst (λ (js : List JudgedTxn). Counts js new.txns) (sym (ap txns_in more ∙ all_txns)) (txns (txns_in before) tally.txns);
     }
 

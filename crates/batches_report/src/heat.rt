@@ -30,12 +30,7 @@ impl Heat {
     }
 
     /// Counts a transaction for the ranges that it read in conflict, once for each.
-    pub fn add(
-        &mut self,
-        alloc: Global,
-        txn: &TxnRef<'_>,
-        entry: &Entry,
-    ) -> Result<(), ReportError>
+    pub fn add(&mut self, alloc: Global, txn: &TxnRef<'_>, entry: &Entry) -> Result<(), ReportError>
         ensures added { OnOk result ((name : List ℕ) → heat_of self.new name ≡ heat_of self.old name
             + (if is_among (names_at txn.now entry.now.places) name then 1 else 0)) }
     {

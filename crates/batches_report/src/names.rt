@@ -12,11 +12,7 @@ use std::alloc::{AllocError, Global};
 use wire::is_single_key;
 
 /// Returns the names of the read ranges at the places, each once. A place without a range has none.
-pub fn names_of(
-    alloc: Global,
-    txn: &TxnRef<'_>,
-    places: &[u16],
-) -> Result<Vec<String>, ReportError>
+pub fn names_of(alloc: Global, txn: &TxnRef<'_>, places: &[u16]) -> Result<Vec<String>, ReportError>
     ensures once { IfOk result (λ names.
         AreEachOnce (names_at txn.now places.now) (map string_bytes names.items)) }
 {
@@ -34,7 +30,8 @@ fn put_name_at(
     txn: &TxnRef<'_>,
     place: usize,
 ) -> Result<(), ReportError>
-    ensures put { OnOk result ((all : List (List ℕ)) → AreEachOnce all (map string_bytes names.old.items)
+    ensures put { OnOk result ((all : List (List ℕ))
+        → AreEachOnce all (map string_bytes names.old.items)
         → AreEachOnce (all ++ name_if_some (slice_get txn.now.reads place))
         (map string_bytes names.new.items)) }
 {
@@ -47,7 +44,8 @@ fn put_name_at(
 
 // Appends a name, unless it is among the names.
 fn put_once(names: &mut Vec<String>, name: String) -> Result<(), AllocError>
-    ensures put { OnOk result ((all : List (List ℕ)) → AreEachOnce all (map string_bytes names.old.items)
+    ensures put { OnOk result ((all : List (List ℕ))
+        → AreEachOnce all (map string_bytes names.old.items)
         → AreEachOnce (all ++ string_bytes name ∷ []) (map string_bytes names.new.items)) }
 {
     if is_among(names, &name) {

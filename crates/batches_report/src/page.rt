@@ -45,10 +45,16 @@ fn put_inputs(out: &mut String, inputs: Inputs, totals: &Totals) -> Result<(), A
     let replies = inputs.replies.saturating_sub(counted);
     writeln!(out, "<p>{counted} batches with their replies.")?;
     if batches > 0 {
-        writeln!(out, "{batches} more batches aren't counted: repeats, or without a reply.")?;
+        writeln!(
+            out,
+            "{batches} more batches aren't counted: repeats, or without a reply."
+        )?;
     }
     if replies > 0 {
-        writeln!(out, "{replies} more replies aren't counted: repeats, or without a batch.")?;
+        writeln!(
+            out,
+            "{replies} more replies aren't counted: repeats, or without a batch."
+        )?;
     }
     out.push_str("</p>\n")
 }

@@ -47,7 +47,11 @@ pub fn put_plot(out: &mut String, verdicts: Verdicts, bins: &[Bin]) -> Result<()
         return out.push_str("<p>none</p>\n");
     }
     let top = (greatest / 10, greatest % 10);
-    writeln!(out, "<p>Highest bar: {}.{} % of the transactions</p>", top.0, top.1)?;
+    writeln!(
+        out,
+        "<p>Highest bar: {}.{} % of the transactions</p>",
+        top.0, top.1
+    )?;
     put_bars(out, verdicts, bins, greatest)?;
     let (first, last) = (first.first, last.last);
     writeln!(

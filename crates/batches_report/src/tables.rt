@@ -82,7 +82,9 @@ pub fn put_ages(out: &mut String, ages: &[i64]) -> Result<(), AllocError> {
         return out.push_str("<p>none</p>\n");
     }
     out.push_str("<p>Transactions that aren't too old with a window of this many versions.</p>\n")?;
-    out.push_str("<table>\n<tr><th>window</th><th>transactions</th><th>share</th><th></th></tr>\n")?;
+    out.push_str(
+        "<table>\n<tr><th>window</th><th>transactions</th><th>share</th><th></th></tr>\n",
+    )?;
     let mut before = 0;
     for window in &WINDOWS {
         let count = covered(ages, *window);

@@ -59,5 +59,7 @@ impl Totals {
 pub fn batches_of_size(rows: &[Row], least: usize, most: usize) -> usize
     ensures count { result ≡ count_by (has_size least most) rows.now }
 {
-    rows.iter().filter(|row| least <= row.txns && row.txns <= most).count()
+    rows.iter()
+        .filter(|row| least <= row.txns && row.txns <= most)
+        .count()
 }
