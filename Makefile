@@ -83,6 +83,25 @@ install:
 uninstall:
 	library/install --remove
 
+.PHONY: install-programs uninstall-programs completions completions-test
+
+# Installs the programs in BUILT (out/quick, or crates for the proved ones), their manual pages and their completions for bash, zsh and fish.
+# DESTDIR and PREFIX (/usr/local) say where.
+install-programs:
+	completions/install-programs
+
+# Removes what `make install-programs` with the same variables has installed.
+uninstall-programs:
+	completions/install-programs --remove
+
+# Writes the completions anew, from what the programs of out/quick print for `--help`.
+completions: quick
+	completions/generate
+
+# After `make quick`, compares the completions with the programs, and completes lines in bash, zsh and fish.
+completions-test:
+	.ci/completions
+
 # After `make test`, tests the library for C: examples, chains beside the program, sanitizers, valgrind, refused memory, languages.
 library-test: library
 	.ci/library-test
