@@ -15,6 +15,8 @@ _batches() {
                 'split-points --resolvers') wanted=OTHER ;;
                 'clip --split-points') wanted=FILE ;;
                 'clip --shard') wanted=OTHER ;;
+                'report --replies') wanted=FILE ;;
+                'report -o' | 'report --output') wanted=FILE ;;
                 *) ;;
             esac
         elif [[ ! $command && ! $ended ]]; then
@@ -36,6 +38,7 @@ _batches() {
             stats) wanted='--json -h --help' ;;
             split-points) wanted='--resolvers -h --help' ;;
             clip) wanted='--split-points --shard -h --help' ;;
+            report) wanted='--replies -o --output -h --help' ;;
             *) wanted=OTHER ;;
         esac
     else
@@ -46,7 +49,8 @@ _batches() {
             'stats '*) wanted=FILE ;;
             'split-points '*) wanted=FILE ;;
             'clip 0') wanted=FILE ;;
-            ' 0' | 'help 0') wanted='encode decode show opening stats split-points clip help' ;;
+            'report '*) wanted=FILE ;;
+            ' 0' | 'help 0') wanted='encode decode show opening stats split-points clip report help' ;;
             *) wanted=OTHER ;;
         esac
     fi

@@ -6,7 +6,7 @@ function __batches_place --description 'The command, and how many arguments of i
     set --local is options
     for word in (commandline --tokenize --current-process --cut-at-cursor)[2..]
         switch "$is $command $word"
-            case 'options opening --version' 'options split-points --resolvers' 'options clip --split-points' 'options clip --shard'
+            case 'options opening --version' 'options split-points --resolvers' 'options clip --split-points' 'options clip --shard' 'options report --replies' 'options report -o' 'options report --output'
                 set is value
             case 'value *'
                 set is options
@@ -32,8 +32,9 @@ complete --command batches --condition "string match --quiet ' 0' (__batches_pla
 complete --command batches --condition "string match --quiet ' 0' (__batches_place)" --arguments stats --description 'Reads frames of batches and prints what they add up to'
 complete --command batches --condition "string match --quiet ' 0' (__batches_place)" --arguments split-points --description 'Reads frames of batches and prints keys that split their ranges evenly, one a line'
 complete --command batches --condition "string match --quiet ' 0' (__batches_place)" --arguments clip --description 'Reads frames of batches and writes those of one resolver\'s shard'
+complete --command batches --condition "string match --quiet ' 0' (__batches_place)" --arguments report --description 'Reads frames of batches and of their replies and writes a page of HTML'
 complete --command batches --condition "string match --quiet ' 0' (__batches_place)" --arguments help --description 'Print help, or that of a command'
-complete --command batches --condition "string match --quiet 'help 0' (__batches_place)" --no-files --arguments 'encode decode show opening stats split-points clip help'
+complete --command batches --condition "string match --quiet 'help 0' (__batches_place)" --no-files --arguments 'encode decode show opening stats split-points clip report help'
 complete --command batches --condition "string match --quiet ' *' (__batches_place)" --short-option h --long-option help --description 'Print help'
 complete --command batches --condition "string match --quiet ' *' (__batches_place)" --short-option V --long-option version --description 'Print version'
 complete --command batches --condition "string match --quiet 'encode *' (__batches_place)" --long-option replies --description 'The frames are those of replies, and not of batches'
@@ -61,3 +62,6 @@ complete --command batches --condition "string match --quiet 'clip *' (__batches
 complete --command batches --condition "string match --quiet 'clip *' (__batches_place)" --short-option h --long-option help --description 'Print help'
 complete --command batches --condition "string match --quiet 'clip *' (__batches_place)" --no-files
 complete --command batches --condition "string match --quiet 'clip 0' (__batches_place)" --force-files
+complete --command batches --condition "string match --quiet 'report *' (__batches_place)" --long-option replies --require-parameter --force-files --description 'A file of the frames of replies; once for each'
+complete --command batches --condition "string match --quiet 'report *' (__batches_place)" --short-option o --long-option output --require-parameter --force-files --description 'The file to write; standard output where none is given'
+complete --command batches --condition "string match --quiet 'report *' (__batches_place)" --short-option h --long-option help --description 'Print help'

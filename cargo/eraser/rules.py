@@ -18,7 +18,7 @@ REMOVED = (
     ("bound", r"(: Drop)\b(?! \+)"),
     ("model", r"(use std :: marker :: Model ;)"),
     ("model", r"(impl (?:< [^{]* > )?Model for [^{]* \{ \})"),
-    # The signatures of `fmt`, `report` and `main`, and of opening a file, are Rust's.
+    # The signatures of `fmt`, `report` and `main`, and of opening and creating a file, are Rust's.
     ("signature", r"fn fmt (< W : fmt :: Write >)"),
     ("signature", r"fn report (< R : Eprint >) \( self (, _rt : & R) \)"),
     ("signature", r"fn main \( (rt : HostRuntime) \)"),

@@ -146,6 +146,12 @@ ROWS = (
     BatchesRow(clip("missing", 0, "wide"), "", "batches: missing: the file can't be opened\n", 1),
     BatchesRow(clip("one", 0, "missing"), "", "batches: missing: the file can't be opened\n", 1),
     BatchesRow(clip("one", 0, "one"), "", "batches: one: frame 1: 1 Short\n", 1),
+    BatchesRow(("report", "first", "--replies", "missing"), "", "batches: missing: the file can't be opened\n", 1),
+    BatchesRow(("report", "missing", "--replies", "empty"), "", "batches: missing: the file can't be opened\n", 1),
+    BatchesRow(("report", "one", "--replies", "empty"), "", "batches: one: frame 1: 1 Short\n", 1),
+    BatchesRow(("report", "--replies", "empty"), "", "batches: standard input: frame 1: 1 Short\n", 1, stdin="one"),
+    BatchesRow(("report", "alone", "--replies", "one"), "", "batches: one: frame 1: 1 Short\n", 1),
+    BatchesRow(("report", "alone", "--replies", "empty", "-o", "missing/page"), "", "batches: missing/page: the file can't be created\n", 1),
     BatchesRow(("decode", "-"), '{"previous":-1,"version":0,"received":-1,"transactions":[]}\n', stdin="alone"),
     BatchesRow(("show", "-"), "batch -1 > 0, received -1, transactions 0\n", stdin="alone"),
 )
@@ -168,6 +174,10 @@ REFUSED: tuple[tuple[str, ...], ...] = (
     ("clip", "--split-points", "one", "--shard", "64", "wide"),
     ("clip", "--split-points", "one", "--shard", "0", "wide", "wide"),
     ("stats", "--text"),
+    ("report", "first"),
+    ("report", "first", "--replies"),
+    ("report", "first", "--replies", "empty", "-o"),
+    ("report", "first", "--replies", "empty", "-o", "page", "--output", "page"),
 )
 
 # Versions whose opening batch is written.

@@ -40,7 +40,7 @@ impl<T> From<AllocFailed<T>> for io::Error {
 pub trait Allocator {}
 
 /// The allocator of the process. It takes no room, in a call from C too.
-#[derive(Clone, Copy, Debug, Default, PartialEq, Eq, Hash)]
+#[derive(Clone, Copy, Debug, Default, PartialEq, Eq, PartialOrd, Ord, Hash)]
 #[repr(C)]
 pub struct Global;
 

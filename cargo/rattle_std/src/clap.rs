@@ -95,6 +95,7 @@ impl ValueParser<'_> {
 pub struct Arg<'a> {
     id: &'a str,
     long: Option<&'a str>,
+    short: Option<char>,
     value_name: &'a str,
     help: &'a str,
     default_value: Option<&'a str>,
@@ -105,7 +106,7 @@ pub struct Arg<'a> {
 
 impl<'a> Arg<'a> {
     setters!(action: ArgAction, default_value: &'a str, help: &'a str, long: &'a str);
-    setters!(required: bool, value_name: &'a str, value_parser: ValueParser<'a>);
+    setters!(required: bool, short: char, value_name: &'a str, value_parser: ValueParser<'a>);
 
     pub fn new(_alloc: Global, id: &'a str) -> Self {
         Arg { id, value_name: id, ..Arg::default() }

@@ -1,6 +1,7 @@
 //! Deques and maps whose growth may be refused.
 
 use crate::alloc::{AllocError, AllocFailed, Global};
+use std::borrow::Borrow;
 use std::marker::PhantomData;
 use std::ops::RangeInclusive;
 use std::{collections, mem};
@@ -53,17 +54,33 @@ impl<K: Ord, V, A> BTreeMap<K, V, A> {
     }
 
     // Returns the index of the leaf that has a key or would have it, and the key's index there.
-    fn find(&self, key: &K) -> (usize, Result<usize, usize>) {
-        let is_at_most = |leaf: &Vec<(K, V)>| leaf.first().is_some_and(|entry| entry.0 <= *key);
+    fn find<Q: Ord + ?Sized>(&self, key: &Q) -> (usize, Result<usize, usize>)
+    where
+        K: Borrow<Q>,
+    {
+        let is_at_most =
+            |leaf: &Vec<(K, V)>| leaf.first().is_some_and(|entry| entry.0.borrow() <= key);
         let leaf = self.leaves.partition_point(is_at_most).saturating_sub(1);
         let entries = self.leaves.get(leaf).map_or(&[][..], Vec::as_slice);
-        (leaf, entries.binary_search_by(|entry| entry.0.cmp(key)))
+        (leaf, entries.binary_search_by(|entry| entry.0.borrow().cmp(key)))
     }
 
-    pub fn get(&self, key: &K) -> Option<&V> {
+    pub fn get<Q: Ord + ?Sized>(&self, key: &Q) -> Option<&V>
+    where
+        K: Borrow<Q>,
+    {
         let (leaf, index) = self.find(key);
         let index = index.ok()?;
         Some(&self.leaves[leaf][index].1)
+    }
+
+    pub fn contains_key(&self, key: &K) -> bool {
+        self.find(key).1.is_ok()
+    }
+
+    /// Returns the entries in the order of their keys.
+    pub fn iter(&self) -> impl Iterator<Item = (&K, &V)> {
+        self.leaves.iter().flatten().map(|entry| (&entry.0, &entry.1))
     }
 
     /// Sets the value of a key, and returns the one before. A refused insertion changes no entry.

@@ -2,11 +2,12 @@
 
 use crate::alloc::{AllocError, Global};
 use crate::vec::Vec;
+use std::borrow::Borrow;
 use std::marker::PhantomData;
 use std::{fmt, string};
 
 /// Rust's own text, whose methods that grow it return an error if memory is refused.
-#[derive(Debug, PartialEq, Eq, Hash)]
+#[derive(Debug, PartialEq, Eq, PartialOrd, Ord, Hash)]
 pub struct String<A = Global>(string::String, PhantomData<A>);
 
 derefs!(String<A> as string::String, self.0);
@@ -20,6 +21,17 @@ impl<A> String<A> {
         let mut text = String::new(alloc);
         text.0.try_reserve(capacity)?;
         Ok(text)
+    }
+
+    pub fn from_str(alloc: A, text: &str) -> Result<Self, AllocError> {
+        let mut copy = String::with_capacity(alloc, text.len())?;
+        copy.0.push_str(text);
+        Ok(copy)
+    }
+
+    /// Makes text of its bytes, without copying them.
+    pub fn from_utf8(bytes: Vec<u8, A>) -> Result<Self, string::FromUtf8Error> {
+        Ok(string::String::from_utf8(bytes.into_std())?.into())
     }
 
     pub fn push(&mut self, character: char) -> Result<(), AllocError> {
@@ -51,6 +63,12 @@ impl<A> fmt::Write for String<A> {
 impl<A> From<string::String> for String<A> {
     fn from(text: string::String) -> Self {
         String(text, PhantomData)
+    }
+}
+
+impl<A> Borrow<str> for String<A> {
+    fn borrow(&self) -> &str {
+        &self.0
     }
 }
 

@@ -1,6 +1,7 @@
 //! A vector whose growth may be refused.
 
 use crate::alloc::{AllocError, AllocFailed, Global};
+use std::cmp::Ordering;
 use std::marker::PhantomData;
 use std::{io, slice, vec};
 
@@ -54,6 +55,16 @@ impl<T, A> Vec<T, A> {
     /// Takes the last item of a vector that isn't empty.
     pub fn take_last(&mut self) -> T {
         self.0.pop().expect("the vector isn't empty")
+    }
+
+    /// Sorts the items. Equal items stay in order. Rust's own sort ends the process if memory is
+    /// refused.
+    pub fn sort_by(
+        &mut self,
+        compare: impl FnMut(&T, &T) -> Ordering,
+    ) -> Result<(), AllocError> {
+        self.0.sort_by(compare);
+        Ok(())
     }
 
     /// Returns Rust's own vector of the same items. Nothing is copied.

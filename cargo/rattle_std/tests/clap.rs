@@ -102,6 +102,27 @@ fn options_and_files() {
 }
 
 #[test]
+fn options_of_one_letter() {
+    let page = Arg::new(Global, "output").short('o').long("output").value_name("PAGE");
+    let command = Command::new(Global, "report").arg(page).unwrap().arg(Arg::new(Global, "FILE")).unwrap();
+    for given in ["-o page f", "-opage f", "f -o=page", "--output page f", "f --output=page"] {
+        let words = words(given);
+        let matches = command.try_get_matches_from(&words).expect(given);
+        assert_eq!((matches.get_str("output"), matches.get_str("FILE")), (Some("page"), Some("f")), "{given}");
+    }
+    for (given, kind) in [
+        ("f -o", ErrorKind::WrongNumberOfValues),
+        ("-o page -opage f", ErrorKind::ArgumentConflict),
+        ("-p page f", ErrorKind::UnknownArgument),
+        ("--o page f", ErrorKind::UnknownArgument),
+        ("-h", ErrorKind::DisplayHelp),
+    ] {
+        assert_eq!(kind_of(&command, given), kind, "{given}");
+    }
+    assert!(text_of(&command, "--help").contains("  -o, --output <PAGE> "));
+}
+
+#[test]
 fn refused_options() {
     for (given, kind) in [
         ("", ErrorKind::MissingRequiredArgument),

@@ -8,6 +8,7 @@ use rattle_std::string::String;
 use rattle_std::sync::Arc;
 use rattle_std::vec::{SliceWith, Vec};
 use rattle_std::{format_in, vec_in};
+use std::cmp::Reverse;
 use std::io::Write;
 use std::rc::Rc;
 
@@ -127,6 +128,9 @@ fn sorting_keeps_the_order_of_equal_keys() {
         expected.sort();
         assert_eq!(items.sort_by_key_with(Global, |item| item.0), Ok(()));
         assert_eq!(items.as_slice(), expected);
+        expected.sort_by_key(|item| (Reverse(item.0), item.1));
+        assert_eq!(items.sort_by(|left, right| right.0.cmp(&left.0)), Ok(()));
+        assert_eq!(items.as_slice(), expected);
     }
 }
 
@@ -218,11 +222,24 @@ fn map_is_rusts_own() {
                 assert_eq!(ours.insert(key, value), Ok(theirs.insert(key, value)));
             }
             assert_eq!(ours.get(&key), theirs.get(&key));
+            assert_eq!(ours.contains_key(&key), theirs.contains_key(&key));
             let keys = key..=(key.0 + 1, random.below(versions));
             assert!(ours.range(keys.clone()).take(400).eq(theirs.range(keys).take(400)));
         }
         assert!(ours.range((0, 0)..=(proxies, 0)).eq(&theirs));
+        assert!(ours.iter().eq(&theirs));
     }
+}
+
+#[test]
+fn map_by_text() {
+    let mut counts = BTreeMap::new(Global);
+    for text in ["b", "a", "c"] {
+        assert_eq!(counts.insert(String::from_str(Global, text).unwrap(), text.len()), Ok(None));
+    }
+    assert_eq!((counts.get("b"), counts.get("d")), (Some(&1), None));
+    assert!(counts.iter().map(|(text, _)| text.as_str()).eq(["a", "b", "c"]));
+    assert!(String::from_utf8(vec_in!(in Global; 255; 2).unwrap()).is_err());
 }
 
 #[test]

@@ -37,6 +37,8 @@ frame_fails kind number left now frame failure.TooManyPoints taken some end fail
 frame_fails kind number left now frame (failure.NoShard n) taken some end fails = absurd fails
 frame_fails kind number left now frame failure.Resolvers taken some end fails = absurd fails
 frame_fails kind number left now frame failure.Open taken some end fails = absurd fails
+frame_fails kind number left now frame failure.Create taken some end fails = absurd fails
+frame_fails kind number left now frame (failure.Report e) taken some end fails = absurd fails
 frame_fails kind number left now frame failure.NotText taken some end fails = absurd fails
 frame_fails kind number left now frame failure.Memory taken some end fails = tt
 frame_fails kind number left now frame failure.Read taken some end fails = absurd fails
@@ -79,6 +81,10 @@ clip_fails points shard number left now frame failure.Resolvers taken some end f
     frame_fails Batches number left now frame failure.Resolvers taken some end fails
 clip_fails points shard number left now frame failure.Open taken some end fails =
     frame_fails Batches number left now frame failure.Open taken some end fails
+clip_fails points shard number left now frame failure.Create taken some end fails =
+    frame_fails Batches number left now frame failure.Create taken some end fails
+clip_fails points shard number left now frame (failure.Report e) taken some end fails =
+    frame_fails Batches number left now frame (failure.Report e) taken some end fails
 clip_fails points shard number left now frame failure.NotText taken some end fails =
     frame_fails Batches number left now frame failure.NotText taken some end fails
 clip_fails points shard number left now frame failure.Memory taken some end fails =
@@ -108,6 +114,8 @@ line_fails kind number left line failure.TooManyPoints read some fails = absurd 
 line_fails kind number left line (failure.NoShard n) read some fails = absurd fails
 line_fails kind number left line failure.Resolvers read some fails = absurd fails
 line_fails kind number left line failure.Open read some fails = absurd fails
+line_fails kind number left line failure.Create read some fails = absurd fails
+line_fails kind number left line (failure.Report e) read some fails = absurd fails
 line_fails kind number left line failure.NotText read some fails = absurd fails
 line_fails kind number left line failure.Memory read some fails = tt
 line_fails kind number left line failure.Read read some fails = absurd fails

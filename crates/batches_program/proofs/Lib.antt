@@ -5,4 +5,5 @@ mod FramesRead
 mod Adding
 mod EveryKey
 mod CountedSoFar
+mod TalliedSoFar
 mod PointLines

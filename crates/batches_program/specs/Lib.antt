@@ -10,3 +10,4 @@ pub mod Stats
 pub mod Counting
 pub mod StatsText
 pub mod StatsJson
+pub mod Tallying

@@ -25,7 +25,8 @@ pub fn command<'a>(alloc: Global) -> Result<Command<'a>, AllocError> {
         .subcommand(opening(alloc)?)?
         .subcommand(stats(alloc)?)?
         .subcommand(split_points(alloc)?)?
-        .subcommand(clip(alloc)?)
+        .subcommand(clip(alloc)?)?
+        .subcommand(report(alloc)?)
 }
 
 fn encode<'a>(alloc: Global) -> Result<Command<'a>, AllocError> {
@@ -94,6 +95,25 @@ fn clip<'a>(alloc: Global) -> Result<Command<'a>, AllocError> {
         .arg(points)?
         .arg(shard)?
         .arg(file(alloc))
+}
+
+fn report<'a>(alloc: Global) -> Result<Command<'a>, AllocError> {
+    let replies = Arg::new(alloc, "replies")
+        .long("replies")
+        .value_name("REPLIES")
+        .action(ArgAction::Append)
+        .required(true)
+        .help("A file of the frames of replies; once for each");
+    let output = Arg::new(alloc, "output")
+        .short('o')
+        .long("output")
+        .value_name("PAGE")
+        .help("The file to write; standard output where none is given");
+    Command::new(alloc, "report")
+        .about("Reads frames of batches and of their replies and writes a page of HTML")
+        .arg(replies)?
+        .arg(output)?
+        .arg(files(alloc))
 }
 
 // A required option that is a number.

@@ -2,9 +2,11 @@
 
 ghost use Rattle.std.specs.Prelude.{◌≡◌, ◌≢◌, ◌⊎◌, IfOk, string_bytes};
 ghost use Rattle.batches_program.specs.Told.{IsLine, TellsLine};
-ghost use Rattle.batches_program.specs.declared.failure.Failure.TheVariants.{Memory, Read, Write};
+ghost use Rattle.batches_program.specs.declared.failure.Failure.TheVariants.{Memory, Read, Report};
+ghost use Rattle.batches_program.specs.declared.failure.Failure.TheVariants.{Write};
 
 use crate::status::Status;
+use batches_report::ReportError;
 use json_lines::{Cause, Refusal};
 use std::alloc::{AllocError, AllocFailed, Global};
 use std::io;
@@ -36,9 +38,15 @@ pub enum Failure {
     NoShard(usize),
     #[error("the number of resolvers isn't from 1 to 64")]
     Resolvers,
+    /// The batches and replies make no report.
+    #[error("{0}")]
+    Report(ReportError),
     /// The file can't be opened.
     #[error("the file can't be opened")]
     Open,
+    /// The page can't be written to this file.
+    #[error("the file can't be created")]
+    Create,
     /// A word of the command line isn't text.
     #[error("a word of the command line isn't UTF-8")]
     NotText,
@@ -109,6 +117,17 @@ impl<T: Drop> From<AllocFailed<T>> for Failure {
 
     fn from(_refused: AllocFailed<T>) -> Failure {
         Failure::Memory
+    }
+}
+
+impl From<ReportError> for Failure {
+    ghost from_gives = { λ error failure. (failure ≡ Memory) ⊎ (failure ≡ Report error) };
+
+    fn from(error: ReportError) -> Failure {
+        match error {
+            ReportError::Memory => Failure::Memory,
+            error => Failure::Report(error),
+        }
     }
 }
 

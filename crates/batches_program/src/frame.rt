@@ -57,6 +57,30 @@ pub fn next_batch<R: Source>(
     Ok(Some(batch))
 }
 
+/// Reads the next frame into the buffer and returns its reply, or none at the end of the input. The
+/// frame has this number.
+pub fn next_reply<R: Source>(
+    alloc: Global,
+    number: u64,
+    reader: &mut R,
+    frame: &mut Vec<u8>,
+) -> Result<Option<Reply>, Failure>
+    ensures taken { IfOk result (λ found. IfSome found (λ reply.
+        Consumes (R.remaining reader.old) (R.remaining reader.new) frame.new.items
+        × SpellsReply frame.new.items reply)) }
+    ensures end { IfOk result (λ found. IfNone found (IsAtEnd (R.remaining reader.old))) }
+    ensures fails { IfErr result (FailsFrame Replies number (R.remaining reader.old)) }
+    ensures ok { OnOk result (R.failures reader.new ≡ R.failures reader.old) }
+    ensures read { IfErr result (λ e. e ≡ Read → R.failures reader.old < R.failures reader.new) }
+{
+    next_frame(reader, frame)?;
+    if frame.is_empty() {
+        return Ok(None);
+    }
+    let reply = reply_in(alloc, number, frame)?;
+    Ok(Some(reply))
+}
+
 /// Returns the batch of a frame, which has this number.
 pub fn batch_in(alloc: Global, number: u64, frame: &[u8]) -> Result<Batch, Failure>
     requires settled { length frame.now ≤ frame_length frame.now }

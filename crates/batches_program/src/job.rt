@@ -29,6 +29,13 @@ pub enum Job<'a> {
         shard: usize,
         file: Option<&'a str>,
     },
+    /// A page of what the batches of files and the replies to them add up to. Without a name it is
+    /// written to standard output.
+    Report {
+        files: Vec<&'a str>,
+        replies: Vec<&'a str>,
+        page: Option<&'a str>,
+    },
 }
 
 /// A conversion, and the file that it reads.

@@ -108,8 +108,8 @@ pub fn write_clips<R: Files<File = File> + Input + AllocGlobal, O: Sink, E: Sink
     }
 }
 
-// Prints a text, or tells why there is none.
-fn print<R: AllocGlobal, O: Sink, E: Sink>(
+/// Prints a text, or tells why there is none.
+pub fn print<R: AllocGlobal, O: Sink, E: Sink>(
     rt: &R,
     text: Result<Vec<u8>, Failure>,
     out: &mut O,
@@ -158,7 +158,8 @@ fn collect_files<'a, R: Files<File = File> + Input + AllocGlobal>(
     Ok(())
 }
 
-fn shown(name: &str) -> &str {
+/// Returns what messages call the file of this name.
+pub fn shown(name: &str) -> &str {
     if name == STANDARD_INPUT { INPUT } else { name }
 }
 
@@ -229,8 +230,8 @@ fn clip_input<R: Files<File = File> + Input + AllocGlobal, O: Sink>(
     clip_frames(alloc, points, shard, &mut source, out)
 }
 
-// Opens a file, to be read from its beginning.
-fn open<R: Files<File = File> + AllocGlobal>(
+/// Opens a file, to be read from its beginning.
+pub fn open<R: Files<File = File> + AllocGlobal>(
     rt: &R,
     name: &str,
 ) -> Result<BufReader<File>, Failure> {

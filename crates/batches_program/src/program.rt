@@ -9,6 +9,7 @@ use crate::job::{CommandLine, Job};
 use crate::jobs::{print_points, print_stats, write_clips};
 use crate::opening::write_opening;
 use crate::progress::{LONG_FILE, Progress};
+use crate::reporting::write_report;
 use crate::status::Status;
 use crate::words::{Stop, read_words};
 use std::alloc::Global;
@@ -67,6 +68,11 @@ fn do_job<R: Files<File = File> + Input + AllocGlobal, O: Sink, E: Sink>(
             shard,
             file,
         } => write_clips(rt, points, *shard, *file, out, error),
+        Job::Report {
+            files,
+            replies,
+            page,
+        } => write_report(rt, files, replies, *page, out, error),
     }
 }
 

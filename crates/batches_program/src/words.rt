@@ -59,6 +59,8 @@ fn job_of<'a>(alloc: Global, matches: &ArgMatches<'a>) -> Result<Job<'a>, Stop> 
         split_points_of(alloc, matches)
     } else if name == "clip" {
         clip_of(matches).ok_or(Stop::Memory)
+    } else if name == "report" {
+        report_of(alloc, matches)
     } else {
         Ok(Job::Convert(line_of(name, matches)))
     }
@@ -112,6 +114,17 @@ fn clip_of<'a>(matches: &ArgMatches<'a>) -> Option<Job<'a>> {
         points: matches.get_str("split-points")?,
         shard: matches.get_one("shard")?,
         file: file_of(matches),
+    })
+}
+
+fn report_of<'a>(alloc: Global, matches: &ArgMatches<'a>) -> Result<Job<'a>, Stop> {
+    let Some(replies) = matches.get_strs("replies") else {
+        return Err(Stop::Memory);
+    };
+    Ok(Job::Report {
+        files: files_of(alloc, matches)?,
+        replies: Vec::from_slice(alloc, replies)?,
+        page: matches.get_str("output"),
     })
 }
 

@@ -1,6 +1,6 @@
 //! What the program is run on: files in memory, by their names, and the words of an environment.
 
-ghost use Rattle.std.specs.Prelude.{None, ⊤};
+ghost use Rattle.std.specs.Prelude.{None, Some, [], ⊤};
 
 use crate::answers::replies_of;
 use crate::files::first_run;
@@ -114,7 +114,7 @@ impl Files for Shelf {
 
     ghost lacks_memory = { λ _ _. ⊤ };
 
-    ghost begun = { λ _ _. None };
+    ghost begun = { λ _ _. Some [] };
 
     ghost has_created = { λ _ _. ⊤ };
 
@@ -192,9 +192,15 @@ pub fn records<R: Threads + Wait + Copy + Send + 'static, W: AsBytes>(
     let report = run_in(rt, alloc, &Words(words), &files, &mut out, &mut error);
     let mut given = Vec::new(alloc);
     for recorder in report.recorders {
-        if let Some(Recorder { out, .. }) = recorder {
-            given.push(out.into_inner()).map_err(AllocError::from)?;
+        if let Some(bytes) = bytes_given(recorder) {
+            given.push(bytes).map_err(AllocError::from)?;
         }
     }
     Ok(given)
+}
+
+// Returns what the writer of a recorder was given, if there is a recorder.
+fn bytes_given(recorder: Option<Recorder<StdSink<Vec<u8>>>>) -> Option<Vec<u8>> {
+    let Recorder { out, .. } = recorder?;
+    Some(out.into_inner())
 }

@@ -49,10 +49,7 @@ impl<'a> Command<'a> {
         rest: &mut slice::Iter<'a, String>,
         found: &mut ArgMatches<'a>,
     ) -> Result<(), Error> {
-        let (name, given) = match word.split_once('=') {
-            Some((name, value)) => (name, Some(value)),
-            None => (word, None),
-        };
+        let (name, given) = self.split(word);
         let Some(arg) = self.arguments.iter().find(|arg| arg.is_named(name)) else {
             return Err(self.asked(name, given));
         };
@@ -68,6 +65,20 @@ impl<'a> Command<'a> {
                 Some(value) => self.keep(arg, value, found),
                 None => refuse!(self, WrongNumberOfValues, "a value is required for '{shown}'"),
             },
+        }
+    }
+
+    // Divides a word into the name of an option and the value that is written with it, if any. An
+    // option of one letter needs no equals sign.
+    fn split(&self, word: &'a str) -> (&'a str, Option<&'a str>) {
+        if let Some((name, value)) = word.split_at_checked(2) {
+            if !value.is_empty() && self.arguments.iter().any(|arg| arg.is_short(name)) {
+                return (name, Some(value.strip_prefix('=').unwrap_or(value)));
+            }
+        }
+        match word.split_once('=') {
+            Some((name, value)) => (name, Some(value)),
+            None => (word, None),
         }
     }
 
@@ -176,7 +187,9 @@ impl<'a> Command<'a> {
         }
         for arg in &self.arguments {
             let default = arg.default_value.map(|value| format!(" [default: {value}]"));
-            row(&arg.shown(), &format!("{}{}", arg.help, default.unwrap_or_default()));
+            let short = arg.short.map(|letter| format!("-{letter}, "));
+            let shown = short.unwrap_or_default() + &arg.shown();
+            row(&shown, &format!("{}{}", arg.help, default.unwrap_or_default()));
         }
         row("-h, --help", "Print help");
         if !self.version.is_empty() {
@@ -192,7 +205,12 @@ const EDITION: &str =
 
 impl Arg<'_> {
     fn is_named(&self, name: &str) -> bool {
-        self.long.is_some() && self.long == name.strip_prefix("--")
+        self.is_short(name) || self.long.is_some() && self.long == name.strip_prefix("--")
+    }
+
+    fn is_short(&self, name: &str) -> bool {
+        let letter = name.strip_prefix('-').and_then(|letters| letters.parse().ok());
+        letter.is_some() && self.short == letter
     }
 
     fn shown(&self) -> std::string::String {

@@ -62,6 +62,7 @@ impl Arg<'_> {
             .required(self.required)
             .action(action)
             .long(self.long.map(kept))
+            .short(self.short)
             .value_name((!is_switch).then(|| kept(self.value_name)))
             .default_value(self.default_value.map(kept))
             .value_parser(self.value_parser.as_ref().map(ValueParser::real))

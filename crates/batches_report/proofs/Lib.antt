@@ -1,0 +1,9 @@
+mod AnyLast
+mod Pairing
+mod Naming
+mod Counting
+mod Tallying
+mod Falling
+mod Parting
+mod Windows
+mod Adding

@@ -1,0 +1,11 @@
+pub mod Answered
+pub mod JudgedTxns
+pub mod Ages
+pub mod Names
+pub mod Heat
+pub mod Rows
+pub mod Totals
+pub mod Bins
+pub mod Hottest
+pub mod Share
+pub mod Tallied

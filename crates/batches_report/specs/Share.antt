@@ -1,0 +1,7 @@
+-- Shares in tenths of a percent. This project's own.
+use Rattle.std.specs.Prelude.{ℕ, ◌+◌, ◌*◌, ◌<◌, ◌≤◌}
+
+-- The share is within half a tenth of a percent of the part's, and up from the middle.
+abbrev pub IsRoundedShare : ℕ → ℕ → ℕ → Type 0
+IsRoundedShare part whole share =
+    (2 * (whole * share) ≤ 2000 * part + whole) × (2000 * part + whole < 2 * (whole * share) + 2 * whole)

@@ -1,0 +1,16 @@
+//! Shares.
+
+ghost use Rattle.std.specs.Prelude.{◌≡◌, ◌⊎◌, ◌≤◌, ◌+◌, ◌*◌, ◌^◌, IfSome, IfNone};
+ghost use Rattle.batches_report.specs.Share.{IsRoundedShare};
+
+/// Returns the share of a part in tenths of a percent, rounded to the nearest one, and up from the
+/// middle. Returns none if there is nothing to have a share of, or if a thousand times the part is
+/// beyond 64 bits.
+pub fn share_of(part: usize, whole: usize) -> Option<usize>
+    ensures share { IfSome result (IsRoundedShare part whole) }
+    ensures none { IfNone result ((whole ≡ 0) ⊎ (2 ^ 64 ≤ 1000 * part + whole)) }
+{
+    part.checked_mul(1_000)?
+        .checked_add(whole / 2)?
+        .checked_div(whole)
+}
