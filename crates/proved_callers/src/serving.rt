@@ -62,8 +62,8 @@ pub fn transfer_two(
     serve_two(alloc, first, second, turns)
 }
 
-// Serves the two new clients of a resolver: each sends its batch and closes its lane, and then takes
-// an answer after each of n turns, if one has come.
+// Serves the two new clients of a resolver. Each sends its batch and closes its lane. After each of
+// n turns each takes an answer, if one has come.
 fn serve(
     alloc: Global,
     resolver: &mut Resolver,
