@@ -238,6 +238,16 @@ impl<H: Copy, A: Allocator + Copy> Arena<H, A> {
         chunk.is_live(slot.index())
     }
 
+    /// Returns about how many bytes of memory the arena has taken: those of its chunks and of its
+    /// lists of spare slots, by their capacities. What the allocator adds to each isn't counted.
+    pub fn bytes_held(&self) -> usize {
+        let mut bytes = self.spares.bytes_held();
+        for chunk in &self.chunks {
+            bytes = bytes.saturating_add(chunk.bytes_held());
+        }
+        bytes
+    }
+
     // Adds chunks until `wanted` slots of the size are spare.
     fn fill_up(&mut self, size: usize, wanted: usize) -> Result<(), ArenaError>
         requires size { size < SIZES }

@@ -13,6 +13,7 @@ ghost use Rattle.arena.specs.declared.size.TheConstants.{CHUNK_BYTES, SIZES};
 use crate::size::{CHUNK_BYTES, slots_of, width_of};
 use std::alloc::{AllocError, Allocator};
 use std::marker::Model;
+use std::mem::size_of;
 
 // Marks a free slot instead of a length. No key is that long.
 const FREE: u16 = u16::MAX;
@@ -148,6 +149,14 @@ impl<H, A: Allocator> Chunk<H, A> {
     {
         let length = self.lengths[index] as usize;
         part(&self.bytes, index * self.width, length)
+    }
+
+    /// Returns how many bytes it has taken, by the capacities of its lists.
+    pub(crate) fn bytes_held(&self) -> usize {
+        let lengths = self.lengths.capacity().saturating_mul(size_of::<u16>());
+        let headers = self.headers.capacity().saturating_mul(size_of::<H>());
+        let bytes = self.bytes.capacity();
+        lengths.saturating_add(headers).saturating_add(bytes)
     }
 
     /// Reads the memory of a slot that was given before. The number that is returned says nothing.

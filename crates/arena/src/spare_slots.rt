@@ -45,6 +45,11 @@ impl<A: Allocator> SpareSlots<A> {
         self.slots.len()
     }
 
+    /// Returns how many bytes the list has taken, by its capacity.
+    pub(crate) fn bytes_held(&self) -> usize {
+        self.slots.capacity().saturating_mul(size_of::<Slot>())
+    }
+
     /// Adds the slots of the chunk with this number, and makes room for them. The first slot of the
     /// chunk is given first.
     pub(crate) fn add(&mut self, number: usize, count: usize) -> Result<(), AllocError>

@@ -52,6 +52,15 @@ impl<A: Allocator + Copy> Spares<A> {
         }
     }
 
+    /// Returns how many bytes the lists have taken, by their capacities.
+    pub(crate) fn bytes_held(&self) -> usize {
+        let mut bytes: usize = 0;
+        for list in &self.lists {
+            bytes = bytes.saturating_add(list.bytes_held());
+        }
+        bytes
+    }
+
     /// Adds the slots of the chunk with this number, which are of the size, and makes room for
     /// them.
     pub(crate) fn add(
