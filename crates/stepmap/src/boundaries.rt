@@ -97,6 +97,12 @@ impl<const N: usize> Boundaries<N> {
         self.tree.len()
     }
 
+    // Returns how many bytes of memory the boundaries have used so far.
+    pub fn bytes_held(&self) -> usize {
+        let keys = self.keys.bytes_held(0);
+        keys.saturating_add(self.tree.bytes_held())
+    }
+
     // Returns the version at the key.
     pub fn version_at(&self, key: &[u8]) -> i64
         ensures value { result ≡ value_at self.now.boundaries key.now }

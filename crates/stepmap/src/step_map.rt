@@ -152,6 +152,14 @@ impl StepMap {
         Ok(())
     }
 
+    /// Returns about how many bytes of memory the boundaries and the filter have used so far. Memory
+    /// of boundaries that were removed still counts, until [`StepMap::trim`]. What the allocator adds
+    /// doesn't count.
+    pub fn bytes_held(&self) -> usize {
+        let boundaries = self.boundaries.bytes_held();
+        boundaries.saturating_add(self.filter.bytes_held())
+    }
+
     /// Returns the number of boundaries, that at the empty key included.
     pub fn boundaries(&self) -> usize
         ensures count { result ≡ length self.now.boundaries }
