@@ -169,8 +169,8 @@ func (s *Set) BytesHeld() uint64 {
 	return uint64(C.archcaraway_set_bytes_held(&s.handle))
 }
 
-// Trim frees memory that the set doesn't need for its boundaries. After the status 111 an allocation
-// failed. The set is as before in both cases, and one that has stopped stays stopped.
+// Trim frees memory that the set doesn't need for its boundaries. The error 111 is a failed
+// allocation. The set is as before in both cases, and one that has stopped stays stopped.
 func (s *Set) Trim() error {
 	defer lock(&s.mutex)()
 	return check(C.archcaraway_set_trim(&s.handle))

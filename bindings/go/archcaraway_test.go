@@ -311,7 +311,8 @@ func TestTrim(t *testing.T) {
 		t.Error(after, before)
 	}
 	key := []Range{Key([]byte("k"))}
-	reply := resolved(t, set, version, Transaction{version - 1, key, nil, false}, Transaction{version - 2, key, nil, false})
+	reply := resolved(t, set, version, Transaction{Snapshot: version - 1, Reads: key},
+		Transaction{Snapshot: version - 2, Reads: key})
 	if reply.Entries[0].Verdict != Committed || reply.Entries[1].Verdict != Conflict {
 		t.Error(reply)
 	}

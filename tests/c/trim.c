@@ -1,5 +1,5 @@
-// Trims sets: how many bytes that frees, what each refused allocation does, and that no reply changes. The bytes that a set reports are
-// never more than malloc gave for it.
+// Trims sets: how many bytes that frees, what each refused allocation does, and that no reply changes.
+// The bytes that a set reports are never more than malloc gave for it.
 //
 //     trim CHAINS SEED
 //
@@ -79,33 +79,40 @@ static void count_bytes(void) {
     DEMAND(memcmp(one, two, 8) == 0 && one[0] == ARCHCARAWAY_COMMITTED);
     (void)LIBRARY((archcaraway_set_free(&set), archcaraway_set_free(&other), 0));
     DEMAND(held == 0 && bytes_held == 0);
-    printf("%ld bytes of a set before, of which it reports %" PRIu64 "; %ld after, of which it reports %" PRIu64
-           "; %zu allocations refused\n", many, most, few, fewest, refused - 1);
+    printf("%ld bytes of a set before, of which it reports %" PRIu64 "; %ld after, of which it "
+           "reports %" PRIu64 "; %zu allocations refused\n",
+           many, most, few, fewest, refused - 1);
 }
 
 // A set that has met its limit can be trimmed, and stays stopped.
 static void keep_stop(void) {
-    static const archcaraway_range ranges[] = {{{(const uint8_t *)"a", 1}, {NULL, 0}, true}, {{(const uint8_t *)"c", 1}, {NULL, 0}, true}};
-    const archcaraway_txn txns[] = {{0, NULL, 0, ranges, 1, false}, {0, NULL, 0, ranges + 1, 1, false}};
-    archcaraway_set set = ARCHCARAWAY_NONE;
-    archcaraway_stats before, after;
+    static const archcaraway_range a = {{(const uint8_t *)"a", 1}, {NULL, 0}, true};
+    static const archcaraway_range c = {{(const uint8_t *)"c", 1}, {NULL, 0}, true};
+    const archcaraway_txn first = {0, NULL, 0, &a, 1, false}, second = {0, NULL, 0, &c, 1, false};
+    archcaraway_set set = ARCHCARAWAY_NONE, other = ARCHCARAWAY_NONE;
     uint8_t verdict;
-    DEMAND(LIBRARY(archcaraway_set_new(WINDOW, 3, &set)) == ARCHCARAWAY_OK);
-    DEMAND(LIBRARY(archcaraway_set_judge(&set, 1, txns, 1, &verdict, NULL)) == ARCHCARAWAY_OK);
-    DEMAND(LIBRARY(archcaraway_set_judge(&set, 2, txns + 1, 1, &verdict, NULL)) == ARCHCARAWAY_ARENA_FULL);
-    DEMAND(archcaraway_set_stats(&set, &before) == ARCHCARAWAY_OK);
-    for (refuse_at = 1; refuse_at < 1000; refuse_at++) {
-        calls = 0;
-        const int trimmed = LIBRARY(archcaraway_set_trim(&set));
-        calls = refuse_at;
-        DEMAND(archcaraway_set_stats(&set, &after) == ARCHCARAWAY_OK && memcmp(&before, &after, sizeof before) == 0);
-        DEMAND(LIBRARY(archcaraway_set_judge(&set, 300, txns, 1, &verdict, NULL)) == ARCHCARAWAY_ARENA_FULL);
-        if (trimmed == ARCHCARAWAY_OK) break;
-        DEMAND(trimmed == ARCHCARAWAY_FRAME_MEMORY);
+    for (int i = 0; i < 2; i++) {
+        archcaraway_set *made = i == 0 ? &set : &other;
+        DEMAND(LIBRARY(archcaraway_set_new(WINDOW, 3, made)) == ARCHCARAWAY_OK);
+        int status = LIBRARY(archcaraway_set_judge(made, 1, &first, 1, &verdict, NULL));
+        DEMAND(status == ARCHCARAWAY_OK);
+        status = LIBRARY(archcaraway_set_judge(made, 2, &second, 1, &verdict, NULL));
+        DEMAND(status == ARCHCARAWAY_ARENA_FULL);
     }
-    DEMAND(refuse_at > 1 && refuse_at < 1000);
-    refuse_at = 0;
-    (void)LIBRARY((archcaraway_set_free(&set), 0));
+    int trimmed = ARCHCARAWAY_FRAME_MEMORY;
+    size_t refused = 0;
+    for (; trimmed != ARCHCARAWAY_OK; refused++) {
+        calls = 0;
+        refuse_at = refused + 1;
+        trimmed = LIBRARY(archcaraway_set_trim(&set));
+        refuse_at = 0;
+        DEMAND(trimmed == ARCHCARAWAY_OK || trimmed == ARCHCARAWAY_FRAME_MEMORY);
+        DEMAND(are_same(&set, &other));
+        const int status = LIBRARY(archcaraway_set_judge(&set, 300, &first, 1, &verdict, NULL));
+        DEMAND(status == ARCHCARAWAY_ARENA_FULL);
+    }
+    DEMAND(refused > 1);
+    (void)LIBRARY((archcaraway_set_free(&set), archcaraway_set_free(&other), 0));
     DEMAND(held == 0);
 }
 

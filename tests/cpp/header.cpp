@@ -192,11 +192,13 @@ static void trims() {
     for (; set.boundaries() > 3; version++) batch.judge(set, version);
     const std::uint64_t bytes = set.bytesHeld();
     set.trim();
-    DEMAND(set.boundaries() == 3 && set.stats().version == version - 1 && set.bytesHeld() < bytes / 2);
+    DEMAND(set.boundaries() == 3 && set.stats().version == version - 1);
+    DEMAND(set.bytesHeld() > 0 && set.bytesHeld() < bytes / 2);
     batch.clear();
     batch.add(transaction(version - 1, {KeyRangeRef::single("k")}, {}));
     batch.add(transaction(version - 2, {KeyRangeRef::single("k")}, {}));
-    DEMAND(batch.judge(set, version) == (std::vector<Verdict>{Verdict::committed, Verdict::conflict}));
+    const std::vector<Verdict> wanted{Verdict::committed, Verdict::conflict};
+    DEMAND(batch.judge(set, version) == wanted);
 }
 
 // What doesn't fit the limit is refused, and the set continues.

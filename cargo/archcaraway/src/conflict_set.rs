@@ -163,7 +163,8 @@ impl ConflictSet {
         self.set.boundaries()
     }
 
-    /// Returns about how many bytes of memory the boundaries and the filter of single keys have used.
+    /// Returns about how many bytes of memory the boundaries and the filter of single keys have
+    /// used.
     ///
     /// Memory of removed boundaries counts until [`trim`](ConflictSet::trim). Vectors that are kept
     /// from batch to batch, and what the allocator adds, do not count.
