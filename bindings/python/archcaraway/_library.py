@@ -1,4 +1,4 @@
-"""The functions of archcaraway.h, archcaraway_frames.h and archcaraway_shards.h, by ctypes."""
+"""The functions of the C headers, by ctypes."""
 
 from __future__ import annotations
 
