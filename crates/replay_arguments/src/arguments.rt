@@ -11,14 +11,16 @@ ghost use Rattle.replay_arguments.specs.Words.{HasRecords, HasStream, HoldsStrea
 ghost use Rattle.clap.specs.declared.error.kind.ErrorKind.{ErrorKind};
 ghost use Rattle.replay_output.specs.declared.options.form.Form.{Form as FormValue};
 
+use crate::arguments::filter::filter_of;
 use crate::arguments::input::has_input_once;
 use clap::ArgMatches;
 use clap::error::ErrorKind;
-use replay_output::{Form, Options};
+use replay_output::{Form, Options, Style};
 use resolver::MAX_PROXIES;
 use std::alloc::{AllocError, Global};
 
 mod command;
+mod filter;
 mod input;
 mod refusal;
 
@@ -51,15 +53,15 @@ pub fn read_words<'a>(alloc: Global, words: &'a [String]) -> Result<CommandLine<
         ≡ Some (map (λ name. name.now) line.files.items)) }
     ensures least { IfOk result (λ line. 1 ≤ vec_len line.files) }
     ensures most { IfOk result (λ line. vec_len line.files ≤ MAX_PROXIES) }
-    ensures replies { IfOk result (λ line. line.options.form ≡ Form.Kept
+    ensures replies { IfOk result (λ line. line.options.style.form ≡ Form.Kept
         → all_of (codes "check") (rows_of_words (map string_bytes words.entry.now))
         ≡ Some (map (λ name. name.now) line.replies.items)) }
-    ensures as_many { IfOk result (λ line. line.options.form ≡ Form.Kept
+    ensures as_many { IfOk result (λ line. line.options.style.form ≡ Form.Kept
         → vec_len line.replies ≡ vec_len line.files) }
     ensures input { OnOk result (HasInputOnce (rows_of_words (map string_bytes words.entry.now))) }
     ensures streamed { IfOk result (λ line.
         HoldsStream (rows_of_words (map string_bytes words.entry.now)) line.is_streamed) }
-    ensures plain { IfOk result (λ line. line.is_streamed ≡ true → line.options.form ≢ Form.Kept) }
+    ensures plain { IfOk result (λ line. line.is_streamed ≡ true → line.options.style.form ≢ Form.Kept) }
     ensures records { IfOk result (λ line. map (λ name. name.now) line.records.items
         ≡ named (all_of (codes "replies") (rows_of_words (map string_bytes words.entry.now)))) }
     ensures records_each { IfOk result (λ line. (vec_len line.records ≡ 0)
@@ -75,7 +77,11 @@ pub fn read_words<'a>(alloc: Global, words: &'a [String]) -> Result<CommandLine<
         let message = "at most one of --frames, --json and --check is wanted";
         return Err(refuse(alloc, ErrorKind::ArgumentConflict, message)?);
     };
-    let Some(options) = options_of(&matches, form) else {
+    let filter = match filter_of(&matches, form) {
+        Ok(filter) => filter,
+        Err(message) => return Err(refuse(alloc, ErrorKind::ValueValidation, message)?),
+    };
+    let Some(options) = options_of(&matches, Style { form, filter }) else {
         let message = "a number is out of its range";
         return Err(refuse(alloc, ErrorKind::ValueValidation, message)?);
     };
@@ -250,17 +256,17 @@ fn one_form(frames: bool, json: bool, check: bool) -> Option<Form>
     }
 }
 
-// Returns the options with this form, unless a number is out of its range. `clap` refuses such
+// Returns the options with this style, unless a number is out of its range. `clap` refuses such
 // numbers itself.
-fn options_of(matches: &ArgMatches, form: Form) -> Option<Options>
+fn options_of(matches: &ArgMatches, style: Style) -> Option<Options>
     ensures numbers { IfSome result (HoldsNumbers (rows_of (found_of matches.now))) }
-    ensures form { IfSome result (λ options. options.form ≡ form) }
+    ensures style { IfSome result (λ options. options.style ≡ style) }
     ensures none { result ≡ None → ¬ HasNumbers (rows_of (found_of matches.now)) }
 {
     Options::new(
         matches.get_one("capacity")?,
         matches.get_one("window")?,
         matches.get_one("limit")?,
-        form,
+        style,
     )
 }
