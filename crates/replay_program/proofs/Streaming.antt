@@ -23,11 +23,11 @@ use Rattle.replay_output.specs.Record.{answer_records}
 use Rattle.replay_output.specs.Streamed.{printed_for, stream_text}
 use Rattle.replay_output.specs.Unwritten.{unwritten_lines}
 use Rattle.replay_output.proofs.callers.Quiet.{no_lines, no_unwritten_lines}
-use Rattle.replay_workers.specs.declared.stream.recorder.Recorder.{Recorder}
-use Rattle.replay_workers.specs.Outlet.{TookText}
-use Rattle.replay_workers.specs.Recorder.{TookRecords, is_unwritten, unwritten_cause}
-use Rattle.replay_workers.specs.Sinks.{SinkState, Takes}
-use Rattle.replay_workers.specs.Streaming.{HasRecords, HaveRecords, IsStreamed, IsStreamedFor, Recorded, recorded_each}
+use Rattle.replay_stream.specs.declared.recorder.Recorder.{Recorder}
+use Rattle.replay_stream.specs.Outlet.{TookText}
+use Rattle.replay_stream.specs.Recorder.{TookRecords, is_unwritten, unwritten_cause}
+use Rattle.replay_stream.specs.Sinks.{SinkState, Takes}
+use Rattle.replay_stream.specs.Streaming.{HasRecords, HaveRecords, IsStreamed, IsStreamedFor, Recorded, recorded_each}
 use Rattle.replay_workers.specs.Worker.{TakesFrames}
 use Rattle.replay_workers.proofs.callers.Lists.{all_at, found}
 use Rattle.replay_program.specs.Replayed.{HasFailed, Took, Written, answers_each, ending_of}

@@ -15,8 +15,8 @@ use Rattle.replay_program.specs.Replayed.{DidNotStart, FailsToPrint, FailsToRepl
 use Rattle.replay_program.specs.Replies.{IsCauseOf, IsReplyFile, replies_line}
 use Rattle.replay_output.specs.Start.{start_line}
 use Rattle.replay_arguments.specs.Words.{AsksForText, HasInputOnce, HoldsOptions, HoldsStream, IsTaken, is_kept, named, rows_of_words}
-use Rattle.replay_workers.specs.declared.stream.recorder.Recorder.{Recorder}
-use Rattle.replay_workers.specs.Sinks.{SinkState}
+use Rattle.replay_stream.specs.declared.recorder.Recorder.{Recorder}
+use Rattle.replay_stream.specs.Sinks.{SinkState}
 use Rattle.replay_program.specs.Streamed.{IsStreamDone, StreamedAndFailed}
 
 -- the line was printed, or standard error failed

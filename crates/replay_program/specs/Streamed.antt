@@ -11,10 +11,10 @@ use Rattle.replay_output.specs.Failures.{failure_lines, NothingFailed}
 use Rattle.replay_output.specs.Record.{answer_records}
 use Rattle.replay_output.specs.Streamed.{Printed, printed_for, stream_text}
 use Rattle.replay_output.specs.Unwritten.{unwritten_lines}
-use Rattle.replay_workers.specs.declared.stream.recorder.Recorder.{Recorder}
-use Rattle.replay_workers.specs.Recorder.{is_unwritten, unwritten_cause}
-use Rattle.replay_workers.specs.Sinks.{SinkState, Takes}
-use Rattle.replay_workers.specs.Streaming.{HaveRecords, IsStreamed, Recorded, recorded_each}
+use Rattle.replay_stream.specs.declared.recorder.Recorder.{Recorder}
+use Rattle.replay_stream.specs.Recorder.{is_unwritten, unwritten_cause}
+use Rattle.replay_stream.specs.Sinks.{SinkState, Takes}
+use Rattle.replay_stream.specs.Streaming.{HaveRecords, IsStreamed, Recorded, recorded_each}
 use Rattle.replay_program.specs.Replayed.{DidNotStart, HasFailed, IsReplayedBy, Took, Written, ending_of}
 
 -- The text is the lines of these answers, each if it is shown: those of each proxy are all of its answers, in order. The lines of

@@ -14,7 +14,7 @@ use Rattle.replay_output.specs.declared.line.Line.{Line}
 use Rattle.replay_output.specs.Line.{answer_of, answers_of, IsLineOf}
 use Rattle.replay_workers.specs.Ends.{EndsGoOn}
 use Rattle.replay_workers.specs.Inbox.{KeepsLines, InboxGoesOn}
-use Rattle.replay_workers.proofs.SameLanes.{ends_go_on}
+use Rattle.replay_workers.proofs.callers.SameLanes.{ends_go_on}
 
 -- the answer's line was kept, behind the others
 abbrev pub IsKept : Style → ℕ → List Line → List Line → Answer → Type 0

@@ -20,13 +20,9 @@ use Rattle.replay_workers.specs.Worker.{HasWorked}
 use Rattle.replay_workers.specs.Threads.{given_each, HasWorkedOn, IsOutcomeOf, failure_of}
 use Rattle.replay_workers.specs.Run.{IsServed, LeavesBatch, IsRun, is_complete}
 use Rattle.replay_workers.specs.Stops.{IsStopOf}
-use Rattle.replay_workers.proofs.callers.Lists.{all_at, found}
-use Rattle.replay_workers.proofs.Serving.{both, served, left_over}
+use Rattle.replay_workers.proofs.callers.Lists.{all_at, found, both, mapped_at}
+use Rattle.replay_workers.proofs.Serving.{served, left_over}
 use Rattle.replay_workers.proofs.Working.{finished_count, worked_at}
-
-pub mapped_at : {X Y : Type 0} (f : X → Y) (xs : List X) (place : ℕ) (x : X) → slice_get xs place ≡ Some x
-    → slice_get (map f xs) place ≡ Some (f x)
-mapped_at f xs place x at = slice_get-map f xs place ∙ ap (option_map f) at
 
 module _ {S : Type 0} (remaining : S → Option (List ℕ)) (options : Options) (share : ℕ) (readers : List S) (clients : List Client)
     (finished : List Finished) (outcome : Outcome) (log : List Step) (lanes : List Lanes) (account : Account)

@@ -20,10 +20,7 @@ use Rattle.replay_output.specs.Line.{answers_of}
 use Rattle.replay_workers.specs.Worker.{HasWorked, LeavesLane, TakesFrames}
 use Rattle.replay_workers.specs.Threads.{failure_of}
 use Rattle.replay_workers.specs.Run.{IsServed}
-
-pub both : (a b : Bool) → (a && b) ≡ true → (a ≡ true) × (b ≡ true)
-both true b is = (refl, is)
-both false b is = absurd (false≢true is)
+use Rattle.replay_workers.proofs.callers.Ending.{none_left}
 
 -- a worker that leaves a batch and a closed lane, which was open, has sent as many batches as a lane takes
 worn_lane : (requests : PortView Batch) (batch : Batch) → LeavesLane false requests (Some batch) → requests.closed ≡ true
@@ -31,18 +28,10 @@ worn_lane : (requests : PortView Batch) (batch : Batch) → LeavesLane false req
 worn_lane requests batch (inl left) closed = absurd (false≢true (sym left ∙ closed))
 worn_lane requests batch (inr worn) closed = worn.1
 
--- fewer were sent, so none is left
 none_worn : (requests : PortView Batch) (unsent : Option Batch) → LeavesLane false requests unsent → requests.closed ≡ true
     → length requests.sent < MAX_SENT → unsent ≡ None
 none_worn requests None leaves closed few = refl
 none_worn requests (Some batch) leaves closed few = absurd (omega (arith, few, worn_lane requests batch leaves closed))
-
--- if these are the first batches that were sent, with the one left over they aren't the same
-pub none_left : (batches held rest : List Batch) (unsent : Option Batch) → batches ≡ held ++ rest
-    → batches ++ option_to_list unsent ≡ held → unsent ≡ None
-none_left batches held rest None is same = refl
-none_left batches held rest (Some batch) is same =
-    absurd (omega (arith, ap length is, ap length same, length-append held rest, length-append batches (batch ∷ [])))
 
 -- the worker was given a client that had sent and taken nothing
 pub served : (window : ℤ) (style : Style) (log : List Step) (ended all_sent : Bool) (answers_sent : List Answer) (account : Account)

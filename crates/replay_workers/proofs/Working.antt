@@ -17,16 +17,7 @@ use Rattle.replay_workers.specs.declared.worker.Finished.{Finished}
 use Rattle.replay_workers.specs.Worker.{HasWorked, ClientGoesOn}
 use Rattle.replay_workers.specs.Threads.{Given, given_each, given_to, HasWorkedOn, HandsBack, IsOutcomeOf, failure_of}
 use Rattle.replay_workers.specs.Run.{HasCapacity}
-
-pub at_also : {X : Type 0} (xs : List X) (place : ℕ) (x y : X) → slice_get xs place ≡ Some x
-    → slice_get (xs ++ y ∷ []) place ≡ Some x
-at_also [] place x y at = absurd (none-some x at)
-at_also (first ∷ xs) zero x y at = at
-at_also (first ∷ xs) (suc place) x y at = at_also xs place x y at
-
-pub at_last : {X : Type 0} (xs : List X) (y : X) → slice_get (xs ++ y ∷ []) (length xs) ≡ Some y
-at_last [] y = refl
-at_last (x ∷ xs) y = at_last xs y
+use Rattle.replay_workers.proofs.callers.Lists.{at_also, at_last}
 
 -- whether a batch was handed back by now
 hands_back_also : (finished : List Finished) (f : Finished) (was now : Bool) (unsent : Option Batch) → f.unsent ≡ unsent

@@ -98,7 +98,7 @@ fn turn_to_end<G: ShareKeeper, R: Wait>(
 /// Lets the batch of the proxy through that is next, after a turn that took nothing. What all
 /// proxies have told twice, with such a turn between, is so at once: none of them has gone on
 /// meanwhile, and all that they have sent was taken.
-pub(crate) fn let_through<G: ShareKeeper>(resolver: &Resolver, gatekeeper: &G, watch: &mut Watch)
+pub fn let_through<G: ShareKeeper>(resolver: &Resolver, gatekeeper: &G, watch: &mut Watch)
     ensures proxies { length watch.new.told ≡ length watch.old.told }
 {
     if resolver.owed() > 0 {

@@ -16,7 +16,7 @@ ghost use Rattle.replay_workers.specs.Worker.{is_cut_short, unsent_of};
 use crate::ends::MostUnanswered;
 use crate::gatekeeper::{Gatekeeper, ShareKeeper};
 use crate::inbox::Inbox;
-use crate::pause::pause;
+use crate::rest::pause;
 use keyspace::Batch;
 use lane::Refused;
 use replay_output::{Line, Style};
@@ -56,7 +56,7 @@ pub struct Finished {
 
 /// How the reading of a file ended.
 #[derive(Drop)]
-pub(crate) enum FileEnd {
+pub enum FileEnd {
     /// All of it was read and sent.
     Reached,
     /// The file has this fault.
@@ -67,7 +67,7 @@ pub(crate) enum FileEnd {
 
 /// The batch that was read last and can't be sent.
 #[derive(Drop)]
-pub(crate) enum Leftover {
+pub enum Leftover {
     /// The answers ended first.
     CutShort(Batch),
     /// The lane takes no more.

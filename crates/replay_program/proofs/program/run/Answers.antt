@@ -5,7 +5,7 @@ use Rattle.std.proofs.lemmas.List.{length-map}
 use Rattle.replay_arguments.specs.Words.{HoldsStream, rows_of_words}
 use Rattle.replay_program.specs.Replayed.{written}
 use Rattle.replay_output.specs.declared.status.Status.{Status}
-use Rattle.replay_workers.specs.Sinks.{state_by}
+use Rattle.replay_stream.specs.Sinks.{state_by}
 use Rattle.replay_program.proofs.Programs.{Ends, ends_by, ends_checked, ends_replayed, ends_streamed, not_kept, not_streamed}
 use Rattle.replay_program.proofs.program.run.Goals as goal
 

@@ -14,8 +14,8 @@ use Rattle.replay_workers.specs.declared.outcome.Outcome.{Outcome}
 use Rattle.replay_workers.specs.Threads.{given_each, HasWorkedOn, IsOutcomeOf}
 use Rattle.replay_workers.specs.Run.{HasCapacity}
 use Rattle.replay_workers.specs.Stops.{IsStopOf}
-use Rattle.replay_workers.proofs.SameLanes.{clients_go_on}
-use Rattle.replay_workers.proofs.Stopping.{accounted_new}
+use Rattle.replay_workers.proofs.callers.SameLanes.{clients_go_on}
+use Rattle.replay_workers.proofs.callers.Stopping.{accounted_new}
 use Rattle.replay_workers.proofs.Working.{capacities, capacities_stay, clients_back, clients_ended, started_count}
 use Rattle.replay_workers.proofs.Runs.{is_run}
 use Rattle.replay_workers.proofs.running.run.Goals as goal

@@ -6,7 +6,7 @@ use Rattle.lane.specs.Lane.{PortView, IntakeView, PortGoesOn, IntakeGoesOn, HasE
 use Rattle.replay_output.specs.declared.line.Line.{Line}
 use Rattle.wire.specs.Frames.{frames_reader}
 use Rattle.replay_workers.specs.Worker.{LeavesLane, fault_of, unsent_of}
-use Rattle.replay_workers.proofs.Ending.{keeps_moved, sends_moved}
+use Rattle.replay_workers.proofs.callers.Ending.{keeps_moved, sends_moved}
 use Rattle.replay_workers.proofs.Keeping.{inbox_goes_on}
 use Rattle.replay_workers.proofs.worker.work.Goals as goal
 

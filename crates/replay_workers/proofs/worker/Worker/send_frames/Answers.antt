@@ -2,7 +2,7 @@ use Rattle.std.proofs.Common.{◌++◌, [], ◌∷◌, rules, sym, ap, subst, �
 use Rattle.keyspace.specs.declared.batch.Batch.{Batch}
 use Rattle.wire.specs.Frames.{frames_reader}
 use Rattle.replay_workers.specs.Worker.{TakesFrames}
-use Rattle.replay_workers.proofs.Reading.{takes_also}
+use Rattle.replay_workers.proofs.callers.Reading.{takes_also}
 use Rattle.replay_workers.proofs.worker.Worker.send_frames.Goals as goal
 
 pub returns-in-Err-send-clause-sent : goal.returns-in-Err-send-clause-sent
