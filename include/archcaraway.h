@@ -214,12 +214,19 @@ typedef struct archcaraway_stats {
 int archcaraway_set_stats(const archcaraway_set *set, archcaraway_stats *stats);
 
 /*
+ * Returns about how many bytes of memory the set has used for its boundaries and its filter of
+ * single keys. Memory of removed boundaries counts until archcaraway_set_trim. What is kept from
+ * batch to batch and what malloc adds don't count. 0 if there is no set.
+ */
+uint64_t archcaraway_set_bytes_held(const archcaraway_set *set);
+
+/*
  * Frees memory that the set doesn't need for its boundaries: it copies these into new memory, and
  * frees what they had and what is kept from batch to batch. Call it when a set keeps far fewer
  * boundaries than it did. It takes about as long as writing each of them once.
  *
- * Statuses: OK; ARGUMENT; FRAME_MEMORY if an allocation failed. The set stays as it is with every
- * status, and a set that has stopped can be trimmed, too.
+ * Statuses: OK; ARGUMENT; FRAME_MEMORY if an allocation failed. The set is as before with every
+ * status. A set that has stopped can be trimmed too, and stays stopped.
  */
 int archcaraway_set_trim(archcaraway_set *set);
 
@@ -295,6 +302,12 @@ int archcaraway_core_next(const archcaraway_core *core, uint32_t *proxy);
 /* Fills in the stats of a core. Statuses: OK, ARGUMENT. */
 int archcaraway_core_stats(const archcaraway_core *core, archcaraway_stats *stats);
 
+/*
+ * Returns the bytes of the core's set, as archcaraway_set_bytes_held. Batches held and answers owed
+ * don't count. 0 if there is no core.
+ */
+uint64_t archcaraway_core_bytes_held(const archcaraway_core *core);
+
 /* Returns the stop that the core has met, 1 to 3, or 0. ARGUMENT if there is no core. */
 int archcaraway_core_stop(const archcaraway_core *core);
 
@@ -326,6 +339,7 @@ int32_t archcaraway_export_set_try_resolve(archcaraway_set set, const uint8_t *f
                                            uint8_t *reply, size_t capacity, size_t *reply_length,
                                            void **at);
 uint64_t archcaraway_export_set_boundaries(archcaraway_set set, void **at);
+uint64_t archcaraway_export_set_bytes_held(archcaraway_set set, void **at);
 int32_t archcaraway_export_set_trim(archcaraway_set set, void **at);
 void archcaraway_export_set_free(archcaraway_set set);
 int32_t archcaraway_export_core_new(uint32_t proxies, int64_t window, uint64_t limit, void **at);
@@ -336,6 +350,7 @@ int32_t archcaraway_export_core_give(archcaraway_core core, uint32_t proxy, uint
                                      size_t capacity, size_t *answer_length, int32_t *kind,
                                      int64_t *version, void **at);
 uint64_t archcaraway_export_core_owed(archcaraway_core core, void **at);
+uint64_t archcaraway_export_core_bytes_held(archcaraway_core core, void **at);
 int32_t archcaraway_export_core_stop(archcaraway_core core, void **at);
 void archcaraway_export_core_free(archcaraway_core core);
 

@@ -8,7 +8,7 @@
 // | `conflict::ConflictSet::new_at` | the same, and `least_version` | `check_set`, `check_version`: `NewError::Version` |
 // | `conflict::ConflictSet::resolve` | `rising`: the version is above that of the batch resolved last | `ResolveError::Version`, by the field `version` |
 // | `conflict::ConflictSet::try_resolve` | the same | the same |
-// | `conflict::ConflictSet::boundaries`, `limit`, `edge`, `trim` | none | |
+// | `conflict::ConflictSet::boundaries`, `bytes_held`, `limit`, `edge`, `trim` | none | |
 
 use crate::batch::Batch;
 use crate::reply::Reply;
@@ -161,6 +161,15 @@ impl ConflictSet {
     /// Returns the number of boundaries, at most the limit. One is at the empty key.
     pub fn boundaries(&self) -> usize {
         self.set.boundaries()
+    }
+
+    /// Returns about how many bytes of memory the boundaries and the filter of single keys have
+    /// used.
+    ///
+    /// Memory of removed boundaries counts until [`trim`](ConflictSet::trim). Vectors that are kept
+    /// from batch to batch, and what the allocator adds, do not count.
+    pub fn bytes_held(&self) -> usize {
+        self.set.bytes_held()
     }
 
     /// Returns how many boundaries there may be.

@@ -1,6 +1,7 @@
-//! How many bytes a set frees when it is trimmed, and that a refused allocation changes nothing.
+//! How many bytes a set frees when it is trimmed and how many it reports, beside those of the allocator,
+//! and that a refused allocation changes nothing.
 
-use archcaraway::{Batch, BatchBuilder, ConflictSet, MAX_LIMIT, TrimError, Txn, Verdict};
+use archcaraway::{Batch, BatchBuilder, ConflictSet, Core, MAX_LIMIT, TrimError, Txn, Verdict};
 use std::alloc::{GlobalAlloc, Layout, System};
 use std::cell::Cell;
 use std::ptr;
@@ -88,6 +89,11 @@ fn verdicts(set: &mut ConflictSet) -> Vec<Verdict> {
     reply.verdicts().collect()
 }
 
+/// Returns the bytes that the allocator gave since it had given that many.
+fn given_since(before: isize) -> usize {
+    (HELD.get() - before).try_into().expect("some were given")
+}
+
 #[test]
 fn trimming_frees_what_few_boundaries_do_not_need() {
     let before = HELD.get();
@@ -96,6 +102,9 @@ fn trimming_frees_what_few_boundaries_do_not_need() {
     set.trim().expect("memory is ample");
     let freed = before + held - HELD.get();
     println!("{held} bytes of two sets, {freed} freed");
+    println!("they report {} before and {} after", other.bytes_held(), set.bytes_held());
+    assert!(set.bytes_held() < other.bytes_held() / 4);
+    assert!(set.bytes_held() + other.bytes_held() <= given_since(before));
     // One of the sets is trimmed, and its filter keeps at most 3 MiB.
     assert!(freed > held / 2 - (3 << 20) - 300_000, "{held} {freed}");
     assert!(held / 2 > 12 << 20, "{held}");
@@ -123,4 +132,43 @@ fn a_refused_trim_changes_nothing() {
         assert!(HELD.get() <= held, "nothing leaks");
     }
     panic!("it never succeeds");
+}
+
+#[test]
+fn a_set_reports_no_more_bytes_than_were_given() {
+    // Keys in order and out of order, with the lengths of different slots.
+    for (length, step) in [(1, 1), (16, 1), (16, 7_919), (100, 7_919), (1_000, 7_919), (9_000, 1)] {
+        let before = HELD.get();
+        let mut set = ConflictSet::new(WINDOW, MAX_LIMIT).expect("the numbers are right");
+        let (mut most, mut version) = (0, 0);
+        for round in 0..30 {
+            for count in [1, 10, if length < 1_000 { 1_000 } else { 30 }] {
+                let keys = (0..count).map(|number| (number + round * 1_000) * step % 100_003);
+                let keys: Vec<_> = keys.map(|number| format!("{number:0length$}")).collect();
+                let txns = keys.iter().map(|key| Txn::at(0).write_key(key));
+                version += if round < 20 { 1 } else { WINDOW };
+                set.resolve(&batch(version, txns)).expect("memory is ample");
+            }
+            if round % 7 == 6 {
+                set.trim().expect("memory is ample");
+            }
+            let (reported, given) = (set.bytes_held(), given_since(before));
+            assert!(reported <= given, "{length} {round}: {reported} {given}");
+            most = most.max(reported * 100 / given);
+        }
+        println!("keys of {length} bytes, {step} apart: up to {most} % of the bytes given");
+    }
+}
+
+#[test]
+fn a_core_reports_the_bytes_of_its_set() {
+    let mut set = ConflictSet::new(WINDOW, MAX_LIMIT).expect("the numbers are right");
+    let mut core = Core::new(1, WINDOW, MAX_LIMIT).expect("the numbers are right");
+    for version in 0..10 {
+        let keys: Vec<_> = (0..WRITES).map(|number| key(number * 10 + version as usize)).collect();
+        let txns = || keys.iter().map(|key| Txn::at(0).write_key(key));
+        set.resolve(&batch(version, txns())).expect("memory is ample");
+        core.admit(0, batch(version, txns())).expect("memory is ample");
+        assert_eq!(core.bytes_held(), set.bytes_held());
+    }
 }

@@ -19,6 +19,7 @@ mod serving;
 mod shards;
 mod sizes;
 mod step_map;
+mod summaries;
 mod texts;
 mod trimming;
 mod workload;

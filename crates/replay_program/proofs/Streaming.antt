@@ -143,16 +143,16 @@ module _ {W : Type 0} (state_of : W → SinkState) (options : Options) (files : 
               };
           chain = run.chain;
           serializable = run.serializable;
-          from_files = from_one options.window run.log proxies run.proxies tell options.form;
+          from_files = from_one options.window run.log proxies run.proxies tell options.style.form;
           replies = λ proxy.
               let own = part run.log proxy in
               tell.replies options.window run.log proxy own [] (sym (append-nil own));
-          each_word = each_said options.window run.log proxies run.proxies tell options.form;
-          all_words = all_said options.window run.log proxies run.proxies tell options.form;
+          each_word = each_said options.window run.log proxies run.proxies tell options.style.form;
+          all_words = all_said options.window run.log proxies run.proxies tell options.style.form;
           finish = run.finish (run.no_stop whole);
           printed = (
             (
-              stream_text options.form run.printed,
+              stream_text options.style run.printed,
               record {
                 printed = run.printed;
                 known =
@@ -169,7 +169,7 @@ module _ {W : Type 0} (state_of : W → SinkState) (options : Options) (files : 
                     ∙ ap (answers options.window run.log) (omega arith) ∙ sym is;
                 text_is = refl;
               },
-              (subst (λ (failed : Bool). TookText failed before after (stream_text options.form run.printed)) well run.text).0,
+              (subst (λ (failed : Bool). TookText failed before after (stream_text options.style run.printed)) well run.text).0,
             ),
             λ proxy own r at r_at.
                 let is = value_at (answers options.window run.log) 0 proxies proxy own at in

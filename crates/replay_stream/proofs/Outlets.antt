@@ -9,7 +9,7 @@ use Rattle.std.proofs.lemmas.List.Elements.{All-append, All-nil, All-cons}
 use Rattle.std.proofs.lemmas.Option.{same_Some, slice_get-get_or, slice_get_within, get_or_from_slice_get}
 use Rattle.keyspace.specs.declared.answer.Answer.{Answer}
 use Rattle.lane.specs.Lane.{PortView, PortGoesOn, IntakeView, IntakeGoesOn}
-use Rattle.replay_output.specs.declared.options.form.Form.{Form}
+use Rattle.replay_output.specs.declared.options.style.Style.{Style}
 use Rattle.replay_output.specs.Lines.{line}
 use Rattle.replay_output.specs.Streamed.{Printed, answer_for, printed_for, printed_line, stream_text}
 use Rattle.replay_stream.specs.declared.outlet.Outlet.{Outlet}
@@ -128,10 +128,10 @@ took_then true has a b c first next h k nothing none =
 abbrev pub of_proxy : ℕ → Answer → Printed
 of_proxy proxy answer = record { proxy = proxy; answer = answer }
 
-pub text_of_proxy : (form : Form) (proxy : ℕ) (answers : List Answer)
-    → stream_text form (map (of_proxy proxy) answers) ≡ flat_map (line form proxy) answers
-text_of_proxy form proxy [] = refl
-text_of_proxy form proxy (answer ∷ answers) = ap (λ (l : List ℕ). line form proxy answer ++ l) (text_of_proxy form proxy answers)
+pub text_of_proxy : (style : Style) (proxy : ℕ) (answers : List Answer)
+    → stream_text style (map (of_proxy proxy) answers) ≡ flat_map (line style proxy) answers
+text_of_proxy style proxy [] = refl
+text_of_proxy style proxy (answer ∷ answers) = ap (λ (l : List ℕ). line style proxy answer ++ l) (text_of_proxy style proxy answers)
 
 pub printed_here : (proxy : ℕ) (answers : List Answer) → printed_for proxy (map (of_proxy proxy) answers) ≡ answers
 printed_here proxy [] = refl
@@ -179,9 +179,9 @@ each_set P Q old now i x d inside here others e = record {
 }
 
 -- nothing has happened
-pub stream_same : (form : Form) (failed : Bool) (given : SinkState) (outlets : List Outlet)
-    → StreamGoesOn form failed failed given given outlets outlets
-stream_same form failed given outlets = record {
+pub stream_same : (style : Style) (failed : Bool) (given : SinkState) (outlets : List Outlet)
+    → StreamGoesOn style failed failed given given outlets outlets
+stream_same style failed given outlets = record {
   printed = [];
   known = All-nil (λ (p : Printed). p.proxy < length outlets);
   each = record {
@@ -197,10 +197,10 @@ stream_same form failed given outlets = record {
 }
 
 -- the outlet at an index has passed some answers on
-module _ (form : Form) (start mid now : Bool) (first before after : SinkState) (old outlets : List Outlet) (i : ℕ)
+module _ (style : Style) (start mid now : Bool) (first before after : SinkState) (old outlets : List Outlet) (i : ℕ)
     (x d : Outlet) (inside : i < length outlets) (numbered : (get_or outlets i d).proxy ≡ i)
-    (so_far : StreamGoesOn form start mid first before old outlets)
-    (step : PassesSome form mid now before after (get_or outlets i d) x) where
+    (so_far : StreamGoesOn style start mid first before old outlets)
+    (step : PassesSome style mid now before after (get_or outlets i d) x) where
   abbrev more : List Printed
   more = map (of_proxy i) step.printed
 
@@ -245,20 +245,20 @@ module _ (form : Form) (start mid now : Bool) (first before after : SinkState) (
       (subst (λ (printed : List Answer). OutletGoesOn printed [] (is_whole m.lost mid) (is_whole m.lost now) m m)
       (sym (printed_elsewhere i q step.printed apart)) (outlet_same mid now m stays)))
 
-  text_more : stream_text form more ≡ flat_map (line form (get_or outlets i d).proxy) step.printed
-  text_more = text_of_proxy form i step.printed ∙ ap (λ (proxy : ℕ). flat_map (line form proxy) step.printed) (sym numbered)
+  text_more : stream_text style more ≡ flat_map (line style (get_or outlets i d).proxy) step.printed
+  text_more = text_of_proxy style i step.printed ∙ ap (λ (proxy : ℕ). flat_map (line style proxy) step.printed) (sym numbered)
 
-  pub stream_at : StreamGoesOn form start now first after old (set outlets i x)
+  pub stream_at : StreamGoesOn style start now first after old (set outlets i x)
   stream_at = record {
     printed = so_far.printed ++ more;
     known = All-append (λ (p : Printed). p.proxy < length old) so_far.printed more so_far.known
         (known_here (length old) i step.printed (omega (arith, inside, so_far.each.count)));
     each = each_set Before After old outlets i x d inside here others so_far.each;
     text = λ whole.
-        subst (TookText now first after) (sym (flat_map-append (printed_line form) so_far.printed more))
-        (took_then mid now first before after (stream_text form so_far.printed) (stream_text form more) (so_far.text whole)
+        subst (TookText now first after) (sym (flat_map-append (printed_line style) so_far.printed more))
+        (took_then mid now first before after (stream_text style so_far.printed) (stream_text style more) (so_far.text whole)
         (λ well. subst (TookText now before after) (sym text_more) (step.text well)) step.nothing
-        (λ failed. ap (stream_text form) (none_more failed)));
+        (λ failed. ap (stream_text style) (none_more failed)));
     nothing = λ failed.
         let was = so_far.nothing failed in
         let is = step.nothing was.1.0 in (
@@ -268,9 +268,9 @@ module _ (form : Form) (start mid now : Bool) (first before after : SinkState) (
   }
 
 -- one round after another
-pub numbered_later : (form : Form) (start now : Bool) (first after : SinkState) (old outlets : List Outlet)
-    → StreamGoesOn form start now first after old outlets → AreNumbered old → AreNumbered outlets
-numbered_later form start now first after old outlets goes numbered q m at =
+pub numbered_later : (style : Style) (start now : Bool) (first after : SinkState) (old outlets : List Outlet)
+    → StreamGoesOn style start now first after old outlets → AreNumbered old → AreNumbered outlets
+numbered_later style start now first after old outlets goes numbered q m at =
     let l = get_or old q m in
     let inside = slice_get_within outlets q m at in
     let was = slice_get-get_or old q m (omega (arith, inside, goes.each.count)) in
@@ -310,13 +310,13 @@ passed_set outlets i x inside before now q m below at =
     ]
 
 -- a stream that goes on by two steps
-pub streams_then : (form later : Form) (first mid now : Bool) (a b c : SinkState) (old between new : List Outlet) → later ≡ form
-    → StreamsOn form first mid a b old between → StreamsOn later mid now b c between new → StreamsOn form first now a c old new
-streams_then form later first mid now a b c old between new same one two = λ failed given outlets was.
-    subst (λ (form : Form). StreamGoesOn form failed now given c outlets new) same
-    (two failed given outlets (subst (λ (form : Form). StreamGoesOn form failed mid given b outlets between) (sym same)
+pub streams_then : (style later : Style) (first mid now : Bool) (a b c : SinkState) (old between new : List Outlet) → later ≡ style
+    → StreamsOn style first mid a b old between → StreamsOn later mid now b c between new → StreamsOn style first now a c old new
+streams_then style later first mid now a b c old between new same one two = λ failed given outlets was.
+    subst (λ (style : Style). StreamGoesOn style failed now given c outlets new) same
+    (two failed given outlets (subst (λ (style : Style). StreamGoesOn style failed mid given b outlets between) (sym same)
     (one failed given outlets was)))
 
-pub streams_same : (form : Form) (failed : Bool) (given : SinkState) (outlets : List Outlet)
-    → StreamsOn form failed failed given given outlets outlets
-streams_same form failed given outlets = λ first before old was. was
+pub streams_same : (style : Style) (failed : Bool) (given : SinkState) (outlets : List Outlet)
+    → StreamsOn style failed failed given given outlets outlets
+streams_same style failed given outlets = λ first before old was. was

@@ -5,7 +5,7 @@ use Rattle.std.proofs.Common.{refl, sym, ap, subst, ◌∙◌, append-nil}
 use Rattle.std.proofs.lemmas.Bool.{false≢true}
 use Rattle.keyspace.specs.declared.answer.Answer.{Answer}
 use Rattle.lane.specs.Lane.{IntakeGoesOn, IntakeView, PortGoesOn, PortView}
-use Rattle.replay_output.specs.declared.options.form.Form.{Form}
+use Rattle.replay_output.specs.declared.options.style.Style.{Style}
 use Rattle.replay_output.specs.Lines.{line}
 use Rattle.replay_stream.specs.declared.outlet.Outlet.{Outlet}
 use Rattle.replay_stream.specs.Outlet.{is_whole, PassesOn, TookText, PassesSome}
@@ -52,10 +52,10 @@ passes_closed a b waits is =
     (port_closed a a (port_same a), sym (append-nil (a.sent ++ option_to_list waits)))
 
 -- nothing was taken, and nothing printed
-pub passes_nothing : (form : Form) (failed : Bool) (given : SinkState) (old new : Outlet)
+pub passes_nothing : (style : Style) (failed : Bool) (given : SinkState) (old new : Outlet)
     → IntakeGoesOn old.replies new.replies → new.replies.taken ≡ old.replies.taken → new.proxy ≡ old.proxy → new.lost ≡ old.lost
-    → PassesOn old.records new.records old.waiting new.waiting [] → PassesSome form failed failed given given old new
-passes_nothing form failed given old new replies taken proxy lost passed = record {
+    → PassesOn old.records new.records old.waiting new.waiting [] → PassesSome style failed failed given given old new
+passes_nothing style failed given old new replies taken proxy lost passed = record {
   printed = [];
   dropped = [];
   goes_on = record {
@@ -72,7 +72,7 @@ passes_nothing form failed given old new replies taken proxy lost passed = recor
 }
 
 -- what becomes of an answer: it is printed, or dropped
-record Split (form : Form) (proxy : ℕ) (answer : Answer) (was_lost had is_lost has : Bool) (before after : SinkState)
+record Split (style : Style) (proxy : ℕ) (answer : Answer) (was_lost had is_lost has : Bool) (before after : SinkState)
     : Type 0 where
   pub printed : List Answer
   pub dropped : List Answer
@@ -80,11 +80,11 @@ record Split (form : Form) (proxy : ℕ) (answer : Answer) (was_lost had is_lost
   pub none_dropped : is_whole is_lost has ≡ true → dropped ≡ []
   pub none_printed : is_whole was_lost had ≡ false → printed ≡ []
   pub stays : is_whole is_lost has ≡ true → is_whole was_lost had ≡ true
-  pub text : had ≡ false → TookText has before after (flat_map (line form proxy) printed)
+  pub text : had ≡ false → TookText has before after (flat_map (line style proxy) printed)
 
-module _ (form : Form) (proxy : ℕ) (answer : Answer) (before after : SinkState) where
+module _ (style : Style) (proxy : ℕ) (answer : Answer) (before after : SinkState) where
   dropped_one : (was_lost had is_lost has : Bool) → is_whole is_lost has ≡ false
-      → (had ≡ false → (has ≡ had) × (after ≡ before)) → Split form proxy answer was_lost had is_lost has before after
+      → (had ≡ false → (has ≡ had) × (after ≡ before)) → Split style proxy answer was_lost had is_lost has before after
   dropped_one was_lost had is_lost has not_whole same = record {
     printed = [];
     dropped = answer ∷ [];
@@ -98,9 +98,9 @@ module _ (form : Form) (proxy : ℕ) (answer : Answer) (before after : SinkState
   }
 
   split : (was_lost had is_lost has : Bool)
-      → (is_whole was_lost had ≡ true → is_lost ≡ false → TookText has before after (line form proxy answer))
+      → (is_whole was_lost had ≡ true → is_lost ≡ false → TookText has before after (line style proxy answer))
       → (was_lost ≡ true → is_lost ≡ true) → (is_lost ≡ true → (has ≡ had) × (after ≡ before))
-      → (had ≡ true → (has ≡ true) × (after ≡ before)) → Split form proxy answer was_lost had is_lost has before after
+      → (had ≡ true → (has ≡ true) × (after ≡ before)) → Split style proxy answer was_lost had is_lost has before after
   split true had false has text stays lost nothing = absurd (false≢true (stays refl))
   split true had true has text stays lost nothing = dropped_one true had true has refl (λ _. lost refl)
   split false true is_lost has text stays lost nothing =
@@ -114,18 +114,18 @@ module _ (form : Form) (proxy : ℕ) (answer : Answer) (before after : SinkState
     none_dropped = λ _. refl;
     none_printed = λ broken. absurd (false≢true (sym broken));
     stays = λ _. refl;
-    text = λ _. subst (TookText has before after) (sym (append-nil (line form proxy answer))) (text refl refl);
+    text = λ _. subst (TookText has before after) (sym (append-nil (line style proxy answer))) (text refl refl);
   }
 
 -- an answer was taken, printed or dropped, and passed on
-pub passes_answer : (form : Form) (had has : Bool) (before after : SinkState) (old new : Outlet) (answer : Answer)
+pub passes_answer : (style : Style) (had has : Bool) (before after : SinkState) (old new : Outlet) (answer : Answer)
     → IntakeGoesOn old.replies new.replies → new.replies.taken ≡ old.replies.taken ++ answer ∷ [] → new.proxy ≡ old.proxy
     → PassesOn old.records new.records old.waiting new.waiting (answer ∷ [])
-    → (is_whole old.lost had ≡ true → new.lost ≡ false → TookText has before after (line form old.proxy answer))
+    → (is_whole old.lost had ≡ true → new.lost ≡ false → TookText has before after (line style old.proxy answer))
     → (old.lost ≡ true → new.lost ≡ true) → (new.lost ≡ true → (has ≡ had) × (after ≡ before))
-    → (had ≡ true → (has ≡ true) × (after ≡ before)) → PassesSome form had has before after old new
-passes_answer form had has before after old new answer replies taken proxy passed text stays lost nothing =
-    let one = split form old.proxy answer before after old.lost had new.lost has text stays lost nothing in
+    → (had ≡ true → (has ≡ true) × (after ≡ before)) → PassesSome style had has before after old new
+passes_answer style had has before after old new answer replies taken proxy passed text stays lost nothing =
+    let one = split style old.proxy answer before after old.lost had new.lost has text stays lost nothing in
     record {
       printed = one.printed;
       dropped = one.dropped;
@@ -143,7 +143,7 @@ passes_answer form had has before after old new answer replies taken proxy passe
     }
 
 -- none waited any more, an answer was taken, printed or dropped, and passed on
-pub passes_after : (form : Form) (had has : Bool) (before after : SinkState) (old behind printed new : Outlet)
+pub passes_after : (style : Style) (had has : Bool) (before after : SinkState) (old behind printed new : Outlet)
     (replies : IntakeView Answer) (answer : Answer)
     → behind ≡ record old { records = behind.records; waiting = behind.waiting } → behind.waiting ≡ None
     → IntakeGoesOn behind.replies replies → replies.taken ≡ behind.replies.taken ++ answer ∷ []
@@ -151,10 +151,10 @@ pub passes_after : (form : Form) (had has : Bool) (before after : SinkState) (ol
     → new ≡ record printed { records = new.records; waiting = new.waiting }
     → PassesOn old.records behind.records old.waiting behind.waiting []
     → PassesOn printed.records new.records None new.waiting (answer ∷ [])
-    → (is_whole behind.lost had ≡ true → printed.lost ≡ false → TookText has before after (line form behind.proxy answer))
+    → (is_whole behind.lost had ≡ true → printed.lost ≡ false → TookText has before after (line style behind.proxy answer))
     → (behind.lost ≡ true → printed.lost ≡ true) → (printed.lost ≡ true → (has ≡ had) × (after ≡ before))
-    → (had ≡ true → (has ≡ true) × (after ≡ before)) → PassesSome form had has before after old new
-passes_after form had has before after old behind printed new replies answer first none on took second third one two text stays lost
+    → (had ≡ true → (has ≡ true) × (after ≡ before)) → PassesSome style had has before after old new
+passes_after style had has before after old behind printed new replies answer first none on took second third one two text stays lost
     nothing =
     let proxy : behind.proxy ≡ old.proxy = ap (λ (o : Outlet). o.proxy) first in
     let was_lost : behind.lost ≡ old.lost = ap (λ (o : Outlet). o.lost) first in
@@ -165,12 +165,12 @@ passes_after form had has before after old behind printed new replies answer fir
     let passed : PassesOn behind.records new.records behind.waiting new.waiting (answer ∷ []) =
     subst (λ (w : Option Answer). PassesOn behind.records new.records w new.waiting (answer ∷ [])) (sym none)
     (subst (λ (r : Option (PortView Answer)). PassesOn r new.records None new.waiting (answer ∷ [])) records two) in
-    passes_answer form had has before after old new answer
+    passes_answer style had has before after old new answer
     (subst (λ (i : IntakeView Answer). IntakeGoesOn i new.replies) same
     (subst (λ (i : IntakeView Answer). IntakeGoesOn behind.replies i) (sym now) on))
     (ap (λ (i : IntakeView Answer). i.taken) now ∙ took ∙ ap (λ (i : IntakeView Answer). i.taken ++ answer ∷ []) same)
     (ap (λ (o : Outlet). o.proxy) third ∙ ap (λ (o : Outlet). o.proxy) second ∙ proxy)
     (passes_then old.records behind.records new.records old.waiting behind.waiting new.waiting [] (answer ∷ []) one passed)
-    (λ whole not_lost. subst (λ (p : ℕ). TookText has before after (line form p answer)) proxy
+    (λ whole not_lost. subst (λ (p : ℕ). TookText has before after (line style p answer)) proxy
     (text (ap (λ (l : Bool). is_whole l had) was_lost ∙ whole) (sym is_lost ∙ not_lost)))
     (λ was. is_lost ∙ stays (was_lost ∙ was)) (λ is. lost (sym is_lost ∙ is)) nothing

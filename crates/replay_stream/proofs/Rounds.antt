@@ -4,7 +4,7 @@ use Rattle.std.proofs.Common.{refl, sym, ap, subst, ◌∙◌}
 use Rattle.std.proofs.Math.Seq.{map-set_same}
 use Rattle.std.proofs.lemmas.List.{map-set}
 use Rattle.std.proofs.lemmas.Option.{get_or_from_slice_get, slice_get-get_or, slice_get_within}
-use Rattle.replay_output.specs.declared.options.form.Form.{Form}
+use Rattle.replay_output.specs.declared.options.style.Style.{Style}
 use Rattle.replay_stream.specs.declared.outlet.Outlet.{Outlet}
 use Rattle.replay_stream.specs.declared.proxies.Proxy.{Proxy}
 use Rattle.replay_stream.specs.Outlet.{AreNumbered, HasPassedAll, PassesSome, StreamGoesOn, StreamsOn}
@@ -46,11 +46,11 @@ module _ {S W : Type 0} (proxies : List (Proxy S W)) (i : ℕ) (d : Proxy S W) (
       passed_set (outlets_of proxies) i x within before now q m below (ap (λ l. slice_get l q) (sym outlets_are) ∙ there)
 
   -- the outlet at this place has passed some answers on
-  pub streams_at : (form : Form) (start mid now : Bool) (first before after : SinkState) (old : List Outlet)
-      → AreNumbered (outlets_of proxies) → StreamsOn form start mid first before old (outlets_of proxies)
-      → PassesSome form mid now before after here.outlet x → StreamsOn form start now first after old (outlets_of with_outlet)
-  streams_at form start mid now first before after old numbered streams step = λ failed given outlets was.
-      subst (λ (l : List Outlet). StreamGoesOn form failed now given after outlets l) (sym outlets_are)
-      (stream_at form failed mid now given before after outlets (outlets_of proxies) i x here.outlet within
+  pub streams_at : (style : Style) (start mid now : Bool) (first before after : SinkState) (old : List Outlet)
+      → AreNumbered (outlets_of proxies) → StreamsOn style start mid first before old (outlets_of proxies)
+      → PassesSome style mid now before after here.outlet x → StreamsOn style start now first after old (outlets_of with_outlet)
+  streams_at style start mid now first before after old numbered streams step = λ failed given outlets was.
+      subst (λ (l : List Outlet). StreamGoesOn style failed now given after outlets l) (sym outlets_are)
+      (stream_at style failed mid now given before after outlets (outlets_of proxies) i x here.outlet within
       (ap (λ (l : Outlet). l.proxy) outlet_here ∙ numbered i here.outlet at) (streams failed given outlets was)
-      (subst (λ (l : Outlet). PassesSome form mid now before after l x) (sym outlet_here) step))
+      (subst (λ (l : Outlet). PassesSome style mid now before after l x) (sym outlet_here) step))

@@ -15,7 +15,7 @@ use Rattle.resolver.specs.Lanes.{Lanes, has_ended, sent_to}
 use Rattle.resolver.specs.Resolver.{IsNewClient, TakesOnlyFrom}
 use Rattle.resolver.specs.Settled.{Settled}
 use Rattle.replay_output.specs.declared.failures.ProxyFailure.{ProxyFailure}
-use Rattle.replay_output.specs.declared.options.form.Form.{Form}
+use Rattle.replay_output.specs.declared.options.style.Style.{Style}
 use Rattle.replay_output.specs.declared.options.Options.{Options}
 use Rattle.replay_output.specs.Streamed.{Printed, printed_for, stream_text}
 use Rattle.replay_stream.specs.declared.outlet.Outlet.{Outlet}
@@ -98,10 +98,10 @@ module _ {S W G : Type 0} (readers : List S) (outs : List (Option W)) (clients :
       ap (λ (l : Outlet). l.proxy) (sym t.2)
       ∙ given_number 0 clients readers outs proxy (given_with t.0.outlet (threads_by t.0)) (given_here proxy t.0 t.1) ∙ number
 
-  module _ (form : Form) (has_failed : Bool) (before after : SinkState) (ended : List (Proxy S W))
+  module _ (style : Style) (has_failed : Bool) (before after : SinkState) (ended : List (Proxy S W))
       (fresh : All (λ (t : Task S W G). IsNewOutlet t.outlet (threads_by t).answers) tasks)
       (threads : map threads_of ended ≡ map (λ (t : Task S W G). threads_by t) tasks)
-      (goes : StreamGoesOn form false has_failed before after (map (λ (t : Task S W G). t.outlet) tasks) (outlets_of ended))
+      (goes : StreamGoesOn style false has_failed before after (map (λ (t : Task S W G). t.outlet) tasks) (outlets_of ended))
       (passed : HavePassedAll (outlets_of ended)) where
     pub ended_count : length ended ≡ length clients
     ended_count = sym (length-map ended threads_of) ∙ ap length threads ∙ length-map tasks (λ (t : Task S W G). threads_by t)
@@ -218,7 +218,7 @@ module _ {S W G : Type 0} (readers : List S) (outs : List (Option W)) (clients :
           ∙ has_recorder state_of (threads_by known.ran.task).out (threads_by known.ran.task).answers _ _ j.0.recorder known.has.recorder
           ∙ ap is_some (known.out ∙ out_is) ∙ o.2
 
-      module _ (options : Options) (form_is : form ≡ options.form) (log : List Step) (lanes : List Lanes) (account : Account)
+      module _ (options : Options) (style_is : style ≡ options.style) (log : List Step) (lanes : List Lanes) (account : Account)
           (streamed : Streamed W) (new : All (IsNewClient options.capacity) clients)
           (settled : Settled options.window log lanes (map client_of joined) account)
           (whole : account.stop ≡ None → account.complete ≡ true) (of_joined : IsStreamedOf joined streamed) where
@@ -335,7 +335,7 @@ module _ {S W G : Type 0} (readers : List S) (outs : List (Option W)) (clients :
                   (subst (λ (bytes : Option (List ℕ)). IsStreamedFor options.window log complete has_failed account.stop bytes proxy
                   (printed_for proxy goes.printed) (failure_with j.0) (recorded_of state_of known.place.out j.0.recorder))
                   (bytes_are proxy bytes j.0 known at) (streamed_at proxy j.0 j.1 known)));
-              text = subst (λ (f : Form). TookText has_failed before after (stream_text f goes.printed)) form_is (goes.text refl);
+              text = subst (λ (f : Style). TookText has_failed before after (stream_text f goes.printed)) style_is (goes.text refl);
               chain = settled.chain;
               serializable = settled.serializable;
               finish = λ none. settled.finish (whole none);

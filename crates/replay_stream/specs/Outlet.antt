@@ -3,7 +3,7 @@ use Rattle.std.specs.Prelude.{◌≡◌, ℕ, ◌<◌, Bool, true, false, List, 
 use Rattle.std.specs.List.{All, flat_map}
 use Rattle.keyspace.specs.declared.answer.Answer.{Answer}
 use Rattle.lane.specs.Lane.{PortView, PortGoesOn, IntakeGoesOn, HasEnded}
-use Rattle.replay_output.specs.declared.options.form.Form.{Form}
+use Rattle.replay_output.specs.declared.options.style.Style.{Style}
 use Rattle.replay_output.specs.Lines.{line}
 use Rattle.replay_output.specs.Streamed.{Printed, printed_for, stream_text}
 use Rattle.replay_stream.specs.declared.outlet.Outlet.{Outlet}
@@ -46,11 +46,11 @@ TookText false before after text = Takes before after text
 TookText true before after text = FailsIn before after text
 
 -- One outlet has passed some answers on, and printed them by a writer that had failed or not.
-pub record PassesSome (form : Form) (had_failed has_failed : Bool) (before after : SinkState) (old new : Outlet) : Type 0 where
+pub record PassesSome (style : Style) (had_failed has_failed : Bool) (before after : SinkState) (old new : Outlet) : Type 0 where
   pub printed : List Answer
   pub dropped : List Answer
   pub goes_on : OutletGoesOn printed dropped (is_whole old.lost had_failed) (is_whole new.lost has_failed) old new
-  pub text : had_failed ≡ false → TookText has_failed before after (flat_map (line form old.proxy) printed)
+  pub text : had_failed ≡ false → TookText has_failed before after (flat_map (line style old.proxy) printed)
   pub nothing : had_failed ≡ true → (has_failed ≡ true) × (after ≡ before)
 
 -- as many outlets as before, and this of each
@@ -59,14 +59,14 @@ pub record EachOutlet (P : ℕ → Outlet → Outlet → Type 0) (old new : List
   pub each : (proxy : ℕ) (l m : Outlet) → slice_get old proxy ≡ Some l → slice_get new proxy ≡ Some m → P proxy l m
 
 -- All outlets have passed some answers on, and printed them in this order.
-pub record StreamGoesOn (form : Form) (had_failed has_failed : Bool) (before after : SinkState) (old new : List Outlet)
+pub record StreamGoesOn (style : Style) (had_failed has_failed : Bool) (before after : SinkState) (old new : List Outlet)
     : Type 0 where
   pub printed : List Printed
   pub known : All (λ (p : Printed). p.proxy < length old) printed
   pub each :
       EachOutlet (λ proxy l m. (dropped : List Answer)
       × OutletGoesOn (printed_for proxy printed) dropped (is_whole l.lost had_failed) (is_whole m.lost has_failed) l m) old new
-  pub text : had_failed ≡ false → TookText has_failed before after (stream_text form printed)
+  pub text : had_failed ≡ false → TookText has_failed before after (stream_text style printed)
   pub nothing : had_failed ≡ true → (printed ≡ []) × ((has_failed ≡ true) × (after ≡ before))
 
 -- each outlet has the number of its place
@@ -84,8 +84,8 @@ abbrev pub HavePassedAll : List Outlet → Type 0
 HavePassedAll outlets = (proxy : ℕ) (l : Outlet) → slice_get outlets proxy ≡ Some l → HasPassedAll l
 
 -- However a stream has come to the old outlets, it has come to the new ones.
-abbrev pub StreamsOn : Form → Bool → Bool → SinkState → SinkState → List Outlet → List Outlet → Type 0
-StreamsOn form had_failed has_failed before after old new =
+abbrev pub StreamsOn : Style → Bool → Bool → SinkState → SinkState → List Outlet → List Outlet → Type 0
+StreamsOn style had_failed has_failed before after old new =
     (failed_first : Bool) (first : SinkState) (outlets : List Outlet)
-    → StreamGoesOn form failed_first had_failed first before outlets old
-    → StreamGoesOn form failed_first has_failed first after outlets new
+    → StreamGoesOn style failed_first had_failed first before outlets old
+    → StreamGoesOn style failed_first has_failed first after outlets new

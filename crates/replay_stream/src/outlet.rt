@@ -9,7 +9,7 @@ ghost use Rattle.replay_stream.specs.Sinks.{state_by};
 use crate::progress::Progress;
 use keyspace::Answer;
 use lane::{Intake, Port, Refused, Taken};
-use replay_output::{AnswerError, Form, print_line};
+use replay_output::{AnswerError, Style, print_line};
 use replay_workers::Gatekeeper;
 use std::alloc::Global;
 use std::sync::Arc;
@@ -19,7 +19,7 @@ use wire::Sink;
 #[derive(Drop)]
 pub struct Printer {
     alloc: Global,
-    pub form: Form,
+    pub style: Style,
     /// The writer has failed. Nothing is printed afterwards.
     pub failed: bool,
 }
@@ -51,13 +51,13 @@ pub struct Outlet {
 
 impl Printer {
     /// Creates a printer that has printed nothing.
-    pub fn new(alloc: Global, form: Form) -> Self
-        ensures form { result.form ≡ form }
+    pub fn new(alloc: Global, style: Style) -> Self
+        ensures style { result.style ≡ style }
         ensures failed { result.failed ≡ false }
     {
         Printer {
             alloc,
-            form,
+            style,
             failed: false,
         }
     }
@@ -65,10 +65,10 @@ impl Printer {
     // Prints the line of an answer to this proxy, unless the writer has failed. Returns whether it
     // was lost for want of memory.
     fn print<O: Sink>(&mut self, proxy: usize, answer: &Answer, out: &mut O) -> bool
-        ensures form { self.new.form ≡ self.old.form }
+        ensures style { self.new.style ≡ self.old.style }
         ensures text { self.old.failed ≡ false → result ≡ false → TookText self.new.failed
             (state_by O.given O.failures out.old)
-            (state_by O.given O.failures out.new) (line self.old.form proxy answer.now) }
+            (state_by O.given O.failures out.new) (line self.old.style proxy answer.now) }
         ensures lost { result ≡ true → (self.new.failed ≡ self.old.failed)
             × (state_by O.given O.failures out.new
             ≡ state_by O.given O.failures out.old) }
@@ -79,7 +79,7 @@ impl Printer {
         if self.failed {
             return false;
         }
-        match print_line(self.alloc, self.form, proxy, answer, out) {
+        match print_line(self.alloc, self.style, proxy, answer, out) {
             Ok(()) => false,
             Err(AnswerError::Memory) => true,
             Err(AnswerError::Write) => {
@@ -98,10 +98,10 @@ impl Outlet {
         out: &mut O,
         gatekeeper: &G,
     ) -> Passed
-        ensures passes { PassesSome printer.old.form printer.old.failed printer.new.failed
+        ensures passes { PassesSome printer.old.style printer.old.failed printer.new.failed
             (state_by O.given O.failures out.old)
             (state_by O.given O.failures out.new) self.old self.new }
-        ensures form { printer.new.form ≡ printer.old.form }
+        ensures style { printer.new.style ≡ printer.old.style }
         ensures ended { result ≡ Passed.Ended → HasPassedAll self.new }
     {
         if self.is_behind() {
@@ -141,11 +141,11 @@ impl Outlet {
     // Prints the line of an answer, unless a line was lost, or the writer has failed.
     fn print<O: Sink>(&mut self, printer: &mut Printer, out: &mut O, answer: &Answer)
         ensures others { self.new ≡ record self.old { lost = self.new.lost } }
-        ensures form { printer.new.form ≡ printer.old.form }
+        ensures style { printer.new.style ≡ printer.old.style }
         ensures text { is_whole self.old.lost printer.old.failed ≡ true → self.new.lost ≡ false
             → TookText printer.new.failed (state_by O.given O.failures out.old)
             (state_by O.given O.failures out.new)
-            (line printer.old.form self.old.proxy answer.now) }
+            (line printer.old.style self.old.proxy answer.now) }
         ensures stays { self.old.lost ≡ true → self.new.lost ≡ true }
         ensures lost { self.new.lost ≡ true → (printer.new.failed ≡ printer.old.failed)
             × (state_by O.given O.failures out.new

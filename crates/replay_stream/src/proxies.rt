@@ -75,7 +75,7 @@ pub fn connect_all<S: Drop, W: Drop, G: Drop>(
         let assignment = Assignment {
             proxy: tasks.len(),
             share,
-            form: options.form,
+            style: options.style,
         };
         let gatekeeper = Arc::try_clone(gatekeeper)?;
         let task = connect(

@@ -70,12 +70,12 @@ pub fn run_stream<
         capacity,
         window,
         limit,
-        form,
+        style,
     } = options;
     let (mut resolver, clients) = open(alloc, count, capacity, window, limit)?;
     let tasks = connect_all(alloc, options, readers, records, clients, gatekeeper)?;
     let mut proxies = start_all(rt, alloc, tasks)?;
-    let mut printer = Printer::new(alloc, form);
+    let mut printer = Printer::new(alloc, style);
     turn_to_end(
         rt,
         &mut resolver,
@@ -111,7 +111,7 @@ fn turn_to_end<S: Source, W: Sink, G: Gatekeeper + ShareKeeper, R: Wait, O: Sink
     ensures resolving { IsResolving resolver.old → IsResolving resolver.new }
     ensures goes_on { GoesOn resolver.old.core resolver.new.core }
     ensures lanes { Each (λ _ l m. LanesGoOn l m) resolver.old.lanes resolver.new.lanes }
-    ensures streams { StreamsOn printer.old.form printer.old.failed printer.new.failed
+    ensures streams { StreamsOn printer.old.style printer.old.failed printer.new.failed
         (state_by O.given O.failures out.old)
         (state_by O.given O.failures out.new) (outlets_of proxies.old) (outlets_of proxies.new) }
     ensures threads { map threads_of proxies.new ≡ map threads_of proxies.old }
@@ -151,10 +151,10 @@ fn pass_each<S: Source, W: Sink, G: Gatekeeper, O: Sink>(
     gatekeeper: &G,
 ) -> bool
     requires numbered { AreNumbered (outlets_of proxies.old) }
-    ensures form { printer.new.form ≡ printer.old.form }
+    ensures style { printer.new.style ≡ printer.old.style }
     ensures numbered { AreNumbered (outlets_of proxies.new) }
     ensures threads { map threads_of proxies.new ≡ map threads_of proxies.old }
-    ensures streams { StreamsOn printer.old.form printer.old.failed printer.new.failed
+    ensures streams { StreamsOn printer.old.style printer.old.failed printer.new.failed
         (state_by O.given O.failures out.old)
         (state_by O.given O.failures out.new) (outlets_of proxies.old) (outlets_of proxies.new) }
     ensures passed { IsTrue result → HavePassedAll (outlets_of proxies.new) }

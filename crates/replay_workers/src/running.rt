@@ -52,12 +52,12 @@ pub fn run<
         capacity,
         window,
         limit,
-        form,
+        style,
     } = options;
     let outcome = Outcome::with_room(alloc, proxies)?;
     let mut watch = Watch::new(alloc, proxies)?;
     let (mut resolver, clients) = open(alloc, proxies, capacity, window, limit)?;
-    let workers = start_workers(rt, alloc, form, readers, clients, gatekeeper)?;
+    let workers = start_workers(rt, alloc, style, readers, clients, gatekeeper)?;
     turn_to_end(rt, &mut resolver, &**gatekeeper, &mut watch);
     let mut outcome = join_all(rt, workers, outcome);
     let account = resolver.settle(outcome.clients.as_mut_slice());

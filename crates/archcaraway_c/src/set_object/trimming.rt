@@ -8,8 +8,8 @@ use wire::WireError;
 
 impl SetObject {
     /// Frees memory that the set doesn't need for its boundaries, as [`conflict::ConflictSet::trim`]
-    /// does. Returns `Wire` of `Memory` if the copy of the boundaries gets no memory. The set stays
-    /// as it is, whether or not it is refused.
+    /// does. Returns `Wire` of `Memory` if an allocation fails, which is no stop. The set is as
+    /// before in both cases, and one that has stopped stays stopped.
     pub fn trim(&mut self) -> Result<(), Refusal>
         ensures same { self.new ≡ self.old }
         ensures memory { IfErr result (λ refusal. refusal ≡ Refusal.Wire WireError.Memory) }

@@ -7,7 +7,7 @@ use Rattle.keyspace.specs.declared.batch.Batch.{Batch}
 use Rattle.lane.specs.Lane.{PortView, IntakeView, HasEnded}
 use Rattle.wire.specs.declared.error.WireError.{WireError}
 use Rattle.replay_output.specs.declared.line.Line.{Line}
-use Rattle.replay_output.specs.declared.options.form.Form.{Form}
+use Rattle.replay_output.specs.declared.options.style.Style.{Style}
 use Rattle.replay_workers.specs.declared.worker.FileEnd.{FileEnd}
 use Rattle.replay_workers.specs.declared.worker.FileEnd.TheVariants.{Reached, Fault, Leaves}
 use Rattle.replay_workers.specs.declared.worker.Leftover.TheVariants.{CutShort, Worn}
@@ -54,15 +54,15 @@ sends_moved bytes bytes' before before' now now' fault fault' unsent unsent' a b
     (subst (λ (m : List Batch). SendsFrames bytes' m now fault unsent) b
     (subst (λ (y : Option (List ℕ)). SendsFrames y before now fault unsent) a sends))))
 
-pub keeps_moved : (form form' : Form) (proxy proxy' : ℕ) (before now now' : List Answer) (lines lines' : List Line)
-    (lost lost' : Bool) → form ≡ form' → proxy ≡ proxy' → now ≡ now' → lines ≡ lines' → lost ≡ lost'
-    → KeepsLines form proxy before now lines lost → KeepsLines form' proxy' before now' lines' lost'
-keeps_moved form form' proxy proxy' before now now' lines lines' lost lost' a b c d e keeps =
-    subst (λ (l : Bool). KeepsLines form' proxy' before now' lines' l) e
-    (subst (λ (l : List Line). KeepsLines form' proxy' before now' l lost) d
-    (subst (λ (n : List Answer). KeepsLines form' proxy' before n lines lost) c
-    (subst (λ (p : ℕ). KeepsLines form' p before now lines lost) b
-    (subst (λ (f : Form). KeepsLines f proxy before now lines lost) a keeps))))
+pub keeps_moved : (style style' : Style) (proxy proxy' : ℕ) (before now now' : List Answer) (lines lines' : List Line)
+    (lost lost' : Bool) → style ≡ style' → proxy ≡ proxy' → now ≡ now' → lines ≡ lines' → lost ≡ lost'
+    → KeepsLines style proxy before now lines lost → KeepsLines style' proxy' before now' lines' lost'
+keeps_moved style style' proxy proxy' before now now' lines lines' lost lost' a b c d e keeps =
+    subst (λ (l : Bool). KeepsLines style' proxy' before now' lines' l) e
+    (subst (λ (l : List Line). KeepsLines style' proxy' before now' l lost) d
+    (subst (λ (n : List Answer). KeepsLines style' proxy' before n lines lost) c
+    (subst (λ (p : ℕ). KeepsLines style' p before now lines lost) b
+    (subst (λ (f : Style). KeepsLines f proxy before now lines lost) a keeps))))
 
 -- if these are the first batches that were sent, with the one left over they aren't the same
 pub none_left : (batches held rest : List Batch) (unsent : Option Batch) → batches ≡ held ++ rest

@@ -31,5 +31,5 @@ returns-in_err-records-clause-refused c = λ text is.
     let refused = c.records_of.ensures.refused text was c.in-Some-is_streamed.ensures.stream in
     let count : length files ≡ length names = sym (length-map files (λ (v : Bor (List ℕ)). v.now)) in
     let none = subst (λ (n : ℕ). ¬ (HasRecords n found)) count refused.1 in
-    inr (inr (inr (inr (inr (inr (inr (subst (λ (rows : List Row). ¬ (HasRecordsEach rows)) c.in_ok-matches.ensures.rows
-    (no_records_each found names c.in-Some-files_of.ensures.files refused.0 none))))))))
+    inr (inr (inr (inr (inr (inr (inr (inl (subst (λ (rows : List Row). ¬ (HasRecordsEach rows)) c.in_ok-matches.ensures.rows
+    (no_records_each found names c.in-Some-files_of.ensures.files refused.0 none)))))))))

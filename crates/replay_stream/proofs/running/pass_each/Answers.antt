@@ -3,7 +3,7 @@ use Rattle.std.proofs.lemmas.Bool.{false≢true}
 use Rattle.std.proofs.lemmas.Grind.{common_steps}
 use Rattle.std.proofs.lemmas.List.{length-map}
 use Rattle.std.proofs.lemmas.Option.{slice_get_within}
-use Rattle.replay_output.specs.declared.options.form.Form.{Form}
+use Rattle.replay_output.specs.declared.options.style.Style.{Style}
 use Rattle.replay_stream.specs.declared.proxies.Proxy.{Proxy}
 use Rattle.replay_stream.specs.Outlet.{PassesSome}
 use Rattle.replay_stream.specs.Proxies.{outlets_of}
@@ -23,14 +23,14 @@ loop-proxy-preserved g c =
     let inside : i < length proxies = first_of (search rules, grind (arith, common_steps)) in
     let passes = c.pass.ensures.passes in
     record {
-      form = c.pass.ensures.form ∙ so_far.form;
+      style = c.pass.ensures.style ∙ so_far.style;
       numbered = numbered_stay proxies i d x inside so_far.numbered passes.goes_on.proxy;
       threads = threads_stay proxies i d x inside ∙ so_far.threads;
-      streams = streams_at proxies i d x inside c.args.printer.now.form c.args.printer.now.failed c.loop-proxy.printer.failed
+      streams = streams_at proxies i d x inside c.args.printer.now.style c.args.printer.now.failed c.loop-proxy.printer.failed
           c.pass.new.printer.failed (state c.args.out.now) (state c.loop-proxy.out) (state c.pass.new.out)
           (outlets_of c.args.proxies.now) so_far.numbered so_far.streams
-          (subst (λ (f : Form). PassesSome f c.loop-proxy.printer.failed c.pass.new.printer.failed (state c.loop-proxy.out)
-          (state c.pass.new.out) (here proxies i d x inside).outlet x) so_far.form passes);
+          (subst (λ (f : Style). PassesSome f c.loop-proxy.printer.failed c.pass.new.printer.failed (state c.loop-proxy.out)
+          (state c.pass.new.out) (here proxies i d x inside).outlet x) so_far.style passes);
       passed = elim c.match-pass.branch [
         | in-Ended w ↦ λ on.
             passed_to proxies i d x inside (so_far.passed (sym w.ended-is ∙ on)) (c.pass.ensures.ended w.in-Ended.is)

@@ -8,11 +8,11 @@ use Rattle.replay_stream.proofs.running.pass_each.Given as goal
 
 abbrev pub invariant-loop-proxy : goal.invariant-loop-proxy
 invariant-loop-proxy g l = record {
-  form : l.printer.form ≡ l.initial.printer.form;
+  style : l.printer.style ≡ l.initial.printer.style;
   numbered : AreNumbered (outlets_of l.proxies);
   threads : map threads_of l.proxies ≡ map threads_of l.initial.proxies;
   streams :
-      StreamsOn l.initial.printer.form l.initial.printer.failed l.printer.failed
+      StreamsOn l.initial.printer.style l.initial.printer.failed l.printer.failed
       (state_by g.O.Sink.given g.O.Sink.failures l.initial.out) (state_by g.O.Sink.given g.O.Sink.failures l.out)
       (outlets_of l.initial.proxies) (outlets_of l.proxies);
   passed : l.ended ≡ true → (q : ℕ) (m : Outlet) → q < l.proxy → slice_get (outlets_of l.proxies) q ≡ Some m → HasPassedAll m;

@@ -79,7 +79,7 @@ join_all-streamed-requires-clause-ends g c =
     sym (length-map ended threads_of) ∙ ap length turned ∙ length-map started threads_of in
     let back = written_back c.in_ok-proxies.proxies.len ended started count c.in_ok-proxies.proxies.ok.0 in
     let state = state_by g.O.Sink.given g.O.Sink.failures in
-    let form = c.new-printer.result.form in
+    let style = c.new-printer.result.style in
     let has_failed = c.turn_to_end.new.printer.failed in
     let before = state c.args.out.now in
     let after = state c.turn_to_end.new.out in
@@ -87,15 +87,15 @@ join_all-streamed-requires-clause-ends g c =
     let fresh = c.in_ok-tasks.ensures.new in
     let threads = turned ∙ c.in_ok-proxies.ensures.threads in
     let streams = c.turn_to_end.ensures.streams c.new-printer.result.failed before first
-    (stream_same form c.new-printer.result.failed before first) in
-    let goes : StreamGoesOn form false has_failed before after (map (λ (t : Task g.row.S.Denot g.row.W.Denot g.row.G.Denot). t.outlet) tasks)
+    (stream_same style c.new-printer.result.failed before first) in
+    let goes : StreamGoesOn style false has_failed before after (map (λ (t : Task g.row.S.Denot g.row.W.Denot g.row.G.Denot). t.outlet) tasks)
     (outlets_of ended) =
-    subst (λ (l : List Outlet). StreamGoesOn form false has_failed before after l (outlets_of ended))
+    subst (λ (l : List Outlet). StreamGoesOn style false has_failed before after l (outlets_of ended))
     (ap outlets_of c.deref_mut.ensures.value ∙ c.in_ok-proxies.ensures.outlets)
-    (subst (λ (f : Bool). StreamGoesOn form f has_failed before after first (outlets_of ended)) c.new-printer.ensures.failed streams) in
+    (subst (λ (f : Bool). StreamGoesOn style f has_failed before after first (outlets_of ended)) c.new-printer.ensures.failed streams) in
     let passed = c.turn_to_end.ensures.passed in
     All-same (λ (p : Proxy g.row.S.Denot g.row.W.Denot). AreEnds p.outlet.records (threads_of p).answers) _ _ back
-    (ends_each readers outs clients tasks same as_many given form has_failed before after ended fresh threads goes passed)
+    (ends_each readers outs clients tasks same as_many given style has_failed before after ended fresh threads goes passed)
 
 pub join_all-streamed-requires-clause-passed : goal.join_all-streamed-requires-clause-passed
 join_all-streamed-requires-clause-passed g c =
@@ -130,7 +130,7 @@ settle-account-requires g c =
     sym (length-map ended threads_of) ∙ ap length turned ∙ length-map started threads_of in
     let back = written_back c.in_ok-proxies.proxies.len ended started count c.in_ok-proxies.proxies.ok.0 in
     let state = state_by g.O.Sink.given g.O.Sink.failures in
-    let form = c.new-printer.result.form in
+    let style = c.new-printer.result.style in
     let has_failed = c.turn_to_end.new.printer.failed in
     let before = state c.args.out.now in
     let after = state c.turn_to_end.new.out in
@@ -138,12 +138,12 @@ settle-account-requires g c =
     let fresh = c.in_ok-tasks.ensures.new in
     let threads = turned ∙ c.in_ok-proxies.ensures.threads in
     let streams = c.turn_to_end.ensures.streams c.new-printer.result.failed before first
-    (stream_same form c.new-printer.result.failed before first) in
-    let goes : StreamGoesOn form false has_failed before after (map (λ (t : Task g.row.S.Denot g.row.W.Denot g.row.G.Denot). t.outlet) tasks)
+    (stream_same style c.new-printer.result.failed before first) in
+    let goes : StreamGoesOn style false has_failed before after (map (λ (t : Task g.row.S.Denot g.row.W.Denot g.row.G.Denot). t.outlet) tasks)
     (outlets_of ended) =
-    subst (λ (l : List Outlet). StreamGoesOn form false has_failed before after l (outlets_of ended))
+    subst (λ (l : List Outlet). StreamGoesOn style false has_failed before after l (outlets_of ended))
     (ap outlets_of c.deref_mut.ensures.value ∙ c.in_ok-proxies.ensures.outlets)
-    (subst (λ (f : Bool). StreamGoesOn form f has_failed before after first (outlets_of ended)) c.new-printer.ensures.failed streams) in
+    (subst (λ (f : Bool). StreamGoesOn style f has_failed before after first (outlets_of ended)) c.new-printer.ensures.failed streams) in
     let passed = c.turn_to_end.ensures.passed in
     let joined = c.join_all-streamed.ensures.joined in
     let records = state_by g.W.Sink.given g.W.Sink.failures in
@@ -153,7 +153,7 @@ settle-account-requires g c =
       clients = subst (λ (clients : List Client). AreClients lanes clients) (sym (c.as_mut_slice.ensures.value ∙ joined.2.clients))
           (clients_go_on c.in_ok-resolver.resolver.lanes lanes clients (map client_of joined.0) c.in_ok-resolver.ensures.clients
           c.turn_to_end.ensures.lanes
-          (clients_joined readers outs clients tasks same as_many given form has_failed before after ended fresh threads goes passed g.S.Source.remaining records joined.0 worked));
+          (clients_joined readers outs clients tasks same as_many given style has_failed before after ended fresh threads goes passed g.S.Source.remaining records joined.0 worked));
     }
 
 pub returns : goal.returns
@@ -172,7 +172,7 @@ returns g c =
     sym (length-map ended threads_of) ∙ ap length turned ∙ length-map started threads_of in
     let back = written_back c.in_ok-proxies.proxies.len ended started count c.in_ok-proxies.proxies.ok.0 in
     let state = state_by g.O.Sink.given g.O.Sink.failures in
-    let form = c.new-printer.result.form in
+    let style = c.new-printer.result.style in
     let has_failed = c.turn_to_end.new.printer.failed in
     let before = state c.args.out.now in
     let after = state c.turn_to_end.new.out in
@@ -180,12 +180,12 @@ returns g c =
     let fresh = c.in_ok-tasks.ensures.new in
     let threads = turned ∙ c.in_ok-proxies.ensures.threads in
     let streams = c.turn_to_end.ensures.streams c.new-printer.result.failed before first
-    (stream_same form c.new-printer.result.failed before first) in
-    let goes : StreamGoesOn form false has_failed before after (map (λ (t : Task g.row.S.Denot g.row.W.Denot g.row.G.Denot). t.outlet) tasks)
+    (stream_same style c.new-printer.result.failed before first) in
+    let goes : StreamGoesOn style false has_failed before after (map (λ (t : Task g.row.S.Denot g.row.W.Denot g.row.G.Denot). t.outlet) tasks)
     (outlets_of ended) =
-    subst (λ (l : List Outlet). StreamGoesOn form false has_failed before after l (outlets_of ended))
+    subst (λ (l : List Outlet). StreamGoesOn style false has_failed before after l (outlets_of ended))
     (ap outlets_of c.deref_mut.ensures.value ∙ c.in_ok-proxies.ensures.outlets)
-    (subst (λ (f : Bool). StreamGoesOn form f has_failed before after first (outlets_of ended)) c.new-printer.ensures.failed streams) in
+    (subst (λ (f : Bool). StreamGoesOn style f has_failed before after first (outlets_of ended)) c.new-printer.ensures.failed streams) in
     let passed = c.turn_to_end.ensures.passed in
     let joined = c.join_all-streamed.ensures.joined in
     let records = state_by g.W.Sink.given g.W.Sink.failures in
@@ -203,7 +203,7 @@ returns g c =
     (c.settle-account.ensures.settled (negsuc 0) told.log told.stands) in
     let settled = subst (λ (back : List Client). Settled c.args.options.window told.log resolver.lanes back account)
     handed_back windowed in
-    let all_ended = clients_ended readers outs clients tasks same as_many given form has_failed before after ended fresh threads goes passed g.S.Source.remaining records joined.0 worked in
+    let all_ended = clients_ended readers outs clients tasks same as_many given style has_failed before after ended fresh threads goes passed g.S.Source.remaining records joined.0 worked in
     let whole : account.stop ≡ None → account.complete ≡ true = λ none.
     c.settle-account.ensures.complete.1 (record {
       no_stop = sym c.settle-account.ensures.stop ∙ none;
@@ -222,14 +222,14 @@ returns g c =
       run = subst (λ (failed : Bool). IsStreamed c.args.options (map g.S.Source.remaining readers) (map is_some outs) before after failed
           streamed.failures.items (recorded_each records outs streamed.recorders.items) (account.complete && streamed.all_sent) account.stop)
           (sym c.join_all-streamed.ensures.failed)
-          (is_streamed readers outs clients tasks same as_many given form has_failed before after ended fresh threads goes passed
-          g.S.Source.remaining records joined.0 worked c.args.options c.new-printer.ensures.form told.log resolver.lanes account streamed
+          (is_streamed readers outs clients tasks same as_many given style has_failed before after ended fresh threads goes passed
+          g.S.Source.remaining records joined.0 worked c.args.options c.new-printer.ensures.style told.log resolver.lanes account streamed
           c.in_ok-resolver.ensures.new_clients settled whole joined.2 met);
       unwritten =
           joined.2.unwritten ∙ sym (map-map cause (λ (j : Joined g.row.W.Denot). j.recorder) joined.0)
           ∙ ap (map cause) (sym joined.2.recorders);
       recorders =
-          have_recorders readers outs clients tasks same as_many given form has_failed before after ended fresh threads goes passed
+          have_recorders readers outs clients tasks same as_many given style has_failed before after ended fresh threads goes passed
           g.S.Source.remaining records joined.0 worked streamed.recorders.items joined.2.recorders;
       nothing = tt;
     }

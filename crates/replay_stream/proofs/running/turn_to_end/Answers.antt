@@ -19,13 +19,13 @@ loop-preserved-in-Ok-Took g c =
           c.turn.ensures.gate_full c.turn.ensures.arena_full (c.loop.invariant.accounted first);
       goes_on = core_goes_on _ c.loop.resolver.core _ c.loop.invariant.goes_on c.turn.ensures.goes_on;
       lanes = lanes_go_on _ c.loop.resolver.lanes _ c.loop.invariant.lanes c.turn.ensures.lanes;
-      form = round.form ∙ c.loop.invariant.form;
+      style = round.style ∙ c.loop.invariant.style;
       numbered = round.numbered;
       threads = round.threads ∙ c.loop.invariant.threads;
-      streams = streams_then c.args.printer.now.form c.loop.printer.form c.args.printer.now.failed c.loop.printer.failed
+      streams = streams_then c.args.printer.now.style c.loop.printer.style c.args.printer.now.failed c.loop.printer.failed
           c.pass_each-ended.new.printer.failed (state c.args.out.now) (state c.loop.out) (state c.pass_each-ended.new.out)
           (outlets_of c.args.proxies.now) (outlets_of c.loop.proxies) (outlets_of c.pass_each-ended.new.proxies)
-          c.loop.invariant.form c.loop.invariant.streams round.streams;
+          c.loop.invariant.style c.loop.invariant.streams round.streams;
     }
 
 pub loop-preserved-in-Ok-Idle : goal.loop-preserved-in-Ok-Idle
@@ -40,13 +40,13 @@ loop-preserved-in-Ok-Idle g c =
           c.turn.ensures.gate_full c.turn.ensures.arena_full (c.loop.invariant.accounted first);
       goes_on = core_goes_on _ c.loop.resolver.core _ c.loop.invariant.goes_on c.turn.ensures.goes_on;
       lanes = lanes_go_on _ c.loop.resolver.lanes _ c.loop.invariant.lanes c.turn.ensures.lanes;
-      form = round.form ∙ c.loop.invariant.form;
+      style = round.style ∙ c.loop.invariant.style;
       numbered = round.numbered;
       threads = round.threads ∙ c.loop.invariant.threads;
-      streams = streams_then c.args.printer.now.form c.loop.printer.form c.args.printer.now.failed c.loop.printer.failed
+      streams = streams_then c.args.printer.now.style c.loop.printer.style c.args.printer.now.failed c.loop.printer.failed
           c.pass_each-ended.new.printer.failed (state c.args.out.now) (state c.loop.out) (state c.pass_each-ended.new.out)
           (outlets_of c.args.proxies.now) (outlets_of c.loop.proxies) (outlets_of c.pass_each-ended.new.proxies)
-          c.loop.invariant.form c.loop.invariant.streams round.streams;
+          c.loop.invariant.style c.loop.invariant.streams round.streams;
     }
 
 pub loop-preserved-in-Ok-Done : goal.loop-preserved-in-Ok-Done
@@ -61,13 +61,13 @@ loop-preserved-in-Ok-Done g c =
           c.turn.ensures.gate_full c.turn.ensures.arena_full (c.loop.invariant.accounted first);
       goes_on = core_goes_on _ c.loop.resolver.core _ c.loop.invariant.goes_on c.turn.ensures.goes_on;
       lanes = lanes_go_on _ c.loop.resolver.lanes _ c.loop.invariant.lanes c.turn.ensures.lanes;
-      form = round.form ∙ c.loop.invariant.form;
+      style = round.style ∙ c.loop.invariant.style;
       numbered = round.numbered;
       threads = round.threads ∙ c.loop.invariant.threads;
-      streams = streams_then c.args.printer.now.form c.loop.printer.form c.args.printer.now.failed c.loop.printer.failed
+      streams = streams_then c.args.printer.now.style c.loop.printer.style c.args.printer.now.failed c.loop.printer.failed
           c.pass_each-ended.new.printer.failed (state c.args.out.now) (state c.loop.out) (state c.pass_each-ended.new.out)
           (outlets_of c.args.proxies.now) (outlets_of c.loop.proxies) (outlets_of c.pass_each-ended.new.proxies)
-          c.loop.invariant.form c.loop.invariant.streams round.streams;
+          c.loop.invariant.style c.loop.invariant.streams round.streams;
     }
 
 pub loop-preserved : goal.loop-preserved
@@ -82,13 +82,13 @@ loop-preserved g c =
           c.turn.ensures.gate_full c.turn.ensures.arena_full (c.loop.invariant.accounted first);
       goes_on = core_goes_on _ c.loop.resolver.core _ c.loop.invariant.goes_on c.turn.ensures.goes_on;
       lanes = lanes_go_on _ c.loop.resolver.lanes _ c.loop.invariant.lanes c.turn.ensures.lanes;
-      form = round.form ∙ c.loop.invariant.form;
+      style = round.style ∙ c.loop.invariant.style;
       numbered = round.numbered;
       threads = round.threads ∙ c.loop.invariant.threads;
-      streams = streams_then c.args.printer.now.form c.loop.printer.form c.args.printer.now.failed c.loop.printer.failed
+      streams = streams_then c.args.printer.now.style c.loop.printer.style c.args.printer.now.failed c.loop.printer.failed
           c.pass_each-ended.new.printer.failed (state c.args.out.now) (state c.loop.out) (state c.pass_each-ended.new.out)
           (outlets_of c.args.proxies.now) (outlets_of c.loop.proxies) (outlets_of c.pass_each-ended.new.proxies)
-          c.loop.invariant.form c.loop.invariant.streams round.streams;
+          c.loop.invariant.style c.loop.invariant.streams round.streams;
     }
 
 pub returns-then-ended-clause-lanes : goal.returns-then-ended-clause-lanes

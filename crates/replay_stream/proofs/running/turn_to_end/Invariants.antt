@@ -15,11 +15,11 @@ invariant-loop g l = record {
   accounted : IsAccountedFor l.fn.resolver → IsAccountedFor l.resolver;
   goes_on : GoesOn l.fn.resolver.core l.resolver.core;
   lanes : Each (λ _ l m. LanesGoOn l m) l.fn.resolver.lanes l.resolver.lanes;
-  form : l.printer.form ≡ l.fn.printer.form;
+  style : l.printer.style ≡ l.fn.printer.style;
   numbered : AreNumbered (outlets_of l.proxies);
   threads : map threads_of l.proxies ≡ map threads_of l.fn.proxies;
   streams :
-      StreamsOn l.fn.printer.form l.fn.printer.failed l.printer.failed
+      StreamsOn l.fn.printer.style l.fn.printer.failed l.printer.failed
       (state_by g.O.Sink.given g.O.Sink.failures l.fn.out) (state_by g.O.Sink.given g.O.Sink.failures l.out)
       (outlets_of l.fn.proxies) (outlets_of l.proxies);
 }
