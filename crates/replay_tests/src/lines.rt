@@ -130,13 +130,21 @@ fn answers_as_json(rt: HostRuntime) -> Result<(), Fail> {
 #[test]
 fn filtered_lines(rt: HostRuntime) -> Result<(), Fail> {
     for (given, shown, hidden) in [
-        ("--only conflict f", "5 committed conflict:0", "5 committed tooold"),
+        (
+            "--only conflict f",
+            "5 committed conflict:0",
+            "5 committed tooold",
+        ),
         ("--only tooold f", "5 tooold", "5 never"),
         ("--only committed f", "5 conflict committed", "5 held"),
         ("--versions 5..7 f", "6 held", "7 held"),
         ("--versions 5.. f", "5 never", "4 empty"),
         ("--versions ..5 f", "4 empty", "5 empty"),
-        ("--only conflict --versions 5.. f", "5 conflict", "4 conflict"),
+        (
+            "--only conflict --versions 5.. f",
+            "5 conflict",
+            "4 conflict",
+        ),
         ("--versions .. f", "5 empty", ""),
         ("--quiet f", "", "5 committed"),
     ] {
