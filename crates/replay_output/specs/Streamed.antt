@@ -1,5 +1,5 @@
 -- What is printed of answers as they come: their lines, those of each proxy in order. This project's own.
-use Rattle.std.specs.Prelude.{ℕ, ◌==◌, if◌then◌else◌, List, [], ◌∷◌, ◌++◌}
+use Rattle.std.specs.Prelude.{ℕ, ◌==◌, if◌then◌else◌, List, [], ◌∷◌}
 use Rattle.std.specs.List.{flat_map}
 use Rattle.keyspace.specs.declared.answer.Answer.{Answer}
 use Rattle.replay_output.specs.declared.options.style.Style.{Style}

@@ -1,23 +1,10 @@
 -- If the numbers of a summary fit in 64 bits, so do those of the summary of its first answers.
-use Rattle.std.specs.Prelude.{◌≡◌, ℕ, ◌+◌, ◌≤◌, ◌<◌, ◌^◌, Bool, List, [], ◌++◌, length, take, drop, sum_by, Option, Some, None, IfNone}
-use Rattle.std.proofs.Common.{refl, sym, ap, subst, ◌∙◌, arith, length-append}
+use Rattle.std.specs.Prelude.{◌≡◌, ℕ, ◌+◌, ◌≤◌, ◌<◌, ◌^◌, Bool, List, [], length, take, drop, sum_by, Option, Some, None, IfNone}
+use Rattle.std.proofs.Common.{ap, ◌∙◌, arith, length-append}
 use Rattle.std.proofs.lemmas.List.Sums.{sum_by-append, sum_by-take-le}
 use Rattle.replay_summary.specs.declared.counted.Counted.{Counted}
 use Rattle.replay_summary.specs.declared.summary.Summary.{Summary}
-use Rattle.replay_summary.specs.Summary.{
-  Fits,
-  first_replies,
-  is_first,
-  is_repeat,
-  repeats,
-  says_held,
-  says_never,
-  selected,
-  summary_of,
-  total_of,
-  transactions_in,
-  verdicts,
-}
+use Rattle.replay_summary.specs.Summary.{Fits, is_first, is_repeat, selected, summary_of, total_of, transactions_in, verdicts}
 use Rattle.replay_summary.proofs.Selecting.{selected-split}
 
 module _ {X : Type 0} (test : List X → X → Bool) (xs : List X) (k : ℕ) where

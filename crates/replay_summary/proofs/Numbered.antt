@@ -1,6 +1,6 @@
 -- The text of items with their numbers, one more item.
 use Rattle.std.specs.Prelude.{◌≡◌, ℕ, zero, suc, ◌+◌, ◌<◌, List, [], ◌∷◌, ◌++◌, length, take, slice_index_or as get_or}
-use Rattle.std.proofs.Common.{refl, sym, ap, ◌∙◌, append_assoc, append-nil, add-one, add-zero, arith}
+use Rattle.std.proofs.Common.{sym, ap, ◌∙◌, append_assoc, append-nil, add-one, add-zero, arith}
 use Rattle.std.specs.List.{flat_map, enumerate_from}
 
 module _ {X A : Type 0} (text_of : ℕ × X → List A) where

@@ -1,6 +1,6 @@
 -- Of answers in order of versions, none before an answer is above it.
 use Rattle.std.specs.Prelude.{◌≡◌, ℕ, zero, suc, ◌<◌, ℤ, ◌≤ℤ◌, int_lt, Bool, true, false, cond, List, [], ◌∷◌, filter, map, take, length, slice_index_or as get_or}
-use Rattle.std.proofs.Common.{refl, arith}
+use Rattle.std.proofs.Common.{arith}
 use Rattle.std.proofs.lemmas.Int.{ints}
 use Rattle.checking.specs.InOrder.{NoneBefore, Rise}
 use Rattle.replay_summary.specs.declared.counted.Counted.{Counted}

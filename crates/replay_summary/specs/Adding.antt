@@ -1,8 +1,7 @@
 -- How a summary changes by one more answer. This project's own.
-use Rattle.std.specs.Prelude.{ℕ, ◌+◌, ℤ, Bool, true, false, List, Option, None, Some}
+use Rattle.std.specs.Prelude.{◌+◌, ℤ, Bool, true, false, Option, None, Some}
 use Rattle.std.specs.Ordering.{int_eq}
 use Rattle.replay_summary.specs.declared.counts.Counts.{Counts}
-use Rattle.replay_summary.specs.declared.counted.Counted.{Counted}
 use Rattle.replay_summary.specs.declared.counted.Outcome.{Outcome}
 use Rattle.replay_summary.specs.declared.counted.Outcome.TheVariants.{Replied, Never, Held}
 use Rattle.replay_summary.specs.declared.summary.Summary.{Summary}

@@ -1,5 +1,5 @@
 -- Answers with their verdicts counted. This project's own.
-use Rattle.std.specs.Prelude.{ℕ, ℤ, Bool, true, false, List, count_by}
+use Rattle.std.specs.Prelude.{ℤ, Bool, count_by}
 use Rattle.keyspace.specs.declared.answer.Answer.{Answer}
 use Rattle.keyspace.specs.declared.answer.Answer.TheVariants as answer
 use Rattle.keyspace.specs.declared.reply.Reply.{Reply}

@@ -1,10 +1,9 @@
 -- A run, put together of what each worker has done and of what was settled.
 use Rattle.std.specs.Prelude.{◌≡◌, ℕ, Bool, true, false, ◌&&◌, List, length, map, Option, Some, None, IfSome, slice_get, vec_items}
-use Rattle.std.specs.Option.{option_map}
 use Rattle.std.specs.List.{AllZip, All}
 use Rattle.std.proofs.Common.{sym, ap, subst, ◌∙◌, arith}
 use Rattle.std.proofs.lemmas.List.{length-map}
-use Rattle.std.proofs.lemmas.Option.{same_Some, slice_get-map}
+use Rattle.std.proofs.lemmas.Option.{same_Some}
 use Rattle.keyspace.specs.Run.{Step}
 use Rattle.resolver.specs.declared.client.Client.{Client}
 use Rattle.resolver.specs.declared.turn.Account.{Account}

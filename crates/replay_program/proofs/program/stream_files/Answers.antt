@@ -1,4 +1,4 @@
-use Rattle.std.proofs.Common.{◌∙◌, ◌≡◌, List, ℕ, Bor, ap, map, length, refl, subst, sym, Err, inl, inr, arith}
+use Rattle.std.proofs.Common.{◌∙◌, ◌≡◌, List, ℕ, Bor, ap, map, refl, subst, Err, inl, inr, arith}
 use Rattle.std.proofs.lemmas.List.{length-map}
 use Rattle.replay_output.specs.declared.start.StartError.TheVariants as start
 use Rattle.replay_arguments.specs.Opening.{IsFirstRefused, contents_each}

@@ -1,4 +1,4 @@
-use Rattle.std.proofs.Common.{◌≡◌, List, map, take, vec_items}
+use Rattle.std.proofs.Common.{◌≡◌, map, take, vec_items}
 use Rattle.replay_summary.specs.Summary.{summary_of}
 use Rattle.replay_summary.proofs.all.summarize_all.Given as goal
 

@@ -1,9 +1,7 @@
-use Rattle.std.proofs.Common.{◌≡◌, ◌+◌, ℤ, Bool, map, take, refl, sym, ap, subst, ◌∙◌, arith, w64, SFits, rules}
+use Rattle.std.proofs.Common.{◌+◌, ℤ, sym, ap, subst, ◌∙◌, arith, w64, SFits, rules}
 use Rattle.std.proofs.lemmas.Int.{to_z-of_z}
-use Rattle.replay_summary.specs.declared.counted.Counted.{Counted}
-use Rattle.replay_summary.specs.declared.summary.Summary.{Summary}
-use Rattle.replay_summary.specs.Adding.{is_last, part, plus}
-use Rattle.replay_summary.specs.Summary.{Fits, summary_of}
+use Rattle.replay_summary.specs.Adding.{is_last}
+use Rattle.replay_summary.specs.Summary.{Fits}
 use Rattle.replay_summary.proofs.Fitting.{if_none}
 use Rattle.replay_summary.proofs.Told.{fits_told, next_told}
 use Rattle.replay_summary.proofs.one.summarize.Goals as goal

@@ -2,7 +2,7 @@ use Rattle.std.proofs.Common.{ℕ, List, ◌++◌, sym, ap, ◌∙◌, arith}
 use Rattle.replay_summary.specs.Adding.{nothing}
 use Rattle.replay_summary.specs.Text.{proxy_object}
 use Rattle.replay_summary.proofs.Appending.{append_then}
-use Rattle.replay_summary.proofs.Numbered.{numbered-more, text_from}
+use Rattle.replay_summary.proofs.Numbered.{numbered-more}
 use Rattle.replay_summary.proofs.text.json.put_proxies.Goals as goal
 
 pub loop-proxy-preserved : goal.loop-proxy-preserved

@@ -2,7 +2,7 @@ use Rattle.std.proofs.Common.{ℕ, List, ◌++◌, sym, ap, ◌∙◌, arith}
 use Rattle.replay_summary.specs.Adding.{nothing}
 use Rattle.replay_summary.specs.Text.{proxy_line}
 use Rattle.replay_summary.proofs.Appending.{append_then}
-use Rattle.replay_summary.proofs.Numbered.{numbered-more, text_from}
+use Rattle.replay_summary.proofs.Numbered.{numbered-more}
 use Rattle.replay_summary.proofs.text.words.put_lines.Goals as goal
 
 pub loop-proxy-preserved : goal.loop-proxy-preserved
