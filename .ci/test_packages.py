@@ -51,7 +51,8 @@ class Files(unittest.TestCase):
         self.assertLessEqual(len(lines), most, paths)
 
     def test_headers(self) -> None:
-        for path in ("archcaraway.hpp", "archcaraway_frames.hpp", "archcaraway_shards.hpp"):
+        for path in ("archcaraway.h", "archcaraway_batches.h", "archcaraway_shards.h",
+                     "archcaraway.hpp", "archcaraway_frames.hpp", "archcaraway_shards.hpp"):
             self.assert_few(f"include/{path}")
 
     def test_replays(self) -> None:

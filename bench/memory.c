@@ -56,7 +56,9 @@ static void boundaries(bool rising, bool single, size_t length, int64_t batches)
         DEMAND(archcaraway_set_resolve(&set, writer.bytes, writer.length, reply, sizeof reply, &size) == 0);
     }
     uint64_t count = archcaraway_set_boundaries(&set);
-    printf("%llu boundaries, %.0f bytes per boundary\n", (unsigned long long)count, (double)(resident() - before) / (double)count);
+    double grown = (double)(resident() - before), reported = (double)archcaraway_set_bytes_held(&set);
+    printf("%llu boundaries, %.0f bytes per boundary, of which the set reports %.0f\n", (unsigned long long)count,
+           grown / (double)count, reported / (double)count);
 }
 
 static void replies(int64_t batches, int transactions, bool acknowledged) {

@@ -14,6 +14,8 @@ _replay() {
                 ' --capacity') wanted=OTHER ;;
                 ' --window') wanted=OTHER ;;
                 ' --limit') wanted=OTHER ;;
+                ' --only') wanted='committed conflict tooold' ;;
+                ' --versions') wanted=OTHER ;;
                 ' --check') wanted=FILE ;;
                 ' --replies') wanted=FILE ;;
                 *) ;;
@@ -27,7 +29,7 @@ _replay() {
         :
     elif [[ ! $ended && $current == -* ]]; then
         case $command in
-            '') wanted='--capacity --window --limit --frames --json --check --stream --replies -h --help -V --version' ;;
+            '') wanted='--capacity --window --limit --frames --json --quiet --only --versions --check --stream --replies -h --help -V --version' ;;
             *) wanted=OTHER ;;
         esac
     else

@@ -213,6 +213,23 @@ typedef struct archcaraway_stats {
 /* Fills in the stats of a set. Statuses: OK, ARGUMENT. */
 int archcaraway_set_stats(const archcaraway_set *set, archcaraway_stats *stats);
 
+/*
+ * Returns about how many bytes of memory the set has used for its boundaries and its filter of
+ * single keys. Memory of removed boundaries counts until archcaraway_set_trim. What is kept from
+ * batch to batch and what malloc adds don't count. 0 if there is no set.
+ */
+uint64_t archcaraway_set_bytes_held(const archcaraway_set *set);
+
+/*
+ * Frees memory that the set doesn't need for its boundaries: it copies these into new memory, and
+ * frees what they had and what is kept from batch to batch. Call it when a set keeps far fewer
+ * boundaries than it did. It takes about as long as writing each of them once.
+ *
+ * Statuses: OK; ARGUMENT; FRAME_MEMORY if an allocation failed. The set is as before with every
+ * status. A set that has stopped can be trimmed too, and stays stopped.
+ */
+int archcaraway_set_trim(archcaraway_set *set);
+
 /* Frees a set, and empties the handle. Does nothing for no handle and for null. */
 void archcaraway_set_free(archcaraway_set *set);
 
@@ -285,158 +302,17 @@ int archcaraway_core_next(const archcaraway_core *core, uint32_t *proxy);
 /* Fills in the stats of a core. Statuses: OK, ARGUMENT. */
 int archcaraway_core_stats(const archcaraway_core *core, archcaraway_stats *stats);
 
+/*
+ * Returns the bytes of the core's set, as archcaraway_set_bytes_held. Batches held and answers owed
+ * don't count. 0 if there is no core.
+ */
+uint64_t archcaraway_core_bytes_held(const archcaraway_core *core);
+
 /* Returns the stop that the core has met, 1 to 3, or 0. ARGUMENT if there is no core. */
 int archcaraway_core_stop(const archcaraway_core *core);
 
 /* Frees a core, with all that it holds and owes. Does nothing for no handle and for null. */
 void archcaraway_core_free(archcaraway_core *core);
-
-/*
- * Batches without frames.
- *
- * Keys are borrowed: the library reads them during the call alone. A null pointer with the length 0
- * is the empty key.
- */
-typedef struct archcaraway_bytes {
-    const uint8_t *bytes;
-    size_t length;
-} archcaraway_bytes;
-
-/*
- * The range from `begin` up to `end`, without `end`. If `single` is true it is the key `begin`
- * alone, and `end` isn't looked at. So a range whose end was forgotten isn't taken for a single key.
- */
-typedef struct archcaraway_range {
-    archcaraway_bytes begin;
-    archcaraway_bytes end;
-    bool single;
-} archcaraway_range;
-
-/* A transaction: its read version and its ranges, at most ARCHCARAWAY_MAX_RANGES of each kind. */
-typedef struct archcaraway_txn {
-    int64_t snapshot;
-    const archcaraway_range *reads;
-    size_t read_count;
-    const archcaraway_range *writes;
-    size_t write_count;
-    bool report; /* asks for the report, which a core gives in its reply; judging doesn't */
-} archcaraway_txn;
-
-/* Transactions that may be given to sets and cores again and again: one pointer. */
-typedef struct archcaraway_batch {
-    void *at;
-} archcaraway_batch;
-
-/* Verdicts on transactions. */
-enum archcaraway_verdict {
-    ARCHCARAWAY_CONFLICT = 0,
-    ARCHCARAWAY_TOO_OLD = 1,
-    ARCHCARAWAY_COMMITTED = 2
-};
-
-/* The greatest number of transactions in a batch. */
-#define ARCHCARAWAY_MAX_TRANSACTIONS 4096
-/* The greatest number of read ranges, and of write ranges, in a transaction. */
-#define ARCHCARAWAY_MAX_RANGES 1024
-/* The greatest length of a begin or an end, in bytes. A single key is one byte shorter. */
-#define ARCHCARAWAY_MAX_KEY 10001
-
-/*
- * Judges `count` transactions as one batch at a version, after all batches that the set resolved
- * before, and remembers what it commits. Writes to `verdicts`, which has room for `count`, one of
- * archcaraway_verdict for each transaction.
- *
- * Statuses, of which the first that applies is returned:
- *  - ARGUMENT: also for a null pointer to ranges or to the bytes of a key, if there are any
- *  - the fault of the first transaction that has one: FRAME_VERSION (its snapshot is negative),
- *    FRAME_COUNT (it has too many ranges, or there are too many transactions), FRAME_KEY_LENGTH,
- *    FRAME_INVERTED. These are the faults that the frame of the batch would have
- *  - FRAME_MEMORY: an allocation failed before the batch was judged
- *  - the stop that the set has met (MEMORY, ARENA_FULL)
- *  - VERSION_LATE: the version is negative, or not above that of the batch resolved last
- *  - MEMORY and ARENA_FULL: the set stops now
- *  - OK
- * With ARGUMENT or a fault of a transaction, `*bad` is the index of the first bad transaction, else
- * `count`. `bad` may be null. After any status but OK and a stop the set is as before. The verdicts
- * don't change after any status but OK.
- */
-int archcaraway_set_judge(archcaraway_set *set, int64_t version, const archcaraway_txn *txns,
-                          size_t count, uint8_t *verdicts, size_t *bad);
-
-/*
- * Judges transactions as archcaraway_set_judge does. But if they don't fit the limit, they are
- * refused with ARENA_FULL, and the set is as before, as with archcaraway_set_try_resolve.
- */
-int archcaraway_set_try_judge(archcaraway_set *set, int64_t version, const archcaraway_txn *txns,
-                              size_t count, uint8_t *verdicts, size_t *bad);
-
-/*
- * Creates a batch of no transaction, and fills the handle. Free it with archcaraway_batch_free.
- *
- * Statuses: OK, MEMORY, ARGUMENT, PROCESSOR. With any status but OK the handle is one of zeros.
- */
-int archcaraway_batch_new(archcaraway_batch *batch);
-
-/*
- * Adds a transaction behind the others. The keys are copied.
- *
- * Statuses: OK, ARGUMENT, FRAME_VERSION, FRAME_COUNT, FRAME_KEY_LENGTH, FRAME_INVERTED,
- * FRAME_MEMORY, as archcaraway_set_judge. After any status but OK the batch is as before.
- */
-int archcaraway_batch_add(archcaraway_batch *batch, const archcaraway_txn *txn);
-
-/*
- * Appends the transactions of `other`, which another thread may have added, and which stay there.
- *
- * Statuses: OK; ARGUMENT, also if both are one batch; FRAME_COUNT if there would be too many
- * transactions; FRAME_MEMORY. After any status but OK the batch is as before.
- */
-int archcaraway_batch_append(archcaraway_batch *batch, archcaraway_batch *other);
-
-/* Removes the last transaction, if there is one. Its memory is kept until the batch is cleared. */
-void archcaraway_batch_drop_last(archcaraway_batch *batch);
-
-/* Removes all transactions. Their memory is kept for others. */
-void archcaraway_batch_clear(archcaraway_batch *batch);
-
-/* Returns how many more transactions may be added. 0 if there is no batch. */
-size_t archcaraway_batch_room(const archcaraway_batch *batch);
-
-/* Frees a batch, and empties the handle. Does nothing for no handle and for null. */
-void archcaraway_batch_free(archcaraway_batch *batch);
-
-/*
- * Judges the transactions of a batch, as archcaraway_set_judge does. `verdicts` has room for
- * `capacity` of them. The batch stays as it is.
- *
- * Statuses, of which the first that applies is returned: ARGUMENT; the stop that the set has met;
- * VERSION_LATE; BUFFER, if there is room for fewer verdicts than transactions; FRAME_MEMORY; the
- * stop that the set meets now; OK.
- */
-int archcaraway_set_judge_batch(archcaraway_set *set, int64_t version, archcaraway_batch *batch,
-                                uint8_t *verdicts, size_t capacity);
-
-/*
- * Judges the transactions of a batch as archcaraway_set_judge_batch does. But if they don't fit the
- * limit, they are refused with ARENA_FULL, and the set is as before.
- */
-int archcaraway_set_try_judge_batch(archcaraway_set *set, int64_t version,
-                                    archcaraway_batch *batch, uint8_t *verdicts, size_t capacity);
-
-/*
- * Takes the transactions of a batch from a proxy, as the batch of these versions: as
- * archcaraway_core_admit does of a frame. The batch stays as it is.
- *
- * Statuses, of which the first that applies is returned:
- *  - ARGUMENT: null, or no such proxy
- *  - the stop that the core has met (MEMORY, GATE_FULL, ARENA_FULL)
- *  - ARGUMENT: no batch may have these versions
- *  - FRAME_MEMORY: an allocation failed before the batch was taken
- *  - the stop that the core meets now
- *  - OK
- */
-int archcaraway_core_admit_batch(archcaraway_core *core, uint32_t proxy, archcaraway_batch *batch,
-                                 int64_t previous, int64_t version, int64_t received);
 
 /* The former name of archcaraway_status_text. */
 static inline const char *archcaraway_text(int status) { return archcaraway_status_text(status); }
@@ -463,6 +339,8 @@ int32_t archcaraway_export_set_try_resolve(archcaraway_set set, const uint8_t *f
                                            uint8_t *reply, size_t capacity, size_t *reply_length,
                                            void **at);
 uint64_t archcaraway_export_set_boundaries(archcaraway_set set, void **at);
+uint64_t archcaraway_export_set_bytes_held(archcaraway_set set, void **at);
+int32_t archcaraway_export_set_trim(archcaraway_set set, void **at);
 void archcaraway_export_set_free(archcaraway_set set);
 int32_t archcaraway_export_core_new(uint32_t proxies, int64_t window, uint64_t limit, void **at);
 int32_t archcaraway_export_core_admit(archcaraway_core core, uint32_t proxy, const uint8_t *frame,
@@ -472,37 +350,9 @@ int32_t archcaraway_export_core_give(archcaraway_core core, uint32_t proxy, uint
                                      size_t capacity, size_t *answer_length, int32_t *kind,
                                      int64_t *version, void **at);
 uint64_t archcaraway_export_core_owed(archcaraway_core core, void **at);
+uint64_t archcaraway_export_core_bytes_held(archcaraway_core core, void **at);
 int32_t archcaraway_export_core_stop(archcaraway_core core, void **at);
 void archcaraway_export_core_free(archcaraway_core core);
-
-/* Where the keys of a range lie among the bytes of the keys of its transaction. */
-typedef struct archcaraway_span {
-    size_t begin, begin_length;
-    size_t end, end_length;
-} archcaraway_span;
-
-int32_t archcaraway_export_batch_new(void **at);
-int32_t archcaraway_export_batch_add(archcaraway_batch batch, int64_t snapshot,
-                                     const uint8_t *keys, size_t key_bytes,
-                                     const archcaraway_span *reads, size_t read_count,
-                                     const archcaraway_span *writes, size_t write_count,
-                                     bool report, void **at);
-int32_t archcaraway_export_batch_append(archcaraway_batch batch, archcaraway_batch other, void **at,
-                                        void **other_at);
-void archcaraway_export_batch_drop_last(archcaraway_batch batch, void **at);
-void archcaraway_export_batch_clear(archcaraway_batch batch, void **at);
-uint64_t archcaraway_export_batch_room(archcaraway_batch batch, void **at);
-void archcaraway_export_batch_free(archcaraway_batch batch);
-int32_t archcaraway_export_set_judge(archcaraway_set set, archcaraway_batch batch, int64_t version,
-                                     uint8_t *verdicts, size_t capacity, void **set_at,
-                                     void **batch_at);
-int32_t archcaraway_export_set_try_judge(archcaraway_set set, archcaraway_batch batch,
-                                         int64_t version, uint8_t *verdicts, size_t capacity,
-                                         void **set_at, void **batch_at);
-int32_t archcaraway_export_core_admit_batch(archcaraway_core core, uint32_t proxy,
-                                            archcaraway_batch batch, int64_t previous,
-                                            int64_t version, int64_t received, void **core_at,
-                                            void **batch_at);
 
 /* A byte for frames and buffers of 0 bytes, so that their pointer isn't null. Never read or
  * written. */
@@ -514,5 +364,7 @@ static inline uint8_t *archcaraway_no_bytes(void) {
 #ifdef __cplusplus
 }
 #endif
+
+#include "archcaraway_batches.h"
 
 #endif

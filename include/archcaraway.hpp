@@ -85,6 +85,10 @@ public:
         check(archcaraway_set_stats(&set_, &stats));
         return stats;
     }
+    // About how many bytes of memory the set has used for its boundaries and its filter.
+    std::uint64_t bytesHeld() const { return archcaraway_set_bytes_held(&set_); }
+    // Frees memory that the set doesn't need for its boundaries. The set stays as it is.
+    void trim() { check(archcaraway_set_trim(&set_)); }
     // The handle, for the C functions. It stays this object's.
     archcaraway_set* handle() { return &set_; }
 
@@ -165,6 +169,8 @@ public:
         check(archcaraway_core_stats(&core_, &stats));
         return stats;
     }
+    // About how many bytes of memory the core's set has used, as those of a Set.
+    std::uint64_t bytesHeld() const { return archcaraway_core_bytes_held(&core_); }
     // The stop that was met, 1 to 3, or 0.
     int stop() const { return archcaraway_core_stop(&core_); }
     // The handle, for the C functions. It stays this object's.

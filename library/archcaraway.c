@@ -98,6 +98,17 @@ int archcaraway_set_stats(const archcaraway_set *set, archcaraway_stats *stats) 
     return ARCHCARAWAY_OK;
 }
 
+uint64_t archcaraway_set_bytes_held(const archcaraway_set *set) {
+    void *at = NULL; /* is given the pointer that the handle has */
+    if (set == NULL || set->at == NULL) return 0;
+    return archcaraway_export_set_bytes_held(*set, &at);
+}
+
+int archcaraway_set_trim(archcaraway_set *set) {
+    if (set == NULL || set->at == NULL) return ARCHCARAWAY_ARGUMENT;
+    return archcaraway_export_set_trim(*set, &set->at);
+}
+
 void archcaraway_set_free(archcaraway_set *set) {
     if (set == NULL || set->at == NULL) return;
     archcaraway_export_set_free(*set);
@@ -163,6 +174,12 @@ int archcaraway_core_stats(const archcaraway_core *core, archcaraway_stats *stat
     archcaraway_export_core_stats(*core, &stats->boundaries, &stats->limit, &stats->version,
                                   &stats->edge, &stats->held, &stats->owed, &at);
     return ARCHCARAWAY_OK;
+}
+
+uint64_t archcaraway_core_bytes_held(const archcaraway_core *core) {
+    void *at = NULL; /* is given the pointer that the handle has */
+    if (core == NULL || core->at == NULL) return 0;
+    return archcaraway_export_core_bytes_held(*core, &at);
 }
 
 int archcaraway_core_stop(const archcaraway_core *core) {

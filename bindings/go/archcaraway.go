@@ -54,6 +54,15 @@ func check(status C.int) error {
 // patch.
 func Version() int { return int(C.archcaraway_version()) }
 
+// Returns a new object, which is freed with the last pointer to it, or the refusal of the status.
+func made[T any](object *T, status C.int, free func(*T)) (*T, error) {
+	if err := check(status); err != nil {
+		return nil, err
+	}
+	runtime.SetFinalizer(object, free)
+	return object, nil
+}
+
 // Takes a lock, and returns what gives it back.
 func lock(mutex *sync.Mutex) func() {
 	mutex.Lock()
@@ -69,13 +78,13 @@ func pointer(bytes []byte) *C.uint8_t {
 }
 
 // Calls a function that writes a frame, again if the buffer is too small, and returns the frame.
-func fill(call func(buffer *C.uint8_t, size C.size_t, length *C.size_t) C.int) ([]byte, C.int) {
+func fill(call func(buffer *C.uint8_t, size C.size_t, length *C.size_t) C.int) ([]byte, error) {
 	frame := make([]byte, 256)
 	for {
 		var length C.size_t
 		status := call(pointer(frame), C.size_t(len(frame)), &length)
 		if status != C.ARCHCARAWAY_BUFFER {
-			return frame[:length], status
+			return frame[:length], check(status)
 		}
 		frame = make([]byte, length)
 	}
@@ -98,11 +107,7 @@ func NewSetAt(window int64, limit uint64, version int64) (*Set, error) {
 	set := new(Set)
 	status := C.archcaraway_set_new_at(C.int64_t(window), C.uint64_t(limit), C.int64_t(version),
 		&set.handle)
-	if err := check(status); err != nil {
-		return nil, err
-	}
-	runtime.SetFinalizer(set, (*Set).Close)
-	return set, nil
+	return made(set, status, (*Set).Close)
 }
 
 // Close frees the set. Later calls return Argument; closing it again does nothing.
@@ -115,24 +120,21 @@ func (s *Set) Close() {
 // reply.
 //
 // After an error that isn't a stop the set is as before.
-func (s *Set) Resolve(batch []byte) ([]byte, error) {
-	defer lock(&s.mutex)()
-	reply, status := fill(func(buffer *C.uint8_t, size C.size_t, length *C.size_t) C.int {
-		return C.archcaraway_set_resolve(&s.handle, pointer(batch), C.size_t(len(batch)), buffer,
-			size, length)
-	})
-	return reply, check(status)
-}
+func (s *Set) Resolve(batch []byte) ([]byte, error) { return s.resolve(batch, false) }
 
 // TryResolve judges a batch as Resolve does. But if the batch doesn't fit the limit, it returns
 // ArenaFull, and the set is as before: it hasn't stopped.
-func (s *Set) TryResolve(batch []byte) ([]byte, error) {
+func (s *Set) TryResolve(batch []byte) ([]byte, error) { return s.resolve(batch, true) }
+
+func (s *Set) resolve(batch []byte, mustFit bool) ([]byte, error) {
 	defer lock(&s.mutex)()
-	reply, status := fill(func(buffer *C.uint8_t, size C.size_t, length *C.size_t) C.int {
-		return C.archcaraway_set_try_resolve(&s.handle, pointer(batch), C.size_t(len(batch)),
-			buffer, size, length)
+	frame, bytes := pointer(batch), C.size_t(len(batch))
+	return fill(func(buffer *C.uint8_t, size C.size_t, length *C.size_t) C.int {
+		if mustFit {
+			return C.archcaraway_set_try_resolve(&s.handle, frame, bytes, buffer, size, length)
+		}
+		return C.archcaraway_set_resolve(&s.handle, frame, bytes, buffer, size, length)
 	})
-	return reply, check(status)
 }
 
 // Boundaries returns the number of boundaries that the set keeps; 0 if it is closed.
@@ -148,17 +150,30 @@ type Stats struct {
 	Held, Owed        uint64
 }
 
-func statsOf(stats C.archcaraway_stats) Stats {
+func statsOf(stats *C.archcaraway_stats, status C.int) (Stats, error) {
 	return Stats{uint64(stats.boundaries), uint64(stats.limit), int64(stats.version),
-		int64(stats.edge), uint64(stats.held), uint64(stats.owed)}
+		int64(stats.edge), uint64(stats.held), uint64(stats.owed)}, check(status)
 }
 
 // Stats returns the boundaries, the limit, the version and the edge of the set.
 func (s *Set) Stats() (Stats, error) {
 	defer lock(&s.mutex)()
 	var stats C.archcaraway_stats
-	err := check(C.archcaraway_set_stats(&s.handle, &stats))
-	return statsOf(stats), err
+	return statsOf(&stats, C.archcaraway_set_stats(&s.handle, &stats))
+}
+
+// BytesHeld returns about how many bytes of memory the set has used for its boundaries and its
+// filter; 0 if it is closed.
+func (s *Set) BytesHeld() uint64 {
+	defer lock(&s.mutex)()
+	return uint64(C.archcaraway_set_bytes_held(&s.handle))
+}
+
+// Trim frees memory that the set doesn't need for its boundaries. The error 111 is a failed
+// allocation. The set is as before in both cases, and one that has stopped stays stopped.
+func (s *Set) Trim() error {
+	defer lock(&s.mutex)()
+	return check(C.archcaraway_set_trim(&s.handle))
 }
 
 // Kind says what a core gives a proxy.
@@ -198,11 +213,7 @@ func NewCoreAt(proxies uint32, window int64, limit uint64, version int64) (*Core
 	core := new(Core)
 	status := C.archcaraway_core_new_at(C.uint32_t(proxies), C.int64_t(window), C.uint64_t(limit),
 		C.int64_t(version), &core.handle)
-	if err := check(status); err != nil {
-		return nil, err
-	}
-	runtime.SetFinalizer(core, (*Core).Close)
-	return core, nil
+	return made(core, status, (*Core).Close)
 }
 
 // Close frees the core. Later calls return Argument; closing it again does nothing.
@@ -230,11 +241,11 @@ func (c *Core) Give(proxy uint32) (Answer, error) {
 	defer lock(&c.mutex)()
 	var kind C.int
 	var version C.int64_t
-	frame, status := fill(func(buffer *C.uint8_t, size C.size_t, length *C.size_t) C.int {
+	frame, err := fill(func(buffer *C.uint8_t, size C.size_t, length *C.size_t) C.int {
 		return C.archcaraway_core_give(&c.handle, C.uint32_t(proxy), buffer, size, length, &kind,
 			&version)
 	})
-	return Answer{Kind(kind), int64(version), frame}, check(status)
+	return Answer{Kind(kind), int64(version), frame}, err
 }
 
 // Owed returns the number of answers owed to all proxies; 0 if the core is closed.
@@ -255,8 +266,14 @@ func (c *Core) Next() (proxy uint32, owed bool) {
 func (c *Core) Stats() (Stats, error) {
 	defer lock(&c.mutex)()
 	var stats C.archcaraway_stats
-	err := check(C.archcaraway_core_stats(&c.handle, &stats))
-	return statsOf(stats), err
+	return statsOf(&stats, C.archcaraway_core_stats(&c.handle, &stats))
+}
+
+// BytesHeld returns about how many bytes of memory the core's set has used, as Set.BytesHeld; 0 if
+// the core is closed.
+func (c *Core) BytesHeld() uint64 {
+	defer lock(&c.mutex)()
+	return uint64(C.archcaraway_core_bytes_held(&c.handle))
 }
 
 // Stop returns the stop that the core has met, or nil.

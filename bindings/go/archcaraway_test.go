@@ -3,6 +3,7 @@ package archcaraway
 import (
 	"bytes"
 	"errors"
+	"fmt"
 	"reflect"
 	"sync"
 	"testing"
@@ -240,6 +241,10 @@ func TestStartAtAVersion(t *testing.T) {
 	if stats, err := core.Stats(); err != nil || stats != (Stats{2, Limit, 1_000_000_002, 995_000_002, 1, 3}) {
 		t.Error(stats, err)
 	}
+	other, err := NewSetAt(Window, Limit, 1_000_000_000)
+	if err != nil || core.BytesHeld() == 0 || core.BytesHeld() != other.BytesHeld() {
+		t.Error(core.BytesHeld(), err)
+	}
 	for _, want := range []Kind{Never, HasReply, HasReply} {
 		proxy, owed := core.Next()
 		answer, err := core.Give(proxy)
@@ -270,6 +275,50 @@ func TestStopIsFinal(t *testing.T) {
 		if !errors.Is(err, ArenaFull) || !ArenaFull.IsStop() {
 			t.Error(err)
 		}
+		if err := set.Trim(); err != nil {
+			t.Error(err)
+		}
+	}
+}
+
+func TestTrim(t *testing.T) {
+	set := newSet(t)
+	write := func(version int64, keys ...string) {
+		var writes []Transaction
+		for _, key := range keys {
+			writes = append(writes, Transaction{Writes: []Range{Key([]byte(key))}, Snapshot: version - 1})
+		}
+		resolved(t, set, version, writes...)
+	}
+	var keys []string
+	for number := 0; number < 1000; number++ {
+		keys = append(keys, fmt.Sprintf("%0100d", number))
+	}
+	write(1, keys...)
+	version := int64(Window + 2)
+	for ; set.Boundaries() > 3; version++ {
+		write(version, "k")
+	}
+	stats, _ := set.Stats()
+	before := set.BytesHeld()
+	if err := set.Trim(); err != nil {
+		t.Error(err)
+	}
+	if after, err := set.Stats(); err != nil || after != stats {
+		t.Error(after, stats, err)
+	}
+	if after := set.BytesHeld(); after == 0 || after > before/2 {
+		t.Error(after, before)
+	}
+	key := []Range{Key([]byte("k"))}
+	reply := resolved(t, set, version, Transaction{Snapshot: version - 1, Reads: key},
+		Transaction{Snapshot: version - 2, Reads: key})
+	if reply.Entries[0].Verdict != Committed || reply.Entries[1].Verdict != Conflict {
+		t.Error(reply)
+	}
+	set.Close()
+	if err := set.Trim(); !errors.Is(err, Argument) || set.BytesHeld() != 0 {
+		t.Error(err, set.BytesHeld())
 	}
 }
 

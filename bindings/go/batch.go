@@ -29,7 +29,6 @@ import "C"
 
 import (
 	"fmt"
-	"runtime"
 	"sync"
 	"unsafe"
 )
@@ -46,10 +45,10 @@ type Transactions struct {
 // NewTransactions creates a batch, and adds transactions to it.
 func NewTransactions(transactions ...Transaction) (*Transactions, error) {
 	batch := new(Transactions)
-	if err := check(C.archcaraway_batch_new(&batch.handle)); err != nil {
+	status := C.archcaraway_batch_new(&batch.handle)
+	if _, err := made(batch, status, (*Transactions).Close); err != nil {
 		return nil, err
 	}
-	runtime.SetFinalizer(batch, (*Transactions).Close)
 	for index, each := range transactions {
 		if err := batch.Add(each); err != nil {
 			batch.Close()

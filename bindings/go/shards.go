@@ -9,7 +9,6 @@ import "C"
 import (
 	"bytes"
 	"fmt"
-	"runtime"
 	"sync"
 	"unsafe"
 )
@@ -35,11 +34,11 @@ func (e *ShardError) Error() string { return fmt.Sprintf("%v (index %d)", e.Stat
 // Unwrap returns the status.
 func (e *ShardError) Unwrap() error { return e.Status }
 
-func checkShard(status C.int, bad C.size_t) error {
-	if status == C.ARCHCARAWAY_OK {
-		return nil
+func atShard(err error, bad C.size_t) error {
+	if status, ok := err.(Status); ok {
+		return &ShardError{status, int(bad)}
 	}
-	return &ShardError{Status(status), int(bad)}
+	return err
 }
 
 // SplitPoints split all keys into shards, with a resolver each. Goroutines may share them: their
@@ -61,11 +60,8 @@ func NewSplitPoints(keys [][]byte) (*SplitPoints, error) {
 	}
 	points, bad := new(SplitPoints), C.size_t(0)
 	status := C.archcaraway_split_points_new(array, C.size_t(len(keys)), &points.handle, &bad)
-	if err := checkShard(status, bad); err != nil {
-		return nil, err
-	}
-	runtime.SetFinalizer(points, (*SplitPoints).Close)
-	return points, nil
+	points, err := made(points, status, (*SplitPoints).Close)
+	return points, atShard(err, bad)
 }
 
 // Close frees the split points. Later calls return Argument; closing them again does nothing.
@@ -83,11 +79,10 @@ func (p *SplitPoints) Shards() int {
 // Clip returns the frame of the batch of a shard.
 func (p *SplitPoints) Clip(shard int, batch []byte) ([]byte, error) {
 	defer lock(&p.mutex)()
-	clip, status := fill(func(buffer *C.uint8_t, size C.size_t, length *C.size_t) C.int {
+	return fill(func(buffer *C.uint8_t, size C.size_t, length *C.size_t) C.int {
 		return C.archcaraway_clip(&p.handle, C.size_t(shard), pointer(batch), C.size_t(len(batch)),
 			buffer, size, length)
 	})
-	return clip, check(status)
 }
 
 // Combine returns the frame of the reply of all shards, given theirs, in order, and the frame of
@@ -96,9 +91,9 @@ func (p *SplitPoints) Combine(batch []byte, replies [][]byte) ([]byte, error) {
 	defer lock(&p.mutex)()
 	stream := bytes.Join(replies, nil)
 	var bad C.size_t
-	reply, status := fill(func(buffer *C.uint8_t, size C.size_t, length *C.size_t) C.int {
+	reply, err := fill(func(buffer *C.uint8_t, size C.size_t, length *C.size_t) C.int {
 		return C.archcaraway_combine(&p.handle, pointer(batch), C.size_t(len(batch)),
 			pointer(stream), C.size_t(len(stream)), buffer, size, length, &bad)
 	})
-	return reply, checkShard(status, bad)
+	return reply, atShard(err, bad)
 }

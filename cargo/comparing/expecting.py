@@ -5,7 +5,7 @@ from collections.abc import Sequence
 from .case import Outcome
 from .lines import batch_line, batch_table, reply_line, reply_table
 from .reading import frames, read_batch, read_reply
-from .reference import WINDOW, Unspecified, checked, lines_of, resolve
+from .reference import ALL_LINES, WINDOW, Filter, Unspecified, checked, lines_of, resolve
 from .wire import Batch
 
 
@@ -14,7 +14,11 @@ def fault_lines(faults: Sequence[str], what: str) -> str:
 
 
 def replay_outcome(
-    files: Sequence[bytes], form: str = "words", window: int = WINDOW, replies: Sequence[bytes] | None = None
+    files: Sequence[bytes],
+    form: str = "words",
+    window: int = WINDOW,
+    replies: Sequence[bytes] | None = None,
+    shown: Filter = ALL_LINES,
 ) -> Outcome | None:
     """Returns what `replay` prints for these files, or nothing if the run would meet a stop."""
     recorded, replies_faults = [], []
@@ -29,7 +33,7 @@ def replay_outcome(
         answers = resolve(batches, window)
     except Unspecified:
         return None
-    text, differences = (lines_of(answers, form), 0) if replies is None else checked(answers, recorded)
+    text, differences = (lines_of(answers, form, shown), 0) if replies is None else checked(answers, recorded)
     status = 1 if any(faults) else 3 if differences else 0
     return Outcome(status, text.encode(), fault_lines(faults, "proxy").encode())
 

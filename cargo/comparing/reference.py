@@ -26,6 +26,28 @@ class Answer:
     word: str = ""
 
 
+@dataclass(frozen=True)
+class Filter:
+    """Which lines of answers are printed."""
+
+    quiet: bool = False
+    only: str | None = None
+    least: int | None = None
+    below: int | None = None
+
+    def shows(self, answer: Answer) -> bool:
+        entries = answer.reply.entries if answer.reply is not None else ()
+        return (
+            not self.quiet
+            and (self.only is None or any(entry.verdict == self.only for entry in entries))
+            and (self.least is None or self.least <= answer.version)
+            and (self.below is None or answer.version < self.below)
+        )
+
+
+ALL_LINES = Filter()
+
+
 @dataclass
 class History:
     """The version that wrote each key last: from each of the keys in order up to the next one."""
@@ -152,8 +174,8 @@ def line_of(proxy: int, answer: Answer, form: str) -> str:
     return f"{proxy} {answer.version} {shown}\n"
 
 
-def lines_of(answers: Sequence[Sequence[Answer]], form: str) -> str:
-    return "".join(line_of(proxy, answer, form) for proxy, some in enumerate(answers) for answer in some)
+def lines_of(answers: Sequence[Sequence[Answer]], form: str, shown: Filter = ALL_LINES) -> str:
+    return "".join(line_of(proxy, answer, form) for proxy, some in enumerate(answers) for answer in some if shown.shows(answer))
 
 
 def differences_of(expected: Reply, found: Reply) -> list[str]:

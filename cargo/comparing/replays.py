@@ -26,7 +26,7 @@ from .batches import (
 from .case import Case, Outcome, Run
 from .damage import cut, damaged_file
 from .expecting import most_boundaries, replay_outcome
-from .reference import MAX_HELD, WINDOW, resolve
+from .reference import ALL_LINES, MAX_HELD, WINDOW, Filter, resolve
 from .wire import Batch, Range, Reply, Txn, batch_frame, file_of, reply_frame, single
 
 FORMS = ("words", "words", "frames", "json")
@@ -43,6 +43,22 @@ def draw_options(chance: Random, window: int | None) -> list[str]:
     return options
 
 
+def draw_filter(chance: Random) -> tuple[list[str], Filter]:
+    """Draws the options that print some lines only, in one run of four, and which lines these are."""
+    if chance.random() < 0.75:
+        return [], ALL_LINES
+    only = chance.choice((None, "committed", "conflict", "tooold"))
+    least, below = (chance.choice((None, chance.randint(0, 20), 10 ** chance.randint(1, 8))) for _ in range(2))
+    quiet = chance.random() < 0.1
+    options = ["--quiet"] if quiet else []
+    if only is not None:
+        options += chance.choice((["--only", only], [f"--only={only}"]))
+    if least is not None or below is not None:
+        ends = ["" if end is None else str(end) for end in (least, below)]
+        options += ["--versions", "..".join(ends)]
+    return options, Filter(quiet, only, least, below)
+
+
 def draw_bytes(chance: Random, batches: Sequence[Batch]) -> list[bytes]:
     """The frames of batches, in one version of the wire form or in both."""
     versions = chance.choice(((1,), (2,), (1, 2)))
@@ -56,10 +72,11 @@ def names_of(files: Sequence[bytes]) -> dict[str, bytes]:
 def draw_run(chance: Random, files: Sequence[bytes], window: int | None, is_known: bool = True) -> Run:
     """A run in one of the forms, with what the rules say of it if they are to be asked."""
     form = chance.choice(FORMS)
-    flags = [] if form == "words" else [f"--{form}"]
+    chosen, shown = draw_filter(chance)
+    flags = chosen if form == "words" else [*chosen, f"--{form}"]
     options, names = draw_options(chance, window), list(names_of(files))
     args = chance.choice(([*flags, *options, *names], [*options, *names, *flags], [*names, *flags, *options]))
-    expected = replay_outcome(files, form, window or WINDOW) if is_known else None
+    expected = replay_outcome(files, form, window or WINDOW, shown=shown) if is_known else None
     return Run("replay", tuple(args), expected=expected)
 
 

@@ -146,6 +146,12 @@ static void cores(void) {
     DEMAND(archcaraway_core_stats(&core, &stats) == ARCHCARAWAY_OK);
     DEMAND(stats.boundaries == 2 && stats.limit == 10 && stats.version == START + 2);
     DEMAND(stats.edge == START + 2 - ARCHCARAWAY_WINDOW && stats.held == 1 && stats.owed == 4);
+    // A core's bytes are those of its set.
+    archcaraway_set set = ARCHCARAWAY_NONE;
+    DEMAND(archcaraway_set_new_at(ARCHCARAWAY_WINDOW, 10, START, &set) == ARCHCARAWAY_OK);
+    const uint64_t bytes = archcaraway_set_bytes_held(&set);
+    DEMAND(bytes > 0 && archcaraway_core_bytes_held(&core) == bytes);
+    archcaraway_set_free(&set);
     for (size_t i = 0; i < sizeof owed / sizeof owed[0]; i++) {
         size_t length;
         int kind;
@@ -168,6 +174,7 @@ static void cores(void) {
     archcaraway_core_free(&core);
     DEMAND(archcaraway_core_next(&core, &proxy) == 0);
     DEMAND(archcaraway_core_stats(&core, &stats) == ARCHCARAWAY_ARGUMENT);
+    DEMAND(archcaraway_core_bytes_held(&core) == 0 && archcaraway_core_bytes_held(NULL) == 0);
 }
 
 int main(void) {

@@ -174,6 +174,31 @@ static void starts() {
     DEMAND(core.next() == std::nullopt);
     core.admit(1, writer.end());
     DEMAND(core.next() == 1u && core.stats().version == 1001 && core.stats().owed == 1);
+    DEMAND(core.bytesHeld() > 0 && core.bytesHeld() == Set::at(1000).bytesHeld());
+}
+
+// A set that is trimmed answers what it answered before.
+static void trims() {
+    Set set;
+    Batch batch;
+    for (int i = 0; i < 1000; i++) {
+        const std::string key(100, static_cast<char>('a' + i % 26));
+        batch.add(transaction(0, {}, {KeyRangeRef::single(key + std::to_string(i))}));
+    }
+    batch.judge(set, 1);
+    batch.clear();
+    batch.add(transaction(0, {}, {KeyRangeRef::single("k")}));
+    Version version = 2 + ARCHCARAWAY_WINDOW;
+    for (; set.boundaries() > 3; version++) batch.judge(set, version);
+    const std::uint64_t bytes = set.bytesHeld();
+    set.trim();
+    DEMAND(set.boundaries() == 3 && set.stats().version == version - 1);
+    DEMAND(set.bytesHeld() > 0 && set.bytesHeld() < bytes / 2);
+    batch.clear();
+    batch.add(transaction(version - 1, {KeyRangeRef::single("k")}, {}));
+    batch.add(transaction(version - 2, {KeyRangeRef::single("k")}, {}));
+    const std::vector<Verdict> wanted{Verdict::committed, Verdict::conflict};
+    DEMAND(batch.judge(set, version) == wanted);
 }
 
 // What doesn't fit the limit is refused, and the set continues.
@@ -243,6 +268,7 @@ int main() {
     shards();
     starts();
     tries();
+    trims();
     refusals();
     std::puts("header: views, single keys, iterators, moves, batches, shards and refusals are as the header says");
 }

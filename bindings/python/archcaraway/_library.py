@@ -1,4 +1,4 @@
-"""The functions of archcaraway.h, archcaraway_frames.h and archcaraway_shards.h, by ctypes."""
+"""The functions of the C headers, by ctypes."""
 
 from __future__ import annotations
 
@@ -61,6 +61,8 @@ _FUNCTIONS = {
     "set_resolve": (c_int, _HANDLE, *_KEY, *_BUFFER),
     "set_try_resolve": (c_int, _HANDLE, *_KEY, *_BUFFER),
     "set_boundaries": (c_uint64, _HANDLE),
+    "set_bytes_held": (c_uint64, _HANDLE),
+    "set_trim": (c_int, _HANDLE),
     "set_free": (None, _HANDLE),
     "core_new": (c_int, c_uint32, c_int64, c_uint64, _HANDLE),
     "core_new_at": (c_int, c_uint32, c_int64, c_uint64, c_int64, _HANDLE),
@@ -70,6 +72,7 @@ _FUNCTIONS = {
     "core_finish": (c_int, _HANDLE),
     "core_give": (c_int, _HANDLE, c_uint32, *_BUFFER, POINTER(c_int), POINTER(c_int64)),
     "core_owed": (c_uint64, _HANDLE),
+    "core_bytes_held": (c_uint64, _HANDLE),
     "core_stop": (c_int, _HANDLE),
     "core_free": (None, _HANDLE),
     "batch_new": (c_int, _HANDLE),

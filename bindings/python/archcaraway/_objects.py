@@ -153,6 +153,11 @@ class _Judge(_FrameWriter):
         check(self._call("stats", record))
         return Stats(*(getattr(record, name) for name, _ in record._fields_))
 
+    @property
+    def bytes_held(self) -> int:
+        """About how many bytes of memory the set has used for boundaries and filter; 0 if closed."""
+        return self._call("bytes_held")
+
 
 class ConflictSet(_Judge):
     """The committed writes of the last `window` versions, in at most `limit` boundaries.
@@ -196,6 +201,10 @@ class ConflictSet(_Judge):
             if refused.status != ARENA_FULL:
                 raise
             return None
+
+    def trim(self) -> None:
+        """Frees memory that the set doesn't need for its boundaries. It stays as it is."""
+        check(self._call("trim"))
 
     @property
     def boundaries(self) -> int:

@@ -99,6 +99,35 @@ def test_a_batch_that_does_not_fit_is_refused() -> None:
         assert conflicts.try_resolve(encode(20_000_000, [])) is None
 
 
+def test_a_trimmed_set_is_as_before() -> None:
+    with ConflictSet() as conflicts:
+        keys = [b"%0100d" % number for number in range(1000)]
+        conflicts.resolve(encode(1, [Transaction(0, writes=[key]) for key in keys]))
+        version = 5_000_002
+        while conflicts.boundaries > 3:
+            conflicts.resolve(encode(version, [Transaction(version - 1, writes=[b"k"])]))
+            version += 1
+        stats, before = conflicts.stats, conflicts.bytes_held
+        conflicts.trim()
+        assert conflicts.stats == stats
+        assert 0 < conflicts.bytes_held < before / 2
+        reads = [Transaction(version - back, [b"k"]) for back in (1, 2)]
+        reply = conflicts.resolve(encode(version, reads))
+        assert reply.verdicts == (Verdict.COMMITTED, Verdict.CONFLICT)
+    assert conflicts.bytes_held == 0
+    with pytest.raises(ArgumentError):
+        conflicts.trim()
+
+
+def test_a_stopped_set_stays_stopped_when_trimmed() -> None:
+    with ConflictSet(limit=1) as conflicts:
+        for version in (1, 2):
+            with pytest.raises(Stop) as refused:
+                conflicts.resolve(encode(version, [Transaction(0, writes=[b"k"])]))
+            assert refused.value.status == 3
+            conflicts.trim()
+
+
 def test_a_core_that_starts_at_a_version() -> None:
     start = 10**9
     with Core(3, version=start) as core:
@@ -107,6 +136,8 @@ def test_a_core_that_starts_at_a_version() -> None:
             core.admit(2, encode(start + version, [], previous=start + previous))
         core.admit(1, encode(start, [], previous=-1))
         assert core.stats == Stats(2, 1_000_000, start + 2, start + 2 - 5_000_000, 1, 4)
+        with ConflictSet(version=start) as conflicts:
+            assert core.bytes_held == conflicts.bytes_held > 0
         answers = []
         while (proxy := core.next) is not None:
             answer = core.give(proxy)

@@ -8,7 +8,7 @@
 // | `conflict::ConflictSet::new_at` | the same, and `least_version` | `check_set`, `check_version`: `NewError::Version` |
 // | `conflict::ConflictSet::resolve` | `rising`: the version is above that of the batch resolved last | `ResolveError::Version`, by the field `version` |
 // | `conflict::ConflictSet::try_resolve` | the same | the same |
-// | `conflict::ConflictSet::boundaries`, `limit`, `edge` | none | |
+// | `conflict::ConflictSet::boundaries`, `bytes_held`, `limit`, `edge`, `trim` | none | |
 
 use crate::batch::Batch;
 use crate::reply::Reply;
@@ -163,6 +163,15 @@ impl ConflictSet {
         self.set.boundaries()
     }
 
+    /// Returns about how many bytes of memory the boundaries and the filter of single keys have
+    /// used.
+    ///
+    /// Memory of removed boundaries counts until [`trim`](ConflictSet::trim). Vectors that are kept
+    /// from batch to batch, and what the allocator adds, do not count.
+    pub fn bytes_held(&self) -> usize {
+        self.set.bytes_held()
+    }
+
     /// Returns how many boundaries there may be.
     pub fn limit(&self) -> usize {
         self.set.limit()
@@ -181,6 +190,26 @@ impl ConflictSet {
     /// Returns the stop, if the set has stopped.
     pub fn stop(&self) -> Option<Stop> {
         self.stop
+    }
+
+    /// Frees memory that the set does not need for its boundaries, for example after most of them
+    /// have left the window. It copies them, so it takes about as long as writing each once, and
+    /// for a moment there is memory for both.
+    ///
+    /// The set stays as it is, also after an error, and also if it has stopped.
+    ///
+    /// ```
+    /// use archcaraway::{BatchBuilder, ConflictSet, MAX_LIMIT, Txn};
+    ///
+    /// let mut set = ConflictSet::new(10, MAX_LIMIT)?;
+    /// set.resolve(&BatchBuilder::new(-1, 1).txn(Txn::at(0).write_key("a")).build()?)?;
+    /// let boundaries = set.boundaries();
+    /// set.trim()?;
+    /// assert_eq!(set.boundaries(), boundaries);
+    /// # Ok::<(), Box<dyn std::error::Error>>(())
+    /// ```
+    pub fn trim(&mut self) -> Result<(), TrimError> {
+        self.set.trim().map_err(|_| TrimError)
     }
 }
 
@@ -233,3 +262,15 @@ impl From<Stop> for ResolveError {
         ResolveError::Stop(stop)
     }
 }
+
+/// An allocation failed in [`ConflictSet::trim`]: the set is unchanged, and has not stopped.
+#[derive(Clone, Copy, Debug, PartialEq, Eq, Hash)]
+pub struct TrimError;
+
+impl fmt::Display for TrimError {
+    fn fmt(&self, f: &mut fmt::Formatter<'_>) -> fmt::Result {
+        f.write_str("allocation failed")
+    }
+}
+
+impl Error for TrimError {}

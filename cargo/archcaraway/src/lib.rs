@@ -130,7 +130,7 @@ pub use build_error::BuildError;
 pub use builder::BatchBuilder;
 pub use client::{Client, TryReceiveError, TrySendError};
 pub use combining::{CombineError, ShardReply, combine};
-pub use conflict_set::{ConflictSet, ResolveError};
+pub use conflict_set::{ConflictSet, ResolveError, TrimError};
 pub use history::{Explanation, History, PushError, Write};
 pub use range::{Range, RangeError};
 pub use reply::{Answer, Reply, Verdict};

@@ -130,6 +130,13 @@ impl Core {
         self.0.set().boundaries()
     }
 
+    /// Returns about how many bytes of memory the conflict set has used, as
+    /// [`ConflictSet::bytes_held`](crate::ConflictSet::bytes_held) does. Batches that are held and
+    /// answers that are owed do not count.
+    pub fn bytes_held(&self) -> usize {
+        self.0.set().bytes_held()
+    }
+
     /// Returns how many boundaries the conflict set may have.
     pub fn limit(&self) -> usize {
         self.0.set().limit()

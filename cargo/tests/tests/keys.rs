@@ -1,10 +1,12 @@
 //! The order of keys, their heads and hashes, and the ranks of ranges.
 
 use keys::{Key, RangeList, RangeRef, Ranks, common_prefix_len, head_behind, key_hash, key_head, same_bytes};
+use keyspace::Txns;
 use rattle_std::alloc::Global;
-use std::collections::BTreeSet;
+use std::collections::{BTreeMap, BTreeSet};
 use tests::cases::{count, run};
 use tests::drawn::KeySpace;
+use tests::notation::batch;
 use tests::plain::{PlainBatch, PlainRange, key};
 use tests::random::Random;
 
@@ -79,6 +81,19 @@ fn fronts_and_copies_are_the_bytes() {
     }
 }
 
+/// Copies of a range, as it is and as it is borrowed, have its keys.
+#[test]
+fn copies_of_a_range_are_equal() {
+    let range = PlainRange::new("a", "b").range();
+    let borrowed = range.as_ref();
+    assert_eq!((borrowed.begin(), borrowed.end()), (&b"a"[..], &b"b"[..]));
+    for copy in [range.copy(Global), borrowed.to_range(Global)] {
+        let copy = copy.expect("memory is ample");
+        assert_eq!((&copy.begin, &copy.end), (&range.begin, &range.end));
+        assert!(copy.meets(&range) && copy.holds(b"a") && !copy.holds(b"b"));
+    }
+}
+
 #[test]
 fn ranges_hold_and_meet_as_their_keys_say() {
     run("ranges_hold_and_meet_as_their_keys_say", count(10_000_000, 100_000), |random| {
@@ -137,6 +152,48 @@ fn runs_overlap_as_ranges_meet() {
     });
 }
 
+/// The hashes of single keys, computed from the definition by another program. No other range has one.
+#[test]
+fn hashes_by_hand() {
+    for (key, hash) in [
+        ("", 0),
+        ("a", 0xf916_ab45),
+        ("user/000001", 0x7a68_6317),
+        ("user/000002", 0xcc8b_c6f8),
+        ("0123456789abcdefghijklmnopqrstuvwxyzABCD", 0x1489_20b3),
+        ("0123456789abcdefghijklmnopqrstuvwxyzABCE", 0xd3e1_6820),
+    ] {
+        assert_eq!(key_hash(key.as_bytes()), hash, "{key}");
+        assert_eq!(PlainRange::single(key).range().as_ref().single_hash(), Some(hash), "{key}");
+    }
+    for end in ["a", "a\0\0", "b"] {
+        assert_eq!(PlainRange::new("a", end).range().as_ref().single_hash(), None);
+    }
+    let txns = batch("0>1: R[b,d) R[m,m) R[a] W[a,c); R[user/000001]").batch().txns;
+    let reads = [(0, 0), (0, 1), (0, 2), (1, 0)];
+    let hashes = reads.map(|(txn, read)| txns.hash(txns.read_index(txn, read) as usize));
+    assert_eq!(hashes, [None, None, Some(0xf916_ab45), Some(0x7a68_6317)]);
+}
+
+/// Five ranges with five begins, and an empty one. Then a batch without ranges.
+#[test]
+fn ranks_by_hand() {
+    for (text, order, writes, runs) in [
+        (
+            "0>1: R[b,d) R[m,m) W[a,c); W[aa,y); R[c,d) W[,a)",
+            &[5, 2, 3, 0, 4][..],
+            &[5, 2, 3][..],
+            &[(3, 5), (0, 0), (1, 4), (2, 5), (4, 5), (0, 1)][..],
+        ),
+        ("0>1", &[], &[], &[]),
+    ] {
+        let txns = batch(text).batch().txns;
+        let (ranks, found) = Ranks::with_order(Global, &txns.ranges()).expect("memory is ample");
+        assert_eq!((found.as_slice(), txns.write_order()), (order, writes));
+        assert_eq!((ranks.runs(), txns.ranks().runs()), (runs, runs));
+    }
+}
+
 /// Keys of up to 38 bytes have hashes that seldom agree, whichever byte differs.
 #[test]
 fn hashes_tell_short_keys_apart() {
@@ -162,6 +219,59 @@ fn hashes_of_numbers_spread() {
     assert!(cells.len() >= 600, "{}", cells.len());
 }
 
+/// Each written key has one number, and its run holds that alone. Two written keys touch exactly if no
+/// number is between theirs. A key that is read has the run of an equal written one, or shares no number
+/// with any. The order has each written index once, in the order of the keys.
+fn assert_singles_are_ranked(ranges: &Ranges, txns: &Txns, is_write: &[bool]) {
+    let runs = txns.ranks().runs();
+    let written = |index: &usize| is_write[*index];
+    let numbers: BTreeMap<_, _> =
+        (0..ranges.len()).filter(written).map(|index| (ranges.0[index].begin.clone(), runs[index])).collect();
+    let gaps: BTreeSet<_> = numbers.values().map(|run| run.0).collect();
+    assert_eq!(gaps.len(), numbers.len());
+    assert!(numbers.values().all(|run| run.0 + 1 == run.1 && run.1 as usize <= txns.ranks().begins()));
+    for (range, run) in ranges.0.iter().zip(runs) {
+        match numbers.get(&range.begin) {
+            Some(number) => assert_eq!(run, number, "{range:?}"),
+            None => assert!(!gaps.iter().any(|gap| (run.0..run.1).contains(gap)), "{range:?} {run:?}"),
+        }
+    }
+    for ((key, run), (next, later)) in numbers.iter().zip(numbers.iter().skip(1)) {
+        assert_eq!(run.1 == later.0, PlainRange::single(key.clone()).end == *next, "{key:?} {next:?}");
+    }
+    let order = txns.write_order();
+    assert!(order.windows(2).all(|pair| ranges.0[pair[0] as usize].begin <= ranges.0[pair[1] as usize].begin));
+    let mut indices: Vec<_> = order.iter().map(|index| *index as usize).collect();
+    indices.sort_unstable();
+    assert!(indices.into_iter().eq((0..ranges.len()).filter(written)));
+}
+
+/// A batch that contains only single keys ranks those that may equal a written one.
+#[test]
+fn batches_of_single_keys_rank_what_they_write() {
+    run("batches_of_single_keys_rank_what_they_write", count(1_000_000, 20_000), |random| {
+        let space = KeySpace::drawn(random);
+        let txns = (0..1 + random.index(20))
+            .map(|_| {
+                let mut txn = space.txn(random, 4, (0, 9));
+                txn.reads.iter_mut().chain(&mut txn.writes).for_each(|range| *range = PlainRange::single(space.key(random)));
+                txn
+            })
+            .collect();
+        let batch = PlainBatch { previous: -1, version: 9, received: -1, txns };
+        let txns = batch.batch().txns;
+        let (mut all, mut is_write) = (Vec::new(), Vec::new());
+        for txn in &batch.txns {
+            all.extend(txn.reads.iter().chain(&txn.writes).cloned());
+            is_write.resize(is_write.len() + txn.reads.len(), false);
+            is_write.resize(all.len(), true);
+        }
+        let ranges = Ranges(all);
+        assert_singles_are_ranked(&ranges, &txns, &is_write);
+        1 + ranges.len() as u64
+    });
+}
+
 /// A batch keeps its ranges with their ranks, their hashes, and the order of those that it writes.
 #[test]
 fn batches_rank_and_hash_their_ranges() {
@@ -182,8 +292,12 @@ fn batches_rank_and_hash_their_ranges() {
         }
         let ranges = Ranges(all);
         let (ranks, order) = Ranks::with_order(Global, &ranges).expect("memory is ample");
-        assert_eq!((txns.ranks().runs(), txns.ranks().begins()), (ranks.runs(), ranks.begins()));
-        assert!(order.iter().filter(|index| is_write[**index as usize]).eq(txns.write_order()));
+        if ranges.len() == 0 || (0..ranges.len()).any(|index| !ranges.range(index).is_single()) {
+            assert_eq!((txns.ranks().runs(), txns.ranks().begins()), (ranks.runs(), ranks.begins()));
+            assert!(order.iter().filter(|index| is_write[**index as usize]).eq(txns.write_order()));
+        } else {
+            assert_singles_are_ranked(&ranges, &txns, &is_write);
+        }
         for index in 0..ranges.len() {
             let range = ranges.range(index);
             assert_eq!((txns.hash(index), txns.hashed_range(index).hash()), (range.single_hash(), range.single_hash()));

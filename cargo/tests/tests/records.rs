@@ -2,7 +2,7 @@
 
 use keyspace::{Answer, Verdict};
 use rattle_std::alloc::Global;
-use replay_output::{AnswerError, Form, Line, print_line, write_record};
+use replay_output::{AnswerError, Filter, Form, Line, Style, print_line, write_record};
 use tests::cases::{count, run};
 use tests::drawn::any_batch;
 use tests::plain::{PlainEntry, PlainReply};
@@ -111,15 +111,51 @@ fn lines_as_the_batch_run_prints_them() {
         };
         let proxy = random.index(64);
         for form in [Form::Words, Form::Frames, Form::Json] {
-            let mut whole = Pieces::new(usize::MAX);
-            let line = Line::new(Global, form, proxy, answer()).expect("memory is ample");
-            line.text.print(&mut whole).expect("the writer takes all");
-            let mut out = Pieces::new(usize::MAX);
-            print_line(Global, form, proxy, &answer(), &mut out).expect("the writer takes all");
-            assert_eq!(out.pieces, [whole.bytes()], "a line is one write");
+            let whole = line_of(Style::all(form), proxy, answer());
+            let out = pieces_of(Style::all(form), proxy, &answer());
+            assert_eq!(out, [whole.clone()], "a line is one write");
+            let filter = any_filter(random, reply.version);
+            let style = Style { form, filter };
+            let is_shown = is_shown(&filter, &answer());
+            assert_eq!(line_of(style, proxy, answer()), if is_shown { whole.clone() } else { vec![] });
+            assert_eq!(pieces_of(style, proxy, &answer()), if is_shown { vec![whole] } else { vec![] });
         }
         1
     });
+}
+
+/// The line that is kept to be printed.
+fn line_of(style: Style, proxy: usize, answer: Answer) -> Vec<u8> {
+    let mut out = Pieces::new(usize::MAX);
+    let line = Line::new(Global, style, proxy, answer).expect("memory is ample");
+    line.text.print(&mut out).expect("the writer takes all");
+    out.bytes()
+}
+
+/// The writes of the line that is printed at once.
+fn pieces_of(style: Style, proxy: usize, answer: &Answer) -> Vec<Vec<u8>> {
+    let mut out = Pieces::new(usize::MAX);
+    print_line(Global, style, proxy, answer, &mut out).expect("the writer takes all");
+    out.pieces
+}
+
+/// A filter whose ends are at a version or beside it, or left out.
+fn any_filter(random: &mut Random, version: i64) -> Filter {
+    let mut end = || (random.below(3) > 0).then(|| version.saturating_add(i64::try_from(random.index(3)).unwrap_or(0) - 1));
+    let (least, below) = (end().unwrap_or(i64::MIN), end());
+    let only = [None, Some(Verdict::Committed), Some(Verdict::Conflict), Some(Verdict::TooOld)][random.index(4)];
+    Filter { quiet: random.below(8) == 0, only, least, below }
+}
+
+/// What `docs/REPLAY.md` says of the options.
+fn is_shown(filter: &Filter, answer: &Answer) -> bool {
+    let (version, verdicts) = match answer {
+        Answer::Reply(reply) => (reply.version, reply.entries.as_slice().iter().map(|entry| entry.verdict).collect()),
+        Answer::Never(version) | Answer::Held(version) => (*version, vec![]),
+    };
+    let versions = filter.least..=filter.below.map_or(i64::MAX, |below| below.saturating_sub(1));
+    let is_empty = filter.below == Some(i64::MIN);
+    !filter.quiet && !is_empty && versions.contains(&version) && filter.only.is_none_or(|only| verdicts.contains(&only))
 }
 
 /// Chooses the kind of an answer by its version.

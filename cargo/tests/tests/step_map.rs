@@ -57,6 +57,10 @@ fn write(map: &mut StepMap, steps: &mut Steps, ranges: &[PlainRange], version: i
     }
     assert_eq!(prepared, Ok(()));
     for range in ranges {
+        // While ranges are ready it does nothing, so that the write still needs no memory.
+        if random.one_in(8) {
+            assert_eq!(map.trim(Global), Ok(()));
+        }
         let borrowed = RangeRef::new(&range.begin, &range.end);
         // The hashes of single keys may be noted first, as the conflict set does.
         if let (Some(hash), true) = (borrowed.single_hash(), random.one_in(2)) {
@@ -110,8 +114,12 @@ fn step_map_is_boundaries_in_order() {
         let calls = 10 + random.below(2_000);
         // How often the map is swept, in tenths.
         let sweeps = random.below(4);
+        let trims = random.pick(&[4, 100, 1_000_000]);
         for _ in 0..calls {
             version += random.between(0, 3);
+            if random.one_in(trims) {
+                assert_eq!(map.trim(Global), Ok(()));
+            }
             match random.below(10) {
                 kind if kind < sweeps => {
                     let looks = random.pick(&[0, 1, 2, 5, 50, 5_000]);
@@ -158,6 +166,9 @@ fn large_step_map_is_boundaries_in_order() {
                 let looks = random.index(2 * steps.boundaries.len());
                 let end = if steps.sweep(looks) { SweepEnd::Round } else { SweepEnd::Stopped };
                 assert_eq!(map.sweep(looks), end);
+                if random.one_in(2) {
+                    assert_eq!(map.trim(Global), Ok(()));
+                }
                 (0..50).for_each(|_| compare_at(&map, &steps, random));
                 let singles = random.below(5);
                 let asked = |random: &mut Random| {

@@ -42,6 +42,7 @@ mod set_object;
 mod shard_exports;
 mod start_exports;
 mod stats_exports;
+mod trim_exports;
 mod waiting;
 
 pub use batch_handle::BatchHandle;

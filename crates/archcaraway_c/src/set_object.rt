@@ -13,6 +13,7 @@ ghost use Rattle.archcaraway_c.specs.SetObject.{Replies, Resolves, StopsAt, SetR
 
 mod judging;
 mod start;
+mod trimming;
 
 use crate::batch_frame::decode_frame;
 use crate::bound::most_reply_length;

@@ -59,6 +59,25 @@ pub extern "C" fn archcaraway_export_core_stats(
     *at = Box::into_raw(core).cast();
 }
 
+/// Returns about how many bytes of memory a set has used for its boundaries and its filter. No
+/// clause counts bytes.
+#[unsafe(no_mangle)]
+pub extern "C" fn archcaraway_export_set_bytes_held(set: SetHandle, at: &mut *mut u8) -> u64 {
+    let set = set.into_box();
+    let bytes = set.bytes_held();
+    *at = Box::into_raw(set).cast();
+    bytes
+}
+
+/// Returns the same of the set of a core.
+#[unsafe(no_mangle)]
+pub extern "C" fn archcaraway_export_core_bytes_held(core: CoreHandle, at: &mut *mut u8) -> u64 {
+    let core = core.into_box();
+    let bytes = core.bytes_held();
+    *at = Box::into_raw(core).cast();
+    bytes
+}
+
 /// Writes the least proxy that is owed an answer and returns 1, or returns 0 if none is.
 #[unsafe(no_mangle)]
 pub extern "C" fn archcaraway_export_core_next(

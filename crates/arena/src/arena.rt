@@ -238,6 +238,17 @@ impl<H: Copy, A: Allocator + Copy> Arena<H, A> {
         chunk.is_live(slot.index())
     }
 
+    /// Returns how many bytes of memory the records have used so far, of which a header has
+    /// `header_bytes`. The memory of a record that was released still counts. What the allocator
+    /// adds doesn't.
+    pub fn bytes_held(&self, header_bytes: usize) -> usize {
+        let mut bytes: usize = 0;
+        for chunk in &self.chunks {
+            bytes = bytes.saturating_add(chunk.bytes_held(header_bytes));
+        }
+        bytes
+    }
+
     // Adds chunks until `wanted` slots of the size are spare.
     fn fill_up(&mut self, size: usize, wanted: usize) -> Result<(), ArenaError>
         requires size { size < SIZES }

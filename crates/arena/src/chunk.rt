@@ -19,6 +19,10 @@ const FREE: u16 = u16::MAX;
 
 const _: () = prove!(FREE == 65_535);
 
+// What a slot takes besides its header and its key: its length, and its name in the list of those
+// that are spare.
+const SLOT_BYTES: usize = 6;
+
 /// Slots of one size, their headers beside each other, and their key bytes beside each other.
 #[derive(Drop)]
 pub(crate) struct Chunk<H, A: Allocator> {
@@ -148,6 +152,14 @@ impl<H, A: Allocator> Chunk<H, A> {
     {
         let length = self.lengths[index] as usize;
         part(&self.bytes, index * self.width, length)
+    }
+
+    /// Returns how many bytes of memory its slots have used so far, of which a header has
+    /// `header_bytes`.
+    pub(crate) fn bytes_held(&self, header_bytes: usize) -> usize {
+        let each = header_bytes.saturating_add(SLOT_BYTES);
+        let slots = self.lengths.len().saturating_mul(each);
+        slots.saturating_add(self.bytes.len())
     }
 
     /// Reads the memory of a slot that was given before. The number that is returned says nothing.

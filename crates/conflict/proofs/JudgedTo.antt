@@ -15,6 +15,7 @@ use Rattle.std.proofs.Common.{
   drop,
   get_or,
   set,
+  refl,
   sym,
   ap,
   ◌∙◌,
@@ -23,7 +24,7 @@ use Rattle.std.proofs.Common.{
   append-nil,
 }
 use Rattle.std.specs.Prelude.{All}
-use Rattle.std.proofs.lemmas.List.{take_more, take_more_set, drop_more, drop-set-lt, length-take}
+use Rattle.std.proofs.lemmas.List.{take_all, take_more, take_more_set, drop_all, drop_more, drop-set-lt, length-take}
 use Rattle.std.proofs.lemmas.List.Elements.{All-nil, All-append}
 use Rattle.keys.specs.declared.range.Range.{Range}
 use Rattle.keyspace.specs.declared.txn.Txn.{Txn}
@@ -51,7 +52,7 @@ committed_push (u ∷ ts) (f ∷ es) t e same =
     ∙ sym (append_assoc (counted f.verdict u.writes) (committed ts es) (counted e.verdict t.writes))
 
 -- what holds of all ranges holds of those that count
-all_counted : (P : Range → Type 0) (v : Verdict) (ranges : List Range) → All P ranges → All P (counted v ranges)
+pub all_counted : (P : Range → Type 0) (v : Verdict) (ranges : List Range) → All P ranges → All P (counted v ranges)
 all_counted P Committed ranges all = all
 all_counted P TooOld ranges all = All-nil P
 all_counted P Conflict ranges all = All-nil P
@@ -145,3 +146,17 @@ module _ (keys : List (List ℕ)) (whole : List Entry) where
         closed_judged closed =
             next_judged e marks (λ written told have. closed_entry written t e closed)
             (λ written told have. no_more_written keys marks written _ (none_counted e.verdict t.writes closed) told)
+
+  -- once all are judged
+  nothing_left : (written : List Range) (txns : List Txn) → in_batches written txns [] ≡ []
+  nothing_left written [] = refl
+  nothing_left written (t ∷ txns) = refl
+
+  pub judged_all : (i : ℕ) (runs : List (ℕ × ℕ)) (marks : List Bool) (txns : List Txn) (entries : List Entry)
+      → JudgedBelow i runs marks txns entries → length entries ≤ i → entries ≡ whole
+  judged_all i runs marks txns entries so_far end =
+      let written = committed (take i txns) (take i entries) in
+      sym (ap (λ es. take i entries ++ in_batches written (drop i txns) es) (drop_all i entries end)
+      ∙ ap (λ es. take i entries ++ es) (nothing_left written (drop i txns))
+      ∙ append-nil (take i entries) ∙ take_all i entries end)
+      ∙ so_far.judged

@@ -12,6 +12,7 @@ pub mod Told
 pub mod Written
 pub mod FirstMet
 pub mod JudgedTo
+pub mod RankedTxns
 pub mod Comparing
 pub mod Spanned
 pub mod LastSpan

@@ -4,6 +4,7 @@ use Rattle.std.specs.List.{AllZip}
 use Rattle.std.proofs.lemmas.List.{append_assoc, drop-drop, drop_at, flat_map_more, length-append, length-drop, length-replicate, length-take, length-take-le, replicate-append-replicate, take-append-drop, take_all, take_at, take_more}
 use Rattle.std.proofs.lemmas.List.Folds.{length-flat_map-take}
 use Rattle.keys.specs.declared.range.Range.{Range}
+use Rattle.keys.proofs.callers.Picked.{picked-append, picked-replicate}
 use Rattle.keyspace.specs.declared.reply.Verdict.{Verdict}
 use Rattle.keyspace.specs.declared.reply.Verdict.TheVariants.{Conflict, TooOld, Committed}
 use Rattle.keyspace.specs.declared.txn.Txn.{Txn}
@@ -12,28 +13,6 @@ use Rattle.keyspace.specs.Writes.{counted, committed}
 use Rattle.keyspace.specs.BatchRanges.{marks_of_txn, ranges_in, ranges_of_txn, write_marks}
 use Rattle.conflict.specs.Union.{picked}
 use Rattle.conflict.proofs.JudgedTo.{committed_push}
-
--- of two lists that are picked from one after the other
-picked-append : (marks more : List Bool) (ranges others : List Range) → length marks ≡ length ranges
-    → picked (marks ++ more) (ranges ++ others) ≡ picked marks ranges ++ picked more others
-picked-append [] more [] others same = refl
-picked-append [] more (r ∷ ranges) others same = absurd (omega (arith, same))
-picked-append (mark ∷ marks) more [] others same = absurd (omega (arith, same))
-picked-append (mark ∷ marks) more (r ∷ ranges) others same =
-    let rest = picked-append marks more ranges others (omega (arith, same)) in
-    elim mark as (λ b. cond b (r ∷ picked (marks ++ more) (ranges ++ others)) (picked (marks ++ more) (ranges ++ others))
-    ≡ cond b (r ∷ picked marks ranges) (picked marks ranges) ++ picked more others) [
-      | true ↦ ap (λ rs. r ∷ rs) rest
-      | false ↦ rest
-    ]
-
--- all or none
-picked-replicate : (mark : Bool) (ranges : List Range)
-    → picked (replicate (length ranges) mark) ranges ≡ cond mark ranges []
-picked-replicate true [] = refl
-picked-replicate false [] = refl
-picked-replicate true (r ∷ ranges) = ap (λ rs. r ∷ rs) (picked-replicate true ranges)
-picked-replicate false (r ∷ ranges) = picked-replicate false ranges
 
 -- whether the writes of the verdict count
 abbrev pub counts : Verdict → Bool

@@ -1,6 +1,6 @@
 -- The check inside a batch, after the check against the history. Source: `ConflictBatch` of FoundationDB 7.1, which asks
 -- the history for all transactions first, and then goes through the batch in order.
-use Rattle.std.specs.Prelude.{◌≡◌, ℕ, ℤ, if◌then◌else◌, List, [], ◌∷◌, ◌++◌, map, take}
+use Rattle.std.specs.Prelude.{◌≡◌, ℕ, ℤ, if◌then◌else◌, List, [], ◌∷◌, ◌++◌, length, map, take}
 use Rattle.std.specs.List.{list_any}
 use Rattle.keys.specs.declared.range.Range.{Range}
 use Rattle.keyspace.specs.declared.txn.Txn.{Txn}
@@ -39,6 +39,12 @@ in_batches written (t ∷ ts) (e ∷ es) =
     in_batch written t e ∷ in_batches (written ++ counted (in_batch written t e).verdict t.writes) ts es
 in_batches written [] es = []
 in_batches written (t ∷ ts) [] = []
+
+-- the other transaction has as many ranges, and the same mark
+pub record IsShapedAs (t other : Txn) : Type 0 where
+  pub reads : length other.reads ≡ length t.reads
+  pub writes : length other.writes ≡ length t.writes
+  pub marked : other.marked ≡ t.marked
 
 -- the scan may ask the history for all transactions first
 abbrev pub HistoryFirst : Type 0

@@ -1,22 +1,25 @@
 -- The union of ranges that are written, by the ranges that it begins and ends with. This project's own.
-use Rattle.std.specs.Prelude.{◌≡◌, ℕ, Bool, true, false, if◌then◌else◌, List, [], ◌∷◌, All, Some, slice_get, slice_index_or}
+use Rattle.std.specs.Prelude.{◌≡◌, ◌⊎◌, ℕ, Bool, true, false, List, map, All, Some, slice_get, slice_index_or}
 use Rattle.std.specs.List.{AllZip}
-use Rattle.keys.specs.Ranks.{AreChosenInOrder, IsBeginIn}
+use Rattle.keys.specs.Range.{IsEmpty}
+use Rattle.keys.specs.Ranks.{runs_of, AreChosenInOrder, IsBeginIn}
+pub use Rattle.keys.specs.Singles.{picked}
 use Rattle.keys.specs.declared.range.Range.{Range}
 use Rattle.stepmap.specs.Uniting.{Unites}
 use Rattle.conflict.specs.declared.union.Span.{Span}
-
--- the ranges whose mark is true, in order
-abbrev pub picked : List Bool → List Range → List Range
-picked [] ranges = []
-picked (mark ∷ marks) [] = []
-picked (mark ∷ marks) (range ∷ ranges) = if mark then range ∷ picked marks ranges else picked marks ranges
 
 -- The indices are, in the order of the begins, those of ranges that aren't empty: of all that are marked as written, at least.
 pub record HaveWrittenInOrder (ranges : List Range) (written : List Bool) (order : List ℕ) : Type 0 where
   pub chosen : ℕ → Bool
   pub in_order : AreChosenInOrder chosen ranges order
   pub all : (index : ℕ) → slice_index_or written index false ≡ true → chosen index ≡ true
+
+-- Among some keys each range has its run, or one of an empty range.
+pub record HaveRuns (ranges : List Range) (runs : List (ℕ × ℕ)) : Type 0 where
+  pub keys : List (List ℕ)
+  pub ranked_as : Range → Range
+  pub are_runs : runs ≡ runs_of keys (map ranked_as ranges)
+  pub each : All (λ range. (ranked_as range ≡ range) ⊎ IsEmpty (ranked_as range)) ranges
 
 -- the range at the index begins with the key
 abbrev pub BeginsAt : List Range → ℕ → List ℕ → Type 0

@@ -15,7 +15,7 @@ use crate::error::SetStop;
 use crate::scratch::Scratch;
 use crate::unknown::write_every_key;
 use keyspace::Batch;
-use std::alloc::Global;
+use std::alloc::{AllocError, Global};
 use std::marker::Model;
 use stepmap::StepMap;
 
@@ -118,6 +118,19 @@ impl ConflictSet {
         })
     }
 
+    /// Copies the boundaries into new memory with room for few more, and frees the memory that they
+    /// had and that of the vectors kept from batch to batch. The set stays as it is, also if memory
+    /// is refused for the copy. It takes about as long as writing each boundary once.
+    ///
+    /// The filter of single keys keeps its memory. The boundaries keep theirs if there are
+    /// [`MAX_LIMIT`](stepmap::MAX_LIMIT) of them.
+    pub fn trim(&mut self) -> Result<(), AllocError>
+        ensures same { self.new ≡ self.old }
+    {
+        self.scratch = Scratch::new(self.alloc);
+        self.map.trim(self.alloc)
+    }
+
     /// Returns the number of boundaries, that at the empty key included. It never exceeds the
     /// limit.
     pub fn boundaries(&self) -> usize
@@ -125,6 +138,13 @@ impl ConflictSet {
         ensures within { result ≤ self.now.map.limit }
     {
         self.map.boundaries()
+    }
+
+    /// Returns about how many bytes of memory the boundaries and the filter of single keys have used
+    /// so far. Memory of boundaries that were removed still counts, until [`ConflictSet::trim`]. The
+    /// vectors kept from batch to batch, and what the allocator adds, don't count.
+    pub fn bytes_held(&self) -> usize {
+        self.map.bytes_held()
     }
 
     /// Returns how many boundaries there may be.

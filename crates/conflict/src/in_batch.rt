@@ -6,13 +6,15 @@ ghost use Rattle.std.specs.Prelude.{if◌then◌else◌};
 ghost use Rattle.std.specs.Prelude.{All, IfOk, IfSome, OnOk};
 ghost use Rattle.keys.specs.declared.range.Range.{Range};
 ghost use Rattle.keys.specs.Ranks.{HaveBegin};
+ghost use Rattle.keys.specs.Singles.{AreRankedFor};
 ghost use Rattle.keyspace.specs.declared.reply.Verdict.TheVariants.{Committed};
 ghost use Rattle.keyspace.specs.Writes.{counted};
 ghost use Rattle.keyspace.specs.Judge.{meets_earlier};
-ghost use Rattle.keyspace.specs.BatchRanges.{ranges_in};
+ghost use Rattle.keyspace.specs.declared.txn.Txn.{Txn};
+ghost use Rattle.keyspace.specs.BatchRanges.{ranges_in, writes_in};
 ghost use Rattle.conflict.specs.Gaps.{IsMarked};
 ghost use Rattle.conflict.specs.Written.{AreWrittenGaps, AreRunsWithin, TellRuns};
-ghost use Rattle.conflict.specs.InBatch.{in_batch, in_batches};
+ghost use Rattle.conflict.specs.InBatch.{in_batch, in_batches, IsShapedAs};
 
 use crate::gaps::Gaps;
 use crate::laws;
@@ -20,7 +22,8 @@ use keyspace::{Batch, Entry, Places, TxnRef, Verdict};
 use std::alloc::{AllocError, Global};
 
 /// Judges in order each transaction that the history lets commit, after what the transactions
-/// before it write that commit. The runs are those of the ranges of all transactions, in order.
+/// before it write that commit. The runs are those of the ranges of all transactions, in order, and
+/// there is a gap for each key among which they are ranked.
 /// After an error, which says that memory was refused, the entries are unspecified.
 pub fn judge_in_batch(
     alloc: Global,
@@ -30,8 +33,8 @@ pub fn judge_in_batch(
     entries: &mut [Entry],
 ) -> Result<(), AllocError>
     requires entries { length entries.old ≡ length batch.now.txns }
-    requires runs { (keys : List (List ℕ)) × (length gaps.old ≡ length keys)
-        × TellRuns keys runs.now (ranges_in batch.now.txns) }
+    requires ranked { AreRankedFor (writes_in batch.now.txns) (ranges_in batch.now.txns)
+        (record { runs = runs.now; begins = length gaps.old }) }
     requires unmarked { (gap : ℕ) → ¬ IsMarked gaps.old gap }
     ensures judged { OnOk result (entries.new ≡ in_batches [] batch.now.txns entries.old) }
 {
@@ -50,7 +53,7 @@ pub fn judge_in_batch(
 
 // Judges the transaction, which the history lets commit, after the ranges whose gaps are marked. If
 // it commits, the gaps of its write ranges are marked too. The runs are those of its read ranges
-// and then of its write ranges.
+// and then of its write ranges, or of what these are ranked as.
 fn judge_open(
     alloc: Global,
     runs: &[(u32, u32)],
@@ -61,15 +64,15 @@ fn judge_open(
     requires open { entry.old.verdict ≡ Committed }
     requires count { length runs.now ≡ length (txn.now.reads ++ txn.now.writes) }
     requires within { AreRunsWithin (length gaps.old) runs.now }
-    ensures judged { OnOk result ((keys : List (List ℕ)) (written : List Range)
-        → TellRuns keys runs.now (txn.now.reads ++ txn.now.writes)
+    ensures judged { OnOk result ((keys : List (List ℕ)) (written : List Range) (ranked : Txn)
+        → IsShapedAs txn.now ranked → TellRuns keys runs.now (ranked.reads ++ ranked.writes)
         → AreWrittenGaps keys gaps.old written → All (HaveBegin keys) written
-        → entry.new ≡ in_batch written txn.now entry.old) }
+        → entry.new ≡ in_batch written ranked entry.old) }
     ensures count { length gaps.new ≡ length gaps.old }
-    ensures marked { OnOk result ((keys : List (List ℕ)) (written : List Range)
-        → TellRuns keys runs.now (txn.now.reads ++ txn.now.writes)
+    ensures marked { OnOk result ((keys : List (List ℕ)) (written : List Range) (ranked : Txn)
+        → IsShapedAs txn.now ranked → TellRuns keys runs.now (ranked.reads ++ ranked.writes)
         → AreWrittenGaps keys gaps.old written → All (HaveBegin keys) written
-        → AreWrittenGaps keys gaps.new (written ++ counted entry.new.verdict txn.now.writes)) }
+        → AreWrittenGaps keys gaps.new (written ++ counted entry.new.verdict ranked.writes)) }
 {
     let (reads, writes) = runs.split_at(txn.reads.len());
     if let Some(place) = first_met(gaps, reads) {

@@ -5,10 +5,11 @@ ghost use Rattle.std.specs.Prelude.{◌≡◌, ◌<◌, ◌++◌, ◌∷◌, ℕ
 ghost use Rattle.std.specs.Prelude.{Some, slice_get};
 ghost use Rattle.keys.specs.Key.{IsAtMost, IsBefore};
 ghost use Rattle.keys.specs.Range.{IsEmpty};
-ghost use Rattle.keys.specs.Ranks.{run_or_none, runs_of, AreRanked};
+ghost use Rattle.keys.specs.Ranks.{run_or_none};
+ghost use Rattle.keys.specs.Singles.{AreRankedFor};
 ghost use Rattle.keys.specs.declared.range.Range.{Range};
 ghost use Rattle.stepmap.specs.Uniting.{Unites};
-ghost use Rattle.conflict.specs.Union.{picked, AreSpanned, AreUnited, HaveWrittenInOrder};
+ghost use Rattle.conflict.specs.Union.{picked, AreSpanned, AreUnited, HaveRuns, HaveWrittenInOrder};
 
 use keys::{RangeList, Ranks};
 use std::alloc::{AllocError, Global};
@@ -51,8 +52,8 @@ impl Union {
 
     /// Replaces the spans by those of ranges that unite the ones marked as written. `order` lists
     /// ranges that aren't empty in the order of their begins, and all of these that are marked. The
-    /// ranks are those of all ranges. After an error the spans are unspecified, and the next call
-    /// starts anew.
+    /// ranks are those of all ranges, of which some may be ranked as empty ones. After an error the
+    /// spans are unspecified, and the next call starts anew.
     pub fn gather<L: RangeList>(
         &mut self,
         ranges: &L,
@@ -60,7 +61,8 @@ impl Union {
         order: &[u32],
         written: &[bool],
     ) -> Result<(), AllocError>
-        requires ranked { AreRanked (L.ranges ranges.now) ranks.now }
+        requires ranked { (checked : List Range)
+            × AreRankedFor checked (L.ranges ranges.now) ranks.now }
         requires in_order { HaveWrittenInOrder (L.ranges ranges.now) written.now order.now }
         requires count { length written.now ≡ length (L.ranges ranges.now) }
         ensures united { OnOk result ((united : List Range)
@@ -87,7 +89,7 @@ impl Union {
         runs: &[(u32, u32)],
         index: usize,
     ) -> Result<(), AllocError>
-        requires runs { (keys : List (List ℕ)) × (runs.now ≡ runs_of keys (L.ranges ranges.now)) }
+        requires runs { HaveRuns (L.ranges ranges.now) runs.now }
         requires within { index < length (L.ranges ranges.now) }
         requires spanned { (united : List Range)
             × AreSpanned (L.ranges ranges.now) self.old united }
@@ -127,6 +129,7 @@ impl Union {
 // Returns whether the runs show that the first range ends before the second one begins: a begin is
 // between. If it is false they may be apart, too.
 fn are_told_apart(first: (u32, u32), second: (u32, u32)) -> bool
+    ensures filled { IsTrue result → (0 < first.1) × (0 < second.0) }
     ensures apart { IsTrue result → (keys : List (List ℕ)) (a b : Range)
         → first ≡ run_or_none keys a → second ≡ run_or_none keys b
         → IsBefore a.end b.begin }

@@ -66,6 +66,13 @@ pub explains_none : (version : ℤ) (j : ℕ) (snapshot : ℤ) (range : Range) (
 explains_none version j snapshot range w e f =
     explains_other version j snapshot range w e ∙ ap (λ b. b && ranges_meet range w.range) f
 
+-- one that doesn't overlap
+pub explains_apart : (version : ℤ) (j : ℕ) (snapshot : ℤ) (range : Range) (w : Written) → ranges_meet range w.range ≡ false
+    → explains version j snapshot range w ≡ false
+explains_apart version j snapshot range w e =
+    let newer = cond (int_eq w.version version) (nat_lt w.txn j) (int_lt snapshot w.version) in
+    ap (λ b. newer && b) e ∙ and_other_way newer false
+
 module _ (proxy : ℕ) (version : ℤ) (j : ℕ) (snapshot : ℤ) (range : Range) where
   -- a write of the batch itself
   own : (txn : ℕ) (other : Range) (is : Bool) → nat_lt txn j ≡ is

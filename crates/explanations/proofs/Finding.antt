@@ -1,5 +1,5 @@
 -- What a search has found, with one write more, with one batch more, and when it is at the end.
-use Rattle.std.proofs.Common.{◌≡◌, ℕ, ◌+◌, Bool, true, false, take, ◌||◌, List, [], ◌∷◌, ◌++◌, length, min, refl, sym, ap, subst, ◌∙◌, arith, append-nil, append_assoc, length-append}
+use Rattle.std.proofs.Common.{◌≡◌, ℕ, ◌+◌, Bool, false, cond, take, ◌||◌, List, [], ◌∷◌, ◌++◌, length, min, refl, sym, ap, subst, ◌∙◌, arith, append-nil, append_assoc, length-append}
 use Rattle.std.specs.Prelude.{ℤ, int_lt, Option, Some, slice_get}
 use Rattle.std.specs.Ordering.{int_eq}
 use Rattle.std.specs.List.{filter}
@@ -18,7 +18,7 @@ use Rattle.explanations.specs.declared.explanation.Explanation.{Explanation}
 use Rattle.explanations.specs.Written.{Written, written_by, written_from, written_in, all_written}
 use Rattle.explanations.specs.Explains.{explains, explaining_range, explaining_txn, explaining_of, explaining_newest, newest_of}
 use Rattle.explanations.specs.Found.{IsExplained, IsFound}
-use Rattle.explanations.proofs.Passing.{filter_none, filter_more_true, filter_more_false}
+use Rattle.explanations.proofs.Passing.{filter_none}
 use Rattle.explanations.proofs.Origins.{IsWrittenAt, in_at, written_at, written_more}
 use Rattle.explanations.proofs.Earlier.{explains_none}
 
@@ -141,7 +141,7 @@ found_same test proxy version ts es n t e ws o found none at_t at_e =
     (found_of _ _ o (sym (append-nil (ws ++ filter test (written_from proxy version 0 (take n ts) (take n es))))) found)
     refl refl none at_t at_e
 
--- one range more, which passes the test or doesn't
+-- one range more
 by_more : (proxy : ℕ) (version : ℤ) (txn : ℕ) (ranges : List Range) (index : ℕ) (range : Range) → slice_get ranges index ≡ Some range
     → written_by proxy version txn (take (index + 1) ranges)
     ≡ written_by proxy version txn (take index ranges) ++ written_at proxy version txn range ∷ []
@@ -151,29 +151,20 @@ by_more proxy version txn ranges index range at =
     ∙ map-append (written_at proxy version txn) (take index ranges) (range ∷ [])
 
 pub found_range : (test : Written → Bool) (proxy : ℕ) (version : ℤ) (txn : ℕ) (ranges : List Range) (index : ℕ) (range : Range)
-    (ws : List Written) (o : Option Explanation) (w : Written)
-    → IsFound ((ws ++ filter test (written_by proxy version txn (take index ranges))) ++ w ∷ []) o
-    → w ≡ written_at proxy version txn range → slice_get ranges index ≡ Some range
-    → test w ≡ true → IsFound (ws ++ filter test (written_by proxy version txn (take (index + 1) ranges))) o
-found_range test proxy version txn ranges index range ws o w found is at passes =
+    (ws : List Written) (o : Option Explanation)
+    → IsFound ((ws ++ filter test (written_by proxy version txn (take index ranges))) ++ filter test (written_by proxy version txn (range ∷ []))) o
+    → slice_get ranges index ≡ Some range
+    → IsFound (ws ++ filter test (written_by proxy version txn (take (index + 1) ranges))) o
+found_range test proxy version txn ranges index range ws o found at =
     let before = written_by proxy version txn (take index ranges) in
-    let own = written_at proxy version txn range in
+    let own = written_by proxy version txn (range ∷ []) in
     found_of _ _ o
-    (ap (λ (v : Written). (ws ++ filter test before) ++ v ∷ []) is
-    ∙ append_assoc ws (filter test before) (own ∷ [])
+    (append_assoc ws (filter test before) (filter test own)
     ∙ ap (λ (vs : List Written). ws ++ vs)
-    (sym (filter_more_true test before own (subst (λ (v : Written). test v ≡ true) is passes))
-    ∙ ap (filter test) (sym (by_more proxy version txn ranges index range at)))) found
+    (sym (filter-append test before own) ∙ ap (filter test) (sym (by_more proxy version txn ranges index range at)))) found
 
-pub missed_range : (test : Written → Bool) (proxy : ℕ) (version : ℤ) (txn : ℕ) (ranges : List Range) (index : ℕ) (range : Range)
-    (ws : List Written) (o : Option Explanation) (w : Written)
-    → IsFound (ws ++ filter test (written_by proxy version txn (take index ranges))) o
-    → w ≡ written_at proxy version txn range → slice_get ranges index ≡ Some range
-    → test w ≡ false → IsFound (ws ++ filter test (written_by proxy version txn (take (index + 1) ranges))) o
-missed_range test proxy version txn ranges index range ws o w found is at fails =
-    let before = written_by proxy version txn (take index ranges) in
-    let own = written_at proxy version txn range in
-    found_of _ _ o
-    (ap (λ (vs : List Written). ws ++ vs)
-    (sym (filter_more_false test before own (subst (λ (v : Written). test v ≡ false) is fails))
-    ∙ ap (filter test) (sym (by_more proxy version txn ranges index range at)))) found
+-- one write more, which doesn't pass the test
+pub missed_one : (test : Written → Bool) (ws : List Written) (w : Written) (o : Option Explanation) → IsFound ws o
+    → test w ≡ false → IsFound (ws ++ filter test (w ∷ [])) o
+missed_one test ws w o found fails =
+    found_of _ _ o (sym (append-nil ws) ∙ ap (λ b. ws ++ cond b (w ∷ []) []) (sym fails)) found

@@ -1,8 +1,8 @@
 -- What a test leaves of a list, and whether any element passes it.
-use Rattle.std.proofs.Common.{◌≡◌, Bool, true, false, ◌||◌, cond, List, [], ◌∷◌, ◌++◌, map, refl, ap, ◌∙◌, append-nil}
+use Rattle.std.proofs.Common.{◌≡◌, Bool, true, false, ◌||◌, cond, List, [], ◌∷◌, ◌++◌, map, refl, ap, ◌∙◌}
 use Rattle.std.specs.Prelude.{All}
 use Rattle.std.specs.List.{filter, list_any}
-use Rattle.std.proofs.lemmas.List.Elements.{All-nil, All-cons, All-head, All-tail, filter-append}
+use Rattle.std.proofs.lemmas.List.Elements.{All-nil, All-cons, All-head, All-tail}
 
 pub filter_none : {X : Type 0} (p : X → Bool) (xs : List X) → All (λ x. p x ≡ false) xs → filter p xs ≡ []
 filter_none p [] h = refl
@@ -34,16 +34,6 @@ any_same p q f [] h = refl
 any_same p q f (x ∷ xs) h =
     ap (λ b. b || list_any p xs) (All-head (λ x. p x ≡ q (f x)) x xs h)
     ∙ ap (λ b. q (f x) || b) (any_same p q f xs (All-tail (λ x. p x ≡ q (f x)) x xs h))
-
-pub filter_more_true : {X : Type 0} (p : X → Bool) (xs : List X) (x : X) → p x ≡ true
-    → filter p (xs ++ x ∷ []) ≡ filter p xs ++ x ∷ []
-filter_more_true p xs x e =
-    filter-append p xs (x ∷ []) ∙ ap (λ b. filter p xs ++ cond b (x ∷ []) []) e
-
-pub filter_more_false : {X : Type 0} (p : X → Bool) (xs : List X) (x : X) → p x ≡ false
-    → filter p (xs ++ x ∷ []) ≡ filter p xs
-filter_more_false p xs x e =
-    filter-append p xs (x ∷ []) ∙ ap (λ b. filter p xs ++ cond b (x ∷ []) []) e ∙ append-nil (filter p xs)
 
 pub All-left : {X : Type 0} (P : X → Type 0) (xs ys : List X) → All P (xs ++ ys) → All P xs
 All-left P [] ys h = All-nil P

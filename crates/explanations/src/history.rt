@@ -13,6 +13,7 @@ use crate::explanation::Explanation;
 use crate::processed::ProcessedBatch;
 use crate::question::Question;
 use crate::searching::search;
+use keys::HashedRange;
 use std::alloc::{AllocError, Global};
 use std::collections::VecDeque;
 use std::marker::Model;
@@ -94,7 +95,7 @@ impl History {
             version: batch.version,
             txn,
             snapshot: batch.txns.snapshot(txn),
-            range: transaction.reads.get(read),
+            range: HashedRange::of(transaction.reads.get(read)),
         };
         search(&question, &self.kept)
     }

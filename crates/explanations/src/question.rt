@@ -1,13 +1,15 @@
 //! What an explanation is asked for.
 
-ghost use Rattle.std.specs.Prelude.{◌≡◌, ◌||◌, int_lt};
+ghost use Rattle.std.specs.Prelude.{◌≡◌, ◌||◌, false, int_lt};
 ghost use Rattle.std.specs.Ordering.{int_eq};
+ghost use Rattle.keys.specs.Hash.{IsHashOf};
 ghost use Rattle.keys.specs.Key.{is_before};
 ghost use Rattle.keys.specs.Range.{ranges_meet};
+ghost use Rattle.keys.specs.declared.range.Range.{Range};
 ghost use Rattle.explanations.specs.Explains.{explains};
 
 use crate::explanation::WrittenRef;
-use keys::RangeRef;
+use keys::{HashedRange, RangeRef};
 
 // A read range of a transaction.
 #[derive(Debug, Drop)]
@@ -17,7 +19,7 @@ pub(crate) struct Question<'a> {
     // the index of the transaction in the batch
     pub txn: usize,
     pub snapshot: i64,
-    pub range: RangeRef<'a>,
+    pub range: HashedRange<'a>,
 }
 
 impl Question<'_> {
@@ -34,6 +36,17 @@ impl Question<'_> {
         is_newer && overlap(&self.range, &write.range)
     }
 
+    // Returns `false` only if no range with this hash overlaps. It looks at no key.
+    pub fn may_overlap(&self, hash: Option<u32>) -> bool
+        ensures apart { result ≡ false → (range : Range) → IsHashOf range hash
+            → ranges_meet self.now.range range ≡ false }
+    {
+        match (self.range.hash(), hash) {
+            (Some(own), Some(other)) => own == other,
+            _ => true,
+        }
+    }
+
     // Returns whether a write of the batch of this version can explain it at all.
     pub fn reaches(&self, version: i64) -> bool
         ensures reaches { result
@@ -44,7 +57,7 @@ impl Question<'_> {
 }
 
 // Returns whether the ranges overlap.
-fn overlap(a: &RangeRef, b: &RangeRef) -> bool
+fn overlap(a: &HashedRange, b: &RangeRef) -> bool
     ensures overlap { result ≡ ranges_meet a.now b.now }
 {
     comes_before(a.begin(), a.end())

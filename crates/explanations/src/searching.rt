@@ -1,7 +1,8 @@
 //! The search for the writes that explain a conflict, from the oldest batch to the newest.
 
-ghost use Rattle.std.specs.Prelude.{◌≡◌, ◌++◌, ◌∷◌, [], List, Some, filter};
+ghost use Rattle.std.specs.Prelude.{◌≡◌, ◌<◌, ◌++◌, ◌∷◌, [], List, Some, filter, length, slice_get};
 ghost use Rattle.keyspace.specs.Processed.{Processed};
+ghost use Rattle.keyspace.specs.declared.txn.Txn.{Txn};
 ghost use Rattle.explanations.specs.Written.{Written, written_by, written_in, all_written};
 ghost use Rattle.explanations.specs.Explains.{explains};
 ghost use Rattle.explanations.specs.Found.{IsFound};
@@ -9,7 +10,8 @@ ghost use Rattle.explanations.specs.Found.{IsFound};
 use crate::explanation::{Explanation, WrittenRef};
 use crate::processed::ProcessedBatch;
 use crate::question::Question;
-use keyspace::{RangesRef, Verdict};
+use keys::RangeRef;
+use keyspace::{Txns, Verdict};
 use std::collections::VecDeque;
 
 // Returns the newest write of these batches that answers the question.
@@ -43,13 +45,12 @@ fn search_batch<'a>(
     let mut found = found;
     for txn in 0..batch.txns.len() {
         if entries[txn].verdict == Verdict::Committed {
-            let transaction = batch.txns.txn(txn);
             let origin = Origin {
                 proxy: processed.proxy(),
                 version: batch.version,
                 txn,
             };
-            found = search_ranges(question, origin, &transaction.writes, found);
+            found = search_txn(question, origin, &batch.txns, found);
         }
     }
     found
@@ -63,27 +64,49 @@ struct Origin {
     txn: usize,
 }
 
-fn search_ranges<'a>(
+// Looks at the keys of a write range only if its hash is that of the question, or if one of the two
+// isn't a single key.
+fn search_txn<'a>(
     question: &Question,
     origin: Origin,
-    ranges: &RangesRef<'a>,
+    txns: &'a Txns,
+    found: Option<Explanation<'a>>,
+) -> Option<Explanation<'a>>
+    requires within { origin.txn < length txns.now }
+    ensures found { (txn : Txn) → slice_get txns.now origin.txn ≡ Some txn
+        → (ws : List Written) → IsFound ws found.entry → IsFound (ws ++ filter
+        (explains question.now.version question.now.txn question.now.snapshot question.now.range)
+        (written_by origin.proxy origin.version origin.txn txn.writes)) result }
+{
+    let ranges = txns.txn(origin.txn).writes;
+    let first = txns.first_write_index(origin.txn) as usize;
+    let mut found = found;
+    for index in 0..ranges.len() {
+        if question.may_overlap(txns.hash(first + index)) {
+            found = search_range(question, origin, ranges.get(index), found);
+        }
+    }
+    found
+}
+
+fn search_range<'a>(
+    question: &Question,
+    origin: Origin,
+    range: RangeRef<'a>,
     found: Option<Explanation<'a>>,
 ) -> Option<Explanation<'a>>
     ensures found { (ws : List Written) → IsFound ws found.entry → IsFound (ws ++ filter
         (explains question.now.version question.now.txn question.now.snapshot question.now.range)
-        (written_by origin.proxy origin.version origin.txn ranges.now)) result }
+        (written_by origin.proxy origin.version origin.txn (range.entry ∷ []))) result }
 {
-    let mut found = found;
-    for index in 0..ranges.len() {
-        let write = WrittenRef {
-            proxy: origin.proxy,
-            version: origin.version,
-            txn: origin.txn,
-            range: ranges.get(index),
-        };
-        if question.is_explained_by(&write) {
-            found = Some(found_also(found, write));
-        }
+    let write = WrittenRef {
+        proxy: origin.proxy,
+        version: origin.version,
+        txn: origin.txn,
+        range,
+    };
+    if question.is_explained_by(&write) {
+        return Some(found_also(found, write));
     }
     found
 }

@@ -19,6 +19,9 @@ const _: () = prove!(MAX_CELLS == 134_217_728);
 // How many cells there are at first.
 const FIRST_CELLS: usize = 256;
 
+// How many bytes of memory a cell takes.
+const CELL_BYTES: usize = 24;
+
 // Two to the power of 32: how many hashes there are.
 const HALF: u64 = 0x1_0000_0000;
 
@@ -95,6 +98,11 @@ impl Filter {
             → bound self.now key ≡ self.now.newest_range }
     {
         self.newest_range < self.newest_key
+    }
+
+    /// Returns how many bytes of memory the cells take.
+    pub fn bytes_held(&self) -> usize {
+        self.cells.len().saturating_mul(CELL_BYTES)
     }
 
     /// Notes that a key of this hash, as [`key_hash`] returns it, is written at the version. It

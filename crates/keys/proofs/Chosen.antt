@@ -1,5 +1,5 @@
 -- The indices of the ranges that are chosen, in the order of all.
-use Rattle.std.proofs.Common.{ℕ, zero, suc, ◌<◌, Bool, true, false, cond, List, [], ◌∷◌, length, get_or, set, swap, filter, arith}
+use Rattle.std.proofs.Common.{◌≡◌, ℕ, zero, suc, ◌<◌, Bool, true, false, cond, List, [], ◌∷◌, length, get_or, set, swap, filter, refl, ap, subst, arith}
 use Rattle.std.specs.Prelude.{All}
 use Rattle.std.specs.List.Sorted.{IsPermutation}
 use Rattle.std.proofs.lemmas.List.Elements.{All-filter, Contains-get_or}
@@ -8,8 +8,10 @@ use Rattle.std.proofs.lemmas.List.Sorted.{All-permutation, IsPermutation-append_
 use Rattle.std.proofs.lemmas.Option.{slice_get_within}
 use Rattle.keys.specs.Ranks.{filled_from, AreChosenInOrder, AreInOrder, BeginsFirst}
 use Rattle.keys.specs.Numbering.{IsFilledAt}
+use Rattle.keys.specs.Singles.{HaveInOrder}
 use Rattle.keys.specs.declared.range.Range.{Range}
 use Rattle.keys.proofs.Filled.{filled_at}
+use Rattle.keys.proofs.Kept.{not_true}
 
 module _ {X : Type 0} (p : X → Bool) where
   -- what is chosen of the one list is chosen of the other, in another order
@@ -91,3 +93,47 @@ pub order_within : (ranges : List Range) (order : List ℕ) → AreInOrder range
 order_within ranges order are = λ k d within.
     let filled = All-permutation (IsFilledAt ranges) (filled_from 0 ranges) order are.all (all_filled ranges) k d within in
     slice_get_within ranges (get_or order k d) filled.0 filled.1
+
+-- what is chosen of those that are listed, if all that are chosen are
+filter_within : {X : Type 0} (p q : X → Bool) → ((x : X) → p x ≡ true → q x ≡ true) → (xs : List X)
+    → filter p (filter q xs) ≡ filter p xs
+filter_within p q all [] = refl
+filter_within p q all (x ∷ xs) =
+    let rest = filter_within p q all xs in
+    elim (q x) as (λ b. q x ≡ b → filter p (cond b (x ∷ filter q xs) (filter q xs)) ≡ cond (p x) (x ∷ filter p xs) (filter p xs)) [
+      | true ↦ λ _. ap (λ ys. cond (p x) (x ∷ ys) ys) rest
+      | false ↦ λ left_out. elim (p x) as (λ b. p x ≡ b → filter p (filter q xs) ≡ cond b (x ∷ filter p xs) (filter p xs)) [
+        | true ↦ λ passes. absurd (not_true (q x) left_out (all x passes))
+        | false ↦ λ _. rest
+      ] refl
+    ] refl
+
+pub chosen_among : (chosen : ℕ → Bool) (ranges : List Range) (order : List ℕ) → HaveInOrder chosen ranges order
+    → AreChosenInOrder chosen ranges (filter chosen order)
+chosen_among chosen ranges order have = record {
+  in_order = AllPairs-filter (BeginsFirst ranges) chosen order have.in_order.in_order;
+  all = subst (λ xs. IsPermutation xs (filter chosen order))
+      (filter_within chosen have.listed have.all (filled_from 0 ranges))
+      (moved_chosen chosen (filter have.listed (filled_from 0 ranges)) order have.in_order.all);
+}
+
+-- an index that is listed is within
+pub among_within : (chosen : ℕ → Bool) (ranges : List Range) (order : List ℕ) → HaveInOrder chosen ranges order
+    → All (λ index. index < length ranges) order
+among_within chosen ranges order have = λ k d within.
+    let filled = chosen_filled have.listed ranges order have.in_order k d within in
+    slice_get_within ranges (get_or order k d) filled.0 filled.1
+
+-- the order of all has the chosen ones too
+filter_all : {X : Type 0} (xs : List X) → filter (λ (x : X). true) xs ≡ xs
+filter_all [] = refl
+filter_all (x ∷ xs) = ap (λ ys. x ∷ ys) (filter_all xs)
+
+pub among_all : (chosen : ℕ → Bool) (ranges : List Range) (order : List ℕ) → AreInOrder ranges order
+    → HaveInOrder chosen ranges order
+among_all chosen ranges order all = record {
+  listed = λ index. true;
+  in_order = subst (AreChosenInOrder (λ index. true) ranges) (filter_all order)
+      (chosen_in_order (λ index. true) ranges order all);
+  all = λ index _. refl;
+}

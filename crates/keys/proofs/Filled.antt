@@ -1,5 +1,5 @@
 -- The indices of the ranges that aren't empty.
-use Rattle.std.proofs.Common.{◌≡◌, ℕ, zero, suc, ◌+◌, ◌<◌, ◌≤◌, true, false, cond, List, [], ◌∷◌, ◌++◌, length, get_or, drop, refl, ap, subst, ◌∙◌, inl, inr, arith, append_assoc, add-one}
+use Rattle.std.proofs.Common.{◌≡◌, ℕ, zero, suc, ◌+◌, ◌<◌, ◌≤◌, Bool, true, false, cond, List, [], ◌∷◌, ◌++◌, length, get_or, drop, filter, refl, ap, subst, ◌∙◌, inl, inr, arith, append_assoc, add-one}
 use Rattle.std.specs.Prelude.{All, Contains, Some, slice_get}
 use Rattle.std.specs.List.Sorted.{IsPermutation}
 use Rattle.std.proofs.Math.Seq.{drop-cons}
@@ -135,6 +135,25 @@ empty_left_out ranges i r done whole at empty was =
     let left : done ++ filled_from i (r ∷ drop (i + 1) ranges) ≡ whole =
     subst (λ rs. done ++ filled_from i rs ≡ whole) (left_at ranges i r at) was in
     rw empty at left
+
+-- of those that are chosen, one that isn't empty is listed if it is chosen
+pub chosen_listed : (p : ℕ → Bool) (ranges : List Range) (i : ℕ) (r : Range) (done whole : List ℕ)
+    → slice_get ranges i ≡ Some r → is_filled r ≡ true → p i ≡ true
+    → done ++ filter p (filled_from i (drop i ranges)) ≡ whole
+    → (done ++ i ∷ []) ++ filter p (filled_from (i + 1) (drop (i + 1) ranges)) ≡ whole
+chosen_listed p ranges i r done whole at filled chosen was =
+    let left : done ++ filter p (filled_from i (r ∷ drop (i + 1) ranges)) ≡ whole =
+    subst (λ rs. done ++ filter p (filled_from i rs) ≡ whole) (left_at ranges i r at) was in
+    append_assoc done (i ∷ []) (filter p (filled_from (i + 1) (drop (i + 1) ranges))) ∙ (rw (filled, chosen) at left)
+
+pub unchosen_left_out : (p : ℕ → Bool) (ranges : List Range) (i : ℕ) (r : Range) (done whole : List ℕ)
+    → slice_get ranges i ≡ Some r → is_filled r ≡ true → p i ≡ false
+    → done ++ filter p (filled_from i (drop i ranges)) ≡ whole
+    → done ++ filter p (filled_from (i + 1) (drop (i + 1) ranges)) ≡ whole
+unchosen_left_out p ranges i r done whole at filled unchosen was =
+    let left : done ++ filter p (filled_from i (r ∷ drop (i + 1) ranges)) ≡ whole =
+    subst (λ rs. done ++ filter p (filled_from i rs) ≡ whole) (left_at ranges i r at) was in
+    rw (filled, unchosen) at left
 
 -- what a test for emptiness tells
 pub filled_unless : (r : Range) → (IsEmpty r → ⊥) → is_filled r ≡ true

@@ -179,7 +179,7 @@ pub record KeptNext (done : List (List ℕ)) (key : List ℕ) (keys next : List 
   pub last : rank next key ≡ length next - 1
 
 -- the last key's rank, where the others are named by an equation
-rank_at_end : (keys before : List (List ℕ)) (key : List ℕ) → AreRising keys → keys ≡ before ++ key ∷ []
+pub rank_at_end : (keys before : List (List ℕ)) (key : List ℕ) → AreRising keys → keys ≡ before ++ key ∷ []
     → rank keys key ≡ length keys - 1
 rank_at_end keys before key rising e =
     rw e

@@ -12,6 +12,8 @@ pub mod Ranking
 pub mod Kept
 pub mod Numbering
 pub mod SingleKeys
+pub mod NearHeads
+pub mod Spacing
 pub mod Reaching
 pub mod Hashed
 pub mod EndHeads
@@ -19,5 +21,6 @@ pub mod Galloping
 pub mod Filled
 pub mod Chosen
 pub mod Ranked
+pub mod Singled
 pub mod SameBytes
 pub mod Runs

@@ -25,7 +25,7 @@ none_numbered_yet ranges runs =
     record { kept = kept_none; count = refl; numbers = All-nil (IsNumbered ranges [] runs) }
 
 -- what a number more says
-more_less_one : (more : ℕ) → 0 < more → more - 1 + 1 ≡ more
+pub more_less_one : (more : ℕ) → 0 < more → more - 1 + 1 ≡ more
 more_less_one more some = omega arith
 
 -- one range more is numbered

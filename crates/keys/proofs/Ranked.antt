@@ -1,6 +1,6 @@
 -- Ranges that are ranked once their begins are sorted, numbered and reached.
 use Rattle.std.proofs.Common.{◌≡◌, ℕ, ◌<◌, Bool, true, false, List, ◌++◌, length, get_or, take, drop, replicate, refl, sym, ap, subst, ◌∙◌, inl, inr, arith}
-use Rattle.std.specs.Prelude.{All, Contains, Some, slice_get}
+use Rattle.std.specs.Prelude.{All, AllPairs, Contains, Some, slice_get}
 use Rattle.std.specs.List.Sorted.{IsPermutation}
 use Rattle.std.proofs.Math.Seq.{take-append_seam}
 use Rattle.std.proofs.lemmas.List.{ext_get_or, get_or-map, get_or-replicate, length-map, length-replicate}
@@ -11,7 +11,7 @@ use Rattle.keys.specs.Key.{IsAtMost}
 use Rattle.keys.specs.Range.{is_filled}
 use Rattle.keys.specs.declared.range.Range.{Range}
 use Rattle.keys.specs.declared.ranks.sorting.Headed.{Headed}
-use Rattle.keys.specs.Ranks.{rank, run_or_none, runs_of, filled_from, AreBegins, AreInOrder, HaveBegin, IsBeginIn}
+use Rattle.keys.specs.Ranks.{rank, run_or_none, runs_of, filled_from, AreBegins, AreInOrder, BeginsFirst, HaveBegin, IsBeginIn}
 use Rattle.keys.specs.Sorting.{begin_at, begin_of, indices_of, AreInBeginOrder}
 use Rattle.keys.specs.Numbering.{end_at, end_of, run_at, AreEachOnce, HasRun, IsFilledAt, OthersStay}
 use Rattle.keys.proofs.callers.Meeting.{before_unless_empty, not_empty}
@@ -91,25 +91,27 @@ module _ (ranges : List Range) (headed : List Headed) (keys : List (List ℕ))
       ])
 
 -- the indices are in the order of the begins
+pub begins_first : (ranges : List Range) (headed : List Headed) → AreInBeginOrder ranges headed
+    → AllPairs (BeginsFirst ranges) (indices_of headed)
+begins_first ranges headed sorted = λ i j d lt within a b at_i at_j.
+    let n = length-map {B = ℕ} headed (λ h. h.index) in
+    let index = λ (h : Headed). h.index in
+    let i_lt : i < length headed = omega (arith, n) in
+    let j_lt : j < length headed = omega (arith, n) in
+    let of_i = get_or-map index headed i no_headed d i_lt in
+    let of_j = get_or-map index headed j no_headed d j_lt in
+    let begin_i : begin_at ranges (get_or headed i no_headed).index ≡ a.begin =
+    ap (begin_at ranges) (sym of_i) ∙ ap begin_of at_i in
+    let begin_j : begin_at ranges (get_or headed j no_headed).index ≡ b.begin =
+    ap (begin_at ranges) (sym of_j) ∙ ap begin_of at_j in
+    subst (λ key. IsAtMost key b.begin) begin_i
+    (subst (λ key. IsAtMost (begin_at ranges (get_or headed i no_headed).index) key) begin_j
+    (begins_rise ranges headed i j no_headed sorted (omega arith) j_lt))
+
 pub are_in_order : (ranges : List Range) (headed : List Headed) → AreInBeginOrder ranges headed
     → IsPermutation (filled_from 0 ranges) (indices_of headed) → AreInOrder ranges (indices_of headed)
-are_in_order ranges headed sorted moved = record {
-  in_order = λ i j d lt within a b at_i at_j.
-      let n = length-map {B = ℕ} headed (λ h. h.index) in
-      let index = λ (h : Headed). h.index in
-      let i_lt : i < length headed = omega (arith, n) in
-      let j_lt : j < length headed = omega (arith, n) in
-      let of_i = get_or-map index headed i no_headed d i_lt in
-      let of_j = get_or-map index headed j no_headed d j_lt in
-      let begin_i : begin_at ranges (get_or headed i no_headed).index ≡ a.begin =
-      ap (begin_at ranges) (sym of_i) ∙ ap begin_of at_i in
-      let begin_j : begin_at ranges (get_or headed j no_headed).index ≡ b.begin =
-      ap (begin_at ranges) (sym of_j) ∙ ap begin_of at_j in
-      subst (λ key. IsAtMost key b.begin) begin_i
-      (subst (λ key. IsAtMost (begin_at ranges (get_or headed i no_headed).index) key) begin_j
-      (begins_rise ranges headed i j no_headed sorted (omega arith) j_lt));
-  all = moved;
-}
+are_in_order ranges headed sorted moved =
+    record { in_order = begins_first ranges headed sorted; all = moved }
 
 -- a list that was written over the whole of another
 pub written_whole : {X : Type 0} (n : ℕ) (new old : List X) → length new ≡ n

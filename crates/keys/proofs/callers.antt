@@ -5,5 +5,7 @@ pub mod Lists
 pub mod SomeElement
 pub mod KeyOrder
 pub mod Meeting
+pub mod SingleRanges
 pub mod KeyHeads
 pub mod Ranks
+pub mod Picked

@@ -7,6 +7,7 @@ pub mod Ranks
 pub mod Sorting
 pub mod Counting
 pub mod Numbering
+pub mod Singles
 pub mod Gaps
 pub mod Laws
 pub mod Bytes

@@ -1,9 +1,10 @@
 //! The hash of a key, by which a filter finds its cell.
 
-ghost use Rattle.std.specs.Prelude.{◌≡◌, ◌↔◌, ◌^◌, ◌<◌, Any, IfOk, IsTrue};
+ghost use Rattle.std.specs.Prelude.{◌≡◌, ◌↔◌, ◌^◌, ◌<◌, List, All, Any, IfOk, IsTrue};
 ghost use Rattle.keys.specs.Head.{head_of};
 ghost use Rattle.keys.specs.Hash.{hash_of, mixed, mixture_of, AreHashesOf};
 ghost use Rattle.keys.specs.Range.{IsSingle};
+ghost use Rattle.keys.specs.declared.range.Range.{Range};
 
 use crate::prefix::key_head;
 use crate::range_list::RangeList;
@@ -44,6 +45,19 @@ pub fn single_hashes<L: RangeList>(
         hashes.push(ranges.range(index).single_hash())?;
     }
     Ok(hashes)
+}
+
+/// Returns `true` if there are hashes, and each of the ranges that they are of is a single key.
+pub fn are_all_single(hashes: &[Option<u32>]) -> bool
+    ensures single { IsTrue result → (ranges : List Range) → AreHashesOf ranges hashes.now
+        → All IsSingle ranges }
+{
+    for hash in hashes {
+        if hash.is_none() {
+            return false;
+        }
+    }
+    !hashes.is_empty()
 }
 
 // Returns `true` if some range is a single key.

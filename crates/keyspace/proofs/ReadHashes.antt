@@ -1,4 +1,4 @@
--- The read version of a transaction, and its read ranges, among all ranges of a batch, and the hashes of these.
+-- The read version of a transaction, where its ranges are among all ranges of a batch, and the hashes of these.
 use Rattle.std.proofs.Common.{◌≡◌, ◌+◌, ◌-◌, ◌*◌, ◌<◌, ◌≤◌, ℕ, Option, inl, inr, arith, List, length, take, refl, sym, ap, ◌∙◌, subst, Some, slice_get, slice_range, get_or}
 use Rattle.std.proofs.lemmas.List.{get_or-map, length-map}
 use Rattle.std.proofs.lemmas.Option.{get_or_from_slice_get, slice_get_within}
@@ -16,7 +16,7 @@ use Rattle.keyspace.specs.Tables.{range_told, txn_told, txns_told, AreRows, AreT
 use Rattle.keyspace.proofs.callers.SameFields.{same_ranges}
 use Rattle.keyspace.proofs.FieldsBack.{fields_of_txns}
 use Rattle.keyspace.proofs.RangesTold.{part_told}
-use Rattle.keyspace.proofs.RowsInTurn.{rows_before, told_at}
+use Rattle.keyspace.proofs.RowsInTurn.{rows_before, row_at, told_at}
 use Rattle.keyspace.proofs.TablesRanges.{few_spans, ranges_told}
 use Rattle.keyspace.proofs.TablesTxns.{length-txns}
 
@@ -61,6 +61,31 @@ module _ (buffer : List ℕ) (spans : List Span) (rows : List Row) (tables : Are
       let at : it.0 ≡ get_or rows index it.0 = sym (get_or_from_slice_get rows index it.0 it.0 it.1) in
       part_get (ranges_in txns) from (it.0.end - it.0.writes) read range
       (ap (λ (reads : List Range). slice_get reads read) (sym (reads_are index from it.0 txn before is at)) ∙ there)
+
+  writes_are : (index from : ℕ) (row : Row) (txn : Txn) → AreRows 0 (take index rows) from → slice_get txns index ≡ Some txn
+      → row ≡ get_or rows index row → txn.writes ≡ slice_range (ranges_in txns) (row.end - row.writes) row.end
+  writes_are index from row txn before is at =
+      let first = row.end - row.writes in
+      let part = slice_range (ranges_in txns) first row.end in
+      same_ranges txn.writes part
+      (ap (λ (f : TxnFields). f.writes) (fields_at index from row txn before is at)
+      ∙ sym (part_told buffer spans (ranges_in txns) part first row.end (ranges_told buffer spans rows tables tables.holds) refl))
+
+  -- where a write range stands among all ranges
+  pub write_at : (index write : ℕ) (row : Row) (txn : Txn) (range : Range) → slice_get txns index ≡ Some txn
+      → row ≡ get_or rows index row → slice_get txn.writes write ≡ Some range
+      → slice_get (ranges_in txns) ((row.end - row.writes) + write) ≡ Some range
+  write_at index write row txn range is at there =
+      let before = rows_before 0 rows (length spans) index tables.rows_fit in
+      part_get (ranges_in txns) (row.end - row.writes) row.end write range
+      (ap (λ (writes : List Range). slice_get writes write) (sym (writes_are index before.0 row txn before.1 is at)) ∙ there)
+
+  -- the write ranges of a row are among those up to its end
+  pub writes_fit : (index : ℕ) (row : Row) → index < length rows → row ≡ get_or rows index row → row.writes ≤ row.end
+  writes_fit index row within at =
+      let before = rows_before 0 rows (length spans) index tables.rows_fit in
+      let fits = row_at 0 rows (length spans) index before.0 row row tables.rows_fit before.1 within at in
+      omega (arith, fits.0)
 
   -- there are only so many ranges
   pub few_ranges : length (ranges_in txns) ≤ 2048 * length rows

@@ -1,17 +1,18 @@
 -- Which ranges are write ranges, by the rows and by the transactions.
 use Rattle.std.proofs.Common.{◌≡◌, ℕ, ◌-◌, ◌+◌, ◌<◌, ◌≤◌, Bool, true, false, List, [], ◌∷◌, ◌++◌, length, map, filter, take, drop, get_or, replicate, flat_map, slice_range, refl, sym, ap, ap₂, subst, ◌∙◌, arith, All, append-nil, append_assoc, length-append, length-drop, length-take}
 use Rattle.std.proofs.lemmas.List.{length-map, length-replicate, take_all, take_more}
-use Rattle.std.specs.Prelude.{slice_index_or}
-use Rattle.keys.specs.Ranks.{AreChosenInOrder, AreInOrder}
+use Rattle.keys.specs.Ranks.{AreChosenInOrder}
+use Rattle.keys.specs.Singles.{is_marked, picked, HaveInOrder}
 use Rattle.keys.specs.declared.range.Range.{Range}
-use Rattle.keys.proofs.callers.Ranks.{chosen_in_order}
+use Rattle.keys.proofs.callers.Picked.{picked-append, picked-replicate}
+use Rattle.keys.proofs.callers.Ranks.{chosen_among}
 use Rattle.keyspace.specs.declared.txn.Txn.{Txn}
 use Rattle.keyspace.specs.declared.span.Span.{Span}
 use Rattle.keyspace.specs.declared.row.Row.{Row}
-use Rattle.keyspace.specs.BatchRanges.{is_write_in, ranges_in, write_marks}
+use Rattle.keyspace.specs.BatchRanges.{is_write_in, marks_of_txn, ranges_in, ranges_of_txn, write_marks, writes_in}
 use Rattle.keyspace.specs.Fields.{TxnFields, range_fields, txn_fields, TxnLimits, txns_with}
 use Rattle.keyspace.specs.Tables.{range_told, txns_from, txns_told, AreRows, AreTables}
-use Rattle.keyspace.specs.RowMarks.{is_write_of, marks_from, marks_of_rows}
+use Rattle.keyspace.specs.RowMarks.{marks_from, marks_of_rows}
 use Rattle.keyspace.proofs.callers.Rows.{rows_rise}
 use Rattle.keyspace.proofs.FieldsBack.{fields_of_txns}
 use Rattle.keyspace.proofs.RowsInTurn.{rows_up_to, row_at}
@@ -110,27 +111,55 @@ by_rows buffer spans from (row ∷ rows) to are within =
     sym (append_assoc (replicate (middle - from) false) (replicate row.writes true) (marks_from row.end rows))
     ∙ ap₂ ◌++◌ (ap₂ marks_for (sym count) (sym more)) (by_rows buffer spans row.end rows to are.1 within)
 
+-- the write ranges are those whose marks are set
+picked_of_txn : (t : Txn) → picked (marks_of_txn t) (ranges_of_txn t) ≡ t.writes
+picked_of_txn t =
+    picked-append (replicate (length t.reads) false) (replicate (length t.writes) true) t.reads t.writes
+    (length-replicate (length t.reads) false)
+    ∙ ap₂ ◌++◌ (picked-replicate false t.reads) (picked-replicate true t.writes)
+
+marks_count : (t : Txn) → length (marks_of_txn t) ≡ length (ranges_of_txn t)
+marks_count t = omega (
+  arith,
+  length-append (replicate (length t.reads) false) (replicate (length t.writes) true),
+  length-replicate (length t.reads) false,
+  length-replicate (length t.writes) true,
+  length-append t.reads t.writes,
+)
+
+picked_writes : (txns : List Txn) → picked (write_marks txns) (ranges_in txns) ≡ writes_in txns
+picked_writes [] = refl
+picked_writes (t ∷ txns) =
+    picked-append (marks_of_txn t) (write_marks txns) (ranges_of_txn t) (ranges_in txns) (marks_count t)
+    ∙ ap₂ ◌++◌ (picked_of_txn t) (picked_writes txns)
+
 module _ (buffer : List ℕ) (spans : List Span) (rows : List Row) (tables : AreTables buffer spans rows)
     (holds : All TxnLimits (txns_told buffer spans rows)) where
   abbrev txns : List Txn
   txns = txns_with (txns_told buffer spans rows) holds
 
   -- the marks of the rows are those of the transactions that the tables mean
-  marks_told : marks_of_rows rows ≡ write_marks txns
+  pub marks_told : marks_of_rows rows ≡ write_marks txns
   marks_told =
       by_rows buffer spans 0 rows (length spans) tables.rows_fit (omega arith)
       ∙ sym (ap marks_of_fields (fields_of_txns (txns_told buffer spans rows) holds)) ∙ sym (by_fields txns)
 
-  -- the write ranges by the rows, in the order of all ranges, are those of the transactions
-  pub writes_in_order : (these : List Row) (ranges : List Range) (order their_order writes : List ℕ) → these ≡ rows
-      → ranges ≡ ranges_in txns → their_order ≡ order → AreInOrder ranges order
-      → writes ≡ filter (is_write_of these) their_order
+  -- those listed that are marked are the write ranges of the transactions, in order
+  pub writes_in_order : (marks : List Bool) (ranges : List Range) (order their_order writes : List ℕ)
+      → marks ≡ marks_of_rows rows → ranges ≡ ranges_in txns → their_order ≡ order
+      → HaveInOrder (is_marked marks) ranges order → writes ≡ filter (is_marked marks) their_order
       → AreChosenInOrder (is_write_in txns) (ranges_in txns) writes
-  writes_in_order these ranges order their_order writes same_rows same_ranges same_order all are =
-      let chosen = chosen_in_order (is_write_in txns) (ranges_in txns) order
-      (subst (λ (rs : List Range). AreInOrder rs order) same_ranges all) in
+  writes_in_order marks ranges order their_order writes same_marks same_ranges same_order have are =
+      let chosen = chosen_among (is_marked marks) ranges order have in
+      let told = same_marks ∙ marks_told in
+      let moved = subst (λ (ms : List Bool). AreChosenInOrder (is_marked ms) ranges (filter (is_marked ms) order)) told chosen in
       subst (AreChosenInOrder (is_write_in txns) (ranges_in txns))
-      (sym (are ∙ ap (λ (rs : List Row). filter (is_write_of rs) their_order) same_rows
-      ∙ ap (filter (is_write_of rows)) same_order
-      ∙ ap (λ (marks : List Bool). filter (λ index. slice_index_or marks index false) order) marks_told))
-      chosen
+      (sym (are ∙ ap (filter (is_marked marks)) same_order
+      ∙ ap (λ (ms : List Bool). filter (is_marked ms) order) told))
+      (subst (λ (rs : List Range). AreChosenInOrder (is_write_in txns) rs (filter (is_write_in txns) order)) same_ranges moved)
+
+  -- and those picked
+  pub picked_told : (marks : List Bool) (ranges : List Range) → marks ≡ marks_of_rows rows → ranges ≡ ranges_in txns
+      → picked marks ranges ≡ writes_in txns
+  picked_told marks ranges same_marks same_ranges =
+      ap₂ picked (same_marks ∙ marks_told) same_ranges ∙ picked_writes txns

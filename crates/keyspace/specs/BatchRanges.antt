@@ -11,6 +11,10 @@ ranges_of_txn t = t.reads ++ t.writes
 abbrev pub ranges_in : List Txn → List Range
 ranges_in txns = flat_map ranges_of_txn txns
 
+-- those that are written
+abbrev pub writes_in : List Txn → List Range
+writes_in txns = flat_map (λ t. t.writes) txns
+
 -- for each range of a transaction, whether it is a write range
 abbrev pub marks_of_txn : Txn → List Bool
 marks_of_txn t = replicate (length t.reads) false ++ replicate (length t.writes) true

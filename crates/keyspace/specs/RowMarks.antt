@@ -1,5 +1,5 @@
 -- Which of the ranges of rows are write ranges. This project's own.
-use Rattle.std.specs.Prelude.{ℕ, ◌-◌, Bool, true, false, List, [], ◌∷◌, ◌++◌, replicate, slice_index_or}
+use Rattle.std.specs.Prelude.{ℕ, ◌-◌, Bool, true, false, List, [], ◌∷◌, ◌++◌, replicate}
 use Rattle.keyspace.specs.declared.row.Row.{Row}
 
 -- for each range of rows, whether it is a write range, where the spans of the rows begin at an index
@@ -11,7 +11,3 @@ marks_from from (row ∷ rows) =
 -- for each range of the rows, in order
 abbrev pub marks_of_rows : List Row → List Bool
 marks_of_rows rows = marks_from 0 rows
-
--- whether the range at the index is a write range
-abbrev pub is_write_of : List Row → ℕ → Bool
-is_write_of rows index = slice_index_or (marks_of_rows rows) index false

@@ -1,11 +1,14 @@
 //! The transactions of a batch, in one buffer with tables beside it.
 
-ghost use Rattle.std.specs.Prelude.{◌≡◌, ◌<◌, ◌≤◌, Some, length, vec_len, map, slice_get, IfOk};
-ghost use Rattle.std.specs.Prelude.{IsSomeAnd};
+ghost use Rattle.std.specs.Prelude.{◌≡◌, ◌⊎◌, ◌+◌, ◌<◌, ◌≤◌, ℕ, All, Some, length, vec_len};
+ghost use Rattle.std.specs.Prelude.{map, slice_get};
+ghost use Rattle.std.specs.Prelude.{IfOk, IsSomeAnd};
 ghost use Rattle.keys.specs.Hash.{IsHashOf};
+ghost use Rattle.keys.specs.Range.{IsSingle};
 ghost use Rattle.keys.specs.Ranks.{AreChosenInOrder, AreRanked};
+ghost use Rattle.keys.specs.Singles.{AreRankedFor};
 ghost use Rattle.keys.specs.declared.range.Range.{Range};
-ghost use Rattle.keyspace.specs.BatchRanges.{is_write_in, ranges_in};
+ghost use Rattle.keyspace.specs.BatchRanges.{is_write_in, ranges_in, writes_in};
 ghost use Rattle.keyspace.specs.Fields.{txn_fields};
 ghost use Rattle.keyspace.specs.Tables.{txns_told, AreTables, AreTables-prop};
 ghost use Rattle.keyspace.specs.declared.batch.TheConstants.{MAX_TXNS};
@@ -17,7 +20,7 @@ use crate::span::Span;
 use crate::tables::Tables;
 use crate::txn::Txn;
 use crate::txn_ref::TxnRef;
-use crate::write_order::list_writes;
+use crate::write_order::{list_writes, mark_writes};
 use keys::{HashedRange, Ranks, single_hashes};
 use std::alloc::{AllocError, Global};
 use std::marker::Model;
@@ -28,8 +31,7 @@ use std::marker::Model;
 /// They lie in one buffer with the bytes of all keys, a table of spans that says where each range
 /// lies in it, and a table with a row for each transaction. What doesn't depend on other batches is
 /// computed once, where the transactions are put together: the order of the write ranges by begins,
-/// which of the gaps between the begins of all ranges each range covers, and the hashes of single
-/// keys.
+/// which of the gaps between begins each range covers, and the hashes of single keys.
 #[derive(Debug, Drop)]
 pub struct Txns {
     buffer: Vec<u8>,
@@ -45,10 +47,12 @@ pub struct Txns {
 }
 
 impl Model for Txns {
-    ghost use Rattle.std.specs.Prelude.{List};
+    ghost use Rattle.std.specs.Prelude.{◌⊎◌, All, List};
     ghost use Rattle.keys.specs.Hash.{AreHashesOf};
+    ghost use Rattle.keys.specs.Range.{IsSingle};
     ghost use Rattle.keys.specs.Ranks.{AreChosenInOrder, AreRanked};
-    ghost use Rattle.keyspace.specs.BatchRanges.{is_write_in, ranges_in};
+    ghost use Rattle.keys.specs.Singles.{AreRankedFor};
+    ghost use Rattle.keyspace.specs.BatchRanges.{is_write_in, ranges_in, writes_in};
     ghost use Rattle.keyspace.specs.Fields.{txns_with};
     ghost use Rattle.keyspace.specs.Tables.{txns_told};
     ghost use Rattle.keyspace.specs.declared.txn.Txn.{Txn};
@@ -60,7 +64,8 @@ impl Model for Txns {
 
     ghost invariant = { λ t.
         let txns = txns_with (txns_told t.buffer.items t.spans.items t.rows.items) t.tables.holds in
-        AreRanked (ranges_in txns) t.ranks
+        AreRankedFor (writes_in txns) (ranges_in txns) t.ranks
+        × (AreRanked (ranges_in txns) t.ranks ⊎ All IsSingle (ranges_in txns))
         × AreChosenInOrder (is_write_in txns) (ranges_in txns) t.write_order.items
         × AreHashesOf (ranges_in txns) t.hashes.items };
 }
@@ -91,8 +96,9 @@ impl Txns {
     {
         let ranges = RangesRef::new(&buffer, &spans);
         let hashes = single_hashes(alloc, &ranges)?;
-        let (ranks, order) = Ranks::with_hashes(alloc, &ranges, &hashes)?;
-        let write_order = list_writes(alloc, order, &rows)?;
+        let written = mark_writes(alloc, &rows)?;
+        let (ranks, order) = Ranks::for_written(alloc, &ranges, &hashes, &written)?;
+        let write_order = list_writes(alloc, order, &written)?;
         Ok(Txns {
             buffer,
             spans,
@@ -146,6 +152,18 @@ impl Txns {
         first_span(&self.rows, index) + read as u32
     }
 
+    /// Returns the index in [`Txns::ranges`] of the first write range of a transaction. Those of its
+    /// other write ranges follow.
+    pub fn first_write_index(&self, index: usize) -> u32
+        requires within { index < length self.now }
+        ensures writes { (txn : TxnValue) (write : ℕ) (range : Range)
+            → slice_get self.now index ≡ Some txn → slice_get txn.writes write ≡ Some range
+            → slice_get (ranges_in self.now) (result + write) ≡ Some range }
+    {
+        let row = self.rows[index];
+        row.end - row.writes as u32
+    }
+
     /// Returns the range at the index in [`Txns::ranges`], without copying its keys, and with its
     /// hash, without looking at them.
     pub fn hashed_range(&self, index: usize) -> HashedRange<'_>
@@ -176,9 +194,12 @@ impl Txns {
     }
 
     /// Returns which of the gaps between the begins of the ranges each of these covers. The index
-    /// of a range is that in [`Txns::ranges`].
+    /// of a range is that in [`Txns::ranges`]. If all ranges are single keys, a key that is read and
+    /// not written may have an empty run.
     pub fn ranks(&self) -> &Ranks
-        ensures ranked { AreRanked (ranges_in self.now) result.now }
+        ensures ranked { AreRankedFor (writes_in self.now) (ranges_in self.now) result.now }
+        ensures exact { AreRanked (ranges_in self.now) result.now
+            ⊎ All IsSingle (ranges_in self.now) }
     {
         &self.ranks
     }

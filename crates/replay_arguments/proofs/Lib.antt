@@ -1,4 +1,5 @@
 pub mod Numbers
 pub mod Getters
+pub mod Filters
 pub mod Refusals
 pub mod Openings

@@ -1,9 +1,10 @@
 -- What the words of a command line ask for: the command as `clap` sees it, and what its matches hold.
-use Rattle.std.specs.Prelude.{◌≡◌, ◌≢◌, ◌⊎◌, ℕ, ◌+◌, ◌≤◌, pos, Bool, true, if◌then◌else◌, List, [], ◌∷◌, codes, false, length, IfSome, Option, None, Some, is_some, option_map, ⊤}
+use Rattle.std.specs.Prelude.{◌≡◌, ◌≢◌, ◌⊎◌, ℕ, ◌+◌, ◌≤◌, ℤ, pos, FitsSigned, Bool, true, if◌then◌else◌, List, [], ◌∷◌, ◌++◌, codes, false, length, IfSome, Option, None, Some, is_some, option_map, unwrap_or, ⊤}
 use Rattle.std.specs.Str.{bytes_eq}
-use Rattle.std.specs.Str.Parse.{digits_value, signed_digits_value, without_leading_plus}
+use Rattle.std.specs.Int.{w64}
+use Rattle.std.specs.Str.Parse.{IsNumeral, digits_value, signed_digits_value, without_leading_plus, without_leading_sign}
 use Rattle.clap.specs.Values.{IsSignedIn, IsUnsignedIn, bool_text}
-use Rattle.clap.specs.Words.{App, IsAmong, Kinds, Row, Rule, all_of, fault_of, matches_of, new_app, new_rule, one_of, with_rule}
+use Rattle.clap.specs.Words.{App, IsAmong, Kinds, Row, Rule, all_of, fault_of, first_of, matches_of, new_app, new_rule, one_of, with_rule}
 use Rattle.clap.specs.declared.builder.action.ArgAction.TheVariants.{Append, SetTrue}
 use Rattle.clap.specs.declared.builder.value_parser.ValueParser.{ValueParser}
 use Rattle.clap.specs.declared.builder.value_parser.ValueParser.TheVariants.{Signed, Unsigned}
@@ -13,6 +14,10 @@ use Rattle.lane.specs.declared.ends.TheConstants.{MAX_CAPACITY}
 use Rattle.conflict.specs.declared.conflict_set.TheConstants.{MAX_WINDOW}
 use Rattle.stepmap.specs.declared.step_map.TheConstants.{MAX_LIMIT}
 use Rattle.resolver.specs.declared.resolver_core.TheConstants.{MAX_PROXIES}
+use Rattle.keyspace.specs.declared.reply.Verdict.{Verdict}
+use Rattle.replay_output.specs.Filter.{least_version}
+use Rattle.replay_output.specs.Lines.{verdict_word}
+use Rattle.replay_output.specs.declared.options.filtering.Filter.{Filter}
 use Rattle.replay_output.specs.declared.options.form.Form.{Form}
 use Rattle.replay_output.specs.declared.options.form.Form.TheVariants.{Frames, Json, Kept}
 use Rattle.replay_output.specs.declared.options.Options.{Options}
@@ -43,6 +48,17 @@ frames_rule = record (new_rule (codes "frames")) { long = Some (codes "frames");
 abbrev pub json_rule : Rule
 json_rule = record (new_rule (codes "json")) { long = Some (codes "json"); action = Some SetTrue }
 
+abbrev pub quiet_rule : Rule
+quiet_rule = record (new_rule (codes "quiet")) { long = Some (codes "quiet"); action = Some SetTrue }
+
+-- an option `--only VERDICT`
+abbrev pub only_rule : Rule
+only_rule = record (new_rule (codes "only")) { long = Some (codes "only"); value_names = 1 }
+
+-- an option `--versions A..B`
+abbrev pub versions_rule : Rule
+versions_rule = record (new_rule (codes "versions")) { long = Some (codes "versions"); value_names = 1 }
+
 -- an option `--check REPLIES`, any number of times
 abbrev pub check_rule : Rule
 check_rule = record (new_rule (codes "check")) {
@@ -69,13 +85,14 @@ file_rule = record (new_rule (codes "FILE")) { action = Some Append; required = 
 abbrev pub plain_app : App
 plain_app = new_app (codes "replay")
 
--- `replay [--capacity N] [--window N] [--limit N] [--frames] [--json] [--check REPLIES].. [--stream] [--replies OUT].. FILE..`,
--- with `--help` and `--version`
+-- `replay [--capacity N] [--window N] [--limit N] [--frames] [--json] [--quiet] [--only VERDICT] [--versions A..B] [--check REPLIES]..
+-- [--stream] [--replies OUT].. FILE..`, with `--help` and `--version`
 unfoldable pub replay_app : App
 replay_app =
-    with_rule (with_rule (with_rule (with_rule (with_rule (with_rule (with_rule (with_rule (with_rule (record plain_app {
-      top = record plain_app.top { has_version = true };
-    }) capacity_rule) window_rule) limit_rule) frames_rule) json_rule) check_rule) stream_rule) replies_rule) file_rule
+    with_rule (with_rule (with_rule (with_rule (with_rule (with_rule (with_rule (with_rule (with_rule (with_rule (with_rule (with_rule
+    (record plain_app { top = record plain_app.top { has_version = true } })
+    capacity_rule) window_rule) limit_rule) frames_rule) json_rule) quiet_rule) only_rule) versions_rule)
+    check_rule) stream_rule) replies_rule) file_rule
 
 abbrev pub is_frames : Form → Bool
 is_frames Frames = true
@@ -107,10 +124,45 @@ pub record HoldsNumbers (rows : List Row) (options : Options) : Type 0 where
   pub limit : option_map (λ text. digits_value 10 (without_leading_plus text)) (one_of (codes "limit") rows)
       ≡ Some options.limit
 
+-- the name of a verdict: its word without the places of a report
+abbrev pub verdict_name : Verdict → List ℕ
+verdict_name verdict = verdict_word verdict []
+
+-- the text of a version: a decimal integer of 64 bits, with a sign or without
+abbrev pub IsVersion : List ℕ → ℤ → Type 0
+IsVersion text version = IsNumeral 10 (without_leading_sign text) × FitsSigned w64 version × (signed_digits_value 10 text ≡ version)
+
+-- the text of an end of a range of versions: empty, if the end is left out
+abbrev pub IsEnd : List ℕ → Option ℤ → Type 0
+IsEnd text None = text ≡ []
+IsEnd text (Some version) = IsVersion text version
+
+-- the text `A..B` of the versions from the first end, or from the least version, up to the second and without it
+pub record IsVersions (text : List ℕ) (least : ℤ) (below : Option ℤ) : Type 0 where
+  pub from : List ℕ
+  pub to : List ℕ
+  pub split : text ≡ from ++ (codes ".." ++ to)
+  pub first : Option ℤ
+  pub from_first : IsEnd from first
+  pub least_is : least ≡ unwrap_or first least_version
+  pub to_below : IsEnd to below
+
+-- the versions that are found: all of them, if none are asked for
+abbrev pub AreVersions : Option (List ℕ) → ℤ → Option ℤ → Type 0
+AreVersions None least below = (least ≡ least_version) × (below ≡ None)
+AreVersions (Some text) least below = IsVersions text least below
+
+-- the filter that is found
+pub record HoldsFilter (rows : List Row) (filter : Filter) : Type 0 where
+  pub quiet : one_of (codes "quiet") rows ≡ Some (bool_text filter.quiet)
+  pub only : first_of (codes "only") rows ≡ option_map verdict_name filter.only
+  pub versions : AreVersions (first_of (codes "versions") rows) filter.least filter.below
+
 -- what is found for the options
 pub record HoldsOptions (rows : List Row) (options : Options) : Type 0 where
   pub numbers : HoldsNumbers rows options
-  pub form : HoldsForm rows options.form
+  pub form : HoldsForm rows options.style.form
+  pub filter : HoldsFilter rows options.style.filter
 
 -- the matches of a command line, defaults included
 unfoldable pub rows_of_words : List (List ℕ) → List Row
@@ -161,6 +213,17 @@ pub record HasNumbers (rows : List Row) : Type 0 where
 -- some form is found
 abbrev pub HasForm : List Row → Type 0
 HasForm rows = (form : Form) × HoldsForm rows form
+
+-- no option asks for some lines only
+pub record AsksForAll (rows : List Row) : Type 0 where
+  pub quiet : one_of (codes "quiet") rows ≡ Some (bool_text false)
+  pub only : first_of (codes "only") rows ≡ None
+  pub versions : first_of (codes "versions") rows ≡ None
+
+-- some filter is found, and no option asks for some lines only where answers are to be compared
+abbrev pub HasFilter : List Row → Type 0
+HasFilter rows = ((filter : Filter) × HoldsFilter rows filter)
+    × (is_some (all_of (codes "check") rows) ≡ true → AsksForAll rows)
 
 -- from 1 to `MAX_PROXIES` files are found
 pub record HasFiles (rows : List Row) : Type 0 where
@@ -225,12 +288,13 @@ abbrev pub HasRecordsEach : List Row → Type 0
 HasRecordsEach rows = is_some (all_of (codes "replies") rows) ≡ true
     → IfSome (all_of (codes "FILE") rows) (λ names. HasRecords (length names) rows)
 
--- the arguments that are found are of no use: two forms, a number out of its range, no files or too many, other than one file of replies
--- a file, standard input twice, answers that are to be compared as they come, or other than one file for records a file
+-- the arguments that are found are of no use: two forms, a filter that is none or beside a comparison, a number out of its range, no files
+-- or too many, other than one file of replies a file, standard input twice, answers that are to be compared as they come, or other than
+-- one file for records a file
 abbrev pub IsOfNoUse : List Row → Type 0
 IsOfNoUse rows = (¬ HasForm rows)
     ⊎ ((¬ HasNumbers rows) ⊎ ((¬ HasFiles rows) ⊎ ((¬ HasRepliesEach rows) ⊎ ((¬ HasInputOnce rows)
-    ⊎ ((¬ HasStream rows) ⊎ (¬ HasRecordsEach rows))))))
+    ⊎ ((¬ HasStream rows) ⊎ ((¬ HasRecordsEach rows) ⊎ (¬ HasFilter rows)))))))
 
 -- The words are mistaken: `clap` finds a mistake, or else the arguments that it finds are of no use.
 abbrev pub IsMistaken : List (List ℕ) → Type 0

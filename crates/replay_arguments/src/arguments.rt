@@ -3,22 +3,25 @@
 ghost use Rattle.std.specs.Prelude.{◌≡◌, ◌≢◌, ◌≤◌, ◌⊎◌, IfErr, IfOk, IfSome, OnOk, Some, codes};
 ghost use Rattle.std.specs.Prelude.{is_some, length, map, string_bytes, true, vec_len};
 ghost use Rattle.clap.specs.Words.{all_of, found_of, rows_of};
-ghost use Rattle.replay_arguments.specs.Words.{AsksForText, HasFiles, HasForm, HasInputOnce};
-ghost use Rattle.replay_arguments.specs.Words.{HasNumbers, HasReplies, HoldsForm, HoldsNumbers};
+ghost use Rattle.replay_arguments.specs.Words.{AsksForAll, AsksForText, HasFiles, HasForm};
+ghost use Rattle.replay_arguments.specs.Words.{HasInputOnce, HasNumbers, HasReplies, HoldsForm};
+ghost use Rattle.replay_arguments.specs.Words.{HoldsNumbers};
 ghost use Rattle.replay_arguments.specs.Words.{HoldsOptions, IsFormOf, IsMistaken, IsRefusalBy};
 ghost use Rattle.replay_arguments.specs.Words.{IsRefusalOf, IsTaken, faults_of, rows_of_words};
 ghost use Rattle.replay_arguments.specs.Words.{HasRecords, HasStream, HoldsStream, named};
 ghost use Rattle.clap.specs.declared.error.kind.ErrorKind.{ErrorKind};
 ghost use Rattle.replay_output.specs.declared.options.form.Form.{Form as FormValue};
 
+use crate::arguments::filtering::filter_of;
 use crate::arguments::input::has_input_once;
 use clap::ArgMatches;
 use clap::error::ErrorKind;
-use replay_output::{Form, Options};
+use replay_output::{Form, Options, Style};
 use resolver::MAX_PROXIES;
 use std::alloc::{AllocError, Global};
 
 mod command;
+mod filtering;
 mod input;
 mod refusal;
 
@@ -51,15 +54,17 @@ pub fn read_words<'a>(alloc: Global, words: &'a [String]) -> Result<CommandLine<
         ≡ Some (map (λ name. name.now) line.files.items)) }
     ensures least { IfOk result (λ line. 1 ≤ vec_len line.files) }
     ensures most { IfOk result (λ line. vec_len line.files ≤ MAX_PROXIES) }
-    ensures replies { IfOk result (λ line. line.options.form ≡ Form.Kept
+    ensures replies { IfOk result (λ line. line.options.style.form ≡ Form.Kept
         → all_of (codes "check") (rows_of_words (map string_bytes words.entry.now))
         ≡ Some (map (λ name. name.now) line.replies.items)) }
-    ensures as_many { IfOk result (λ line. line.options.form ≡ Form.Kept
+    ensures as_many { IfOk result (λ line. line.options.style.form ≡ Form.Kept
         → vec_len line.replies ≡ vec_len line.files) }
+    ensures all { IfOk result (λ line. line.options.style.form ≡ Form.Kept
+        → AsksForAll (rows_of_words (map string_bytes words.entry.now))) }
     ensures input { OnOk result (HasInputOnce (rows_of_words (map string_bytes words.entry.now))) }
     ensures streamed { IfOk result (λ line.
         HoldsStream (rows_of_words (map string_bytes words.entry.now)) line.is_streamed) }
-    ensures plain { IfOk result (λ line. line.is_streamed ≡ true → line.options.form ≢ Form.Kept) }
+    ensures plain { IfOk result (λ line. line.is_streamed ≡ true → line.options.style.form ≢ Form.Kept) }
     ensures records { IfOk result (λ line. map (λ name. name.now) line.records.items
         ≡ named (all_of (codes "replies") (rows_of_words (map string_bytes words.entry.now)))) }
     ensures records_each { IfOk result (λ line. (vec_len line.records ≡ 0)
@@ -75,7 +80,11 @@ pub fn read_words<'a>(alloc: Global, words: &'a [String]) -> Result<CommandLine<
         let message = "at most one of --frames, --json and --check is wanted";
         return Err(refuse(alloc, ErrorKind::ArgumentConflict, message)?);
     };
-    let Some(options) = options_of(&matches, form) else {
+    let filter = match filter_of(&matches, form) {
+        Ok(filter) => filter,
+        Err(message) => return Err(refuse(alloc, ErrorKind::ValueValidation, message)?),
+    };
+    let Some(options) = options_of(&matches, Style { form, filter }) else {
         let message = "a number is out of its range";
         return Err(refuse(alloc, ErrorKind::ValueValidation, message)?);
     };
@@ -250,17 +259,17 @@ fn one_form(frames: bool, json: bool, check: bool) -> Option<Form>
     }
 }
 
-// Returns the options with this form, unless a number is out of its range. `clap` refuses such
+// Returns the options with this style, unless a number is out of its range. `clap` refuses such
 // numbers itself.
-fn options_of(matches: &ArgMatches, form: Form) -> Option<Options>
+fn options_of(matches: &ArgMatches, style: Style) -> Option<Options>
     ensures numbers { IfSome result (HoldsNumbers (rows_of (found_of matches.now))) }
-    ensures form { IfSome result (λ options. options.form ≡ form) }
+    ensures style { IfSome result (λ options. options.style ≡ style) }
     ensures none { result ≡ None → ¬ HasNumbers (rows_of (found_of matches.now)) }
 {
     Options::new(
         matches.get_one("capacity")?,
         matches.get_one("window")?,
         matches.get_one("limit")?,
-        form,
+        style,
     )
 }

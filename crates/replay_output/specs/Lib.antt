@@ -1,4 +1,5 @@
 -- In reading order.
+pub mod Filter
 pub mod Lines
 pub mod Packed
 pub mod Line

@@ -6,6 +6,7 @@ use Rattle.keyspace.specs.declared.answer.Answer.TheVariants as answer
 use Rattle.keyspace.specs.declared.reply.Reply.{Reply}
 use Rattle.keyspace.specs.Answer.{version_of_answer}
 use Rattle.checking.specs.Check.{count_at}
+use Rattle.replay_output.specs.declared.options.style.Style.{Style}
 use Rattle.replay_output.specs.declared.options.form.Form.{Form}
 use Rattle.replay_output.specs.declared.options.form.Form.TheVariants.{Words, Frames, Json, Kept}
 use Rattle.replay_output.specs.declared.line.Line.{Line}
@@ -32,16 +33,17 @@ kept_of Frames answer = None
 kept_of Json answer = None
 
 -- it is the line of its answer to this proxy
-pub record IsLineOf (form : Form) (proxy : ℕ) (l : Line) : Type 0 where
-  pub text : l.text ≡ line form proxy (answer_of l)
+pub record IsLineOf (style : Style) (proxy : ℕ) (l : Line) : Type 0 where
+  -- empty if the line isn't shown
+  pub text : l.text ≡ line style proxy (answer_of l)
   pub sorted_by : l.version ≡ version_of_answer (answer_of l)
   -- the reply itself, if it is kept
-  pub kept : l.reply ≡ kept_of form (answer_of l)
+  pub kept : l.reply ≡ kept_of style.form (answer_of l)
 
 -- the lines at each number are those of answers to that proxy
-abbrev pub AreLines : Form → List (List Line) → Type 0
-AreLines form ls =
-    (proxy : ℕ) (of_proxy : List Line) → slice_get ls proxy ≡ Some of_proxy → All (IsLineOf form proxy) of_proxy
+abbrev pub AreLines : Style → List (List Line) → Type 0
+AreLines style ls =
+    (proxy : ℕ) (of_proxy : List Line) → slice_get ls proxy ≡ Some of_proxy → All (IsLineOf style proxy) of_proxy
 
 -- memory is taken to sort the lines of the proxy of this number: they are more than 20
 abbrev pub TakesToSort : List (List Line) → ℕ → Type 0

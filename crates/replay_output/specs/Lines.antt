@@ -1,4 +1,4 @@
--- The printed text of answers: this project's own formats, one line per answer.
+-- The printed text of answers: this project's own formats, one line per answer that is shown.
 use Rattle.std.specs.Prelude.{ℕ, Bool, true, false, if◌then◌else◌, List, [], ◌∷◌, ◌++◌, codes, map}
 use Rattle.std.specs.List.{flat_map, join_by, enumerate_from}
 use Rattle.std.specs.Fmt.{decimal, signed_decimal}
@@ -13,8 +13,10 @@ use Rattle.keyspace.specs.declared.reply.Entry.{Entry}
 use Rattle.keyspace.specs.declared.reply.Verdict.{Verdict}
 use Rattle.keyspace.specs.declared.reply.Verdict.TheVariants.{Conflict, TooOld, Committed}
 use Rattle.checking.specs.InOrder.{in_order_by}
+use Rattle.replay_output.specs.declared.options.style.Style.{Style}
 use Rattle.replay_output.specs.declared.options.form.Form.{Form}
 use Rattle.replay_output.specs.declared.options.form.Form.TheVariants.{Words, Frames, Json, Kept}
+use Rattle.replay_output.specs.Filter.{is_shown}
 
 -- a conflict, with the places of its report where it has any
 abbrev pub conflict_word : List ℕ → List ℕ
@@ -81,25 +83,29 @@ abbrev pub json_line : ℕ → Answer → List ℕ
 json_line proxy answer = codes "{\"proxy\":" ++ decimal proxy ++ codes ",\"version\":" ++ signed_decimal (version_of_answer answer)
     ++ codes "," ++ outcome_json answer ++ codes "}\n"
 
--- the line of an answer to this proxy; there is none where the reply is kept
-abbrev pub line : Form → ℕ → Answer → List ℕ
-line Words proxy answer = plain_line false proxy answer
-line Frames proxy answer = plain_line true proxy answer
-line Json proxy answer = json_line proxy answer
-line Kept proxy answer = []
+-- the line of an answer to this proxy in a form; there is none where the reply is kept
+abbrev pub formed_line : Form → ℕ → Answer → List ℕ
+formed_line Words proxy answer = plain_line false proxy answer
+formed_line Frames proxy answer = plain_line true proxy answer
+formed_line Json proxy answer = json_line proxy answer
+formed_line Kept proxy answer = []
+
+-- the line of an answer to this proxy, if it is shown
+abbrev pub line : Style → ℕ → Answer → List ℕ
+line style proxy answer = if is_shown style.filter answer then formed_line style.form proxy answer else []
 
 -- by version, and those of one version in the order received
 abbrev pub in_order : List Answer → List Answer
 in_order received = in_order_by version_of_answer received
 
 -- the lines of a proxy, given its number and its answers in order
-abbrev pub lines_of_proxy : Form → ℕ × List Answer → List ℕ
-lines_of_proxy form proxy = flat_map (line form proxy.0) proxy.1
+abbrev pub lines_of_proxy : Style → ℕ × List Answer → List ℕ
+lines_of_proxy style proxy = flat_map (line style proxy.0) proxy.1
 
 -- the text of answers that are in order, given those of each proxy
-abbrev pub lines_in_order : Form → List (List Answer) → List ℕ
-lines_in_order form answers = flat_map (lines_of_proxy form) (enumerate_from 0 answers)
+abbrev pub lines_in_order : Style → List (List Answer) → List ℕ
+lines_in_order style answers = flat_map (lines_of_proxy style) (enumerate_from 0 answers)
 
 -- the complete text, given each proxy's answers as received; a proxy's number is its index
-abbrev pub lines : Form → List (List Answer) → List ℕ
-lines form received = lines_in_order form (map in_order received)
+abbrev pub lines : Style → List (List Answer) → List ℕ
+lines style received = lines_in_order style (map in_order received)

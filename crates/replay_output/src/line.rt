@@ -1,12 +1,12 @@
 //! The line of one answer.
 
 ghost use Rattle.std.specs.Prelude.{◌≡◌, ◌++◌, IfSome, OnOk, codes, false};
-ghost use Rattle.keyspace.specs.Answer.{version_of_answer};
-ghost use Rattle.replay_output.specs.Lines.{conflict_word, entry_word, words, frame_word, line};
-ghost use Rattle.replay_output.specs.Lines.{outcome, plain_line};
+ghost use Rattle.replay_output.specs.Lines.{conflict_word, entry_word, formed_line, frame_word};
+ghost use Rattle.replay_output.specs.Lines.{line, outcome, plain_line, words};
 ghost use Rattle.replay_output.specs.Line.{IsLineOf, answer_of, kept_of, version_of_line};
 
-use crate::options::Form;
+use crate::options::{Form, Style};
+use crate::version::version_of;
 use checking::Versioned;
 use json::print_json;
 use keyspace::{Answer, Entry, Reply, Verdict};
@@ -29,28 +29,28 @@ pub struct Line {
     pub answer: Snapshot<Answer>,
     /// The version that lines are sorted by.
     pub version: i64,
-    /// The text, its newline included. Empty where replies are kept.
+    /// The text, its newline included. Empty if the line isn't shown, or replies are kept.
     pub text: PackedText,
     /// The reply, where replies are kept.
     pub reply: Option<Reply>,
 }
 
 impl Line {
-    /// Makes the line of an answer to this proxy, in this form.
+    /// Makes the line of an answer to this proxy, in this style.
     ///
     /// Returns none where memory is refused, or where the frame exceeds
     /// [`MAX_BODY_LENGTH`](wire::MAX_BODY_LENGTH). The right reply to a batch that was read doesn't
     /// exceed it.
-    pub fn new(alloc: Global, form: Form, proxy: usize, answer: Answer) -> Option<Self>
-        ensures line { IfSome result (IsLineOf form proxy) }
+    pub fn new(alloc: Global, style: Style, proxy: usize, answer: Answer) -> Option<Self>
+        ensures line { IfSome result (IsLineOf style proxy) }
         ensures answer { IfSome result (λ line. answer_of line ≡ answer) }
     {
-        let text = text_of(alloc, form, proxy, &answer)?;
+        let text = text_of(alloc, style, proxy, &answer)?;
         Some(Line {
             answer: Snapshot::of(&answer),
-            version: version(&answer),
+            version: version_of(&answer),
             text,
-            reply: kept_of(form, answer),
+            reply: kept_of(style.form, answer),
         })
     }
 }
@@ -63,15 +63,25 @@ impl Versioned for Line {
     }
 }
 
-/// Returns the text of an answer to this proxy, or none as [`Line::new`] does.
-pub fn text_of(alloc: Global, form: Form, proxy: usize, answer: &Answer) -> Option<PackedText>
-    ensures text { IfSome result (λ text. text ≡ line form proxy answer.now) }
+/// Returns the text of an answer to this proxy, or none as [`Line::new`] does. The text is empty if
+/// the line isn't shown.
+pub fn text_of(alloc: Global, style: Style, proxy: usize, answer: &Answer) -> Option<PackedText>
+    ensures text { IfSome result (λ text. text ≡ line style proxy answer.now) }
+{
+    if !style.filter.shows(answer) {
+        return Some(PackedText::new(alloc));
+    }
+    formed_text(alloc, style.form, proxy, answer)
+}
+
+fn formed_text(alloc: Global, form: Form, proxy: usize, answer: &Answer) -> Option<PackedText>
+    ensures text { IfSome result (λ text. text ≡ formed_line form proxy answer.now) }
 {
     let mut text = PackedText::new(alloc);
     match form {
         Form::Words => print_plain(alloc, &mut text, false, proxy, answer)?,
         Form::Frames => print_plain(alloc, &mut text, true, proxy, answer)?,
-        Form::Json => print_json(&mut text, proxy, version(answer), answer).ok()?,
+        Form::Json => print_json(&mut text, proxy, version_of(answer), answer).ok()?,
         Form::Kept => {}
     }
     Some(text)
@@ -97,22 +107,13 @@ fn print_plain(
 ) -> Option<()>
     ensures text { IfSome result (λ _. text.new ≡ text.old ++ plain_line frames proxy answer.now) }
 {
-    let version = version(answer);
+    let version = version_of(answer);
     write!(text, "{proxy} {version}").ok()?;
     match answer {
         Answer::Reply(reply) if frames => print_frame(alloc, text, reply)?,
         _ => print_outcome(text, answer).ok()?,
     }
     text.write_all(b"\n").ok()
-}
-
-fn version(answer: &Answer) -> i64
-    ensures version { result ≡ version_of_answer answer.now }
-{
-    match answer {
-        Answer::Reply(reply) => reply.version,
-        Answer::Never(version) | Answer::Held(version) => *version,
-    }
 }
 
 // Appends a blank and the frame of a reply, in lower-case hexadecimal. There is room for the end of

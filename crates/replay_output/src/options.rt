@@ -5,6 +5,7 @@ ghost use Rattle.keyspace.specs.declared.TheConstants.{WINDOW};
 ghost use Rattle.lane.specs.declared.ends.TheConstants.{MAX_CAPACITY};
 ghost use Rattle.conflict.specs.declared.conflict_set.TheConstants.{MAX_WINDOW};
 ghost use Rattle.stepmap.specs.declared.step_map.TheConstants.{MAX_LIMIT};
+ghost use Rattle.replay_output.specs.Filter.{all_lines};
 ghost use Rattle.replay_output.specs.declared.options.form.Form.TheVariants.{Words};
 
 use conflict::MAX_WINDOW;
@@ -12,9 +13,13 @@ use keyspace::WINDOW;
 use lane::MAX_CAPACITY;
 use stepmap::MAX_LIMIT;
 
+mod filtering;
 mod form;
+mod style;
 
+pub use filtering::Filter;
 pub use form::Form;
+pub use style::Style;
 
 /// How a run is set up, each option within its range.
 #[derive(Clone, Copy, Debug, PartialEq, Eq)]
@@ -25,8 +30,8 @@ pub struct Options {
     pub window: i64,
     /// How many boundaries its conflict set keeps at most.
     pub limit: usize,
-    /// The form of printed answers.
-    pub form: Form,
+    /// How answers are printed.
+    pub style: Style,
     ghost least_capacity: { 1 ≤ capacity },
     ghost most_capacity: { capacity ≤ MAX_CAPACITY },
     ghost least_window: { pos 1 ≤ℤ window },
@@ -37,14 +42,14 @@ pub struct Options {
 
 impl Options {
     /// Returns these options if each number is within its range.
-    pub fn new(capacity: usize, window: i64, limit: usize, form: Form) -> Option<Self>
+    pub fn new(capacity: usize, window: i64, limit: usize, style: Style) -> Option<Self>
         ensures some { IsSome result ↔ ((1 ≤ capacity) × (capacity ≤ MAX_CAPACITY)
             × (pos 1 ≤ℤ window)
             × (window ≤ℤ MAX_WINDOW) × (1 ≤ limit) × (limit ≤ MAX_LIMIT)) }
         ensures capacity { IfSome result (λ options. options.capacity ≡ capacity) }
         ensures window { IfSome result (λ options. options.window ≡ window) }
         ensures limit { IfSome result (λ options. options.limit ≡ limit) }
-        ensures form { IfSome result (λ options. options.form ≡ form) }
+        ensures style { IfSome result (λ options. options.style ≡ style) }
     {
         if !(1..=MAX_CAPACITY).contains(&capacity)
             || !(1..=MAX_WINDOW).contains(&window)
@@ -56,21 +61,22 @@ impl Options {
             capacity,
             window,
             limit,
-            form,
+            style,
         })
     }
 }
 
 impl Default for Options {
     ghost is_default = { λ options. (options.capacity ≡ 16) × (options.window ≡ WINDOW)
-        × (options.limit ≡ 1000000) × (options.form ≡ Words) };
+        × (options.limit ≡ 1000000) × (options.style.form ≡ Words)
+        × (options.style.filter ≡ all_lines) };
 
     fn default() -> Self {
         Options {
             capacity: 16,
             window: WINDOW,
             limit: 1_000_000,
-            form: Form::Words,
+            style: Style::all(Form::Words),
         }
     }
 }

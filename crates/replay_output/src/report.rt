@@ -6,7 +6,7 @@ ghost use Rattle.std.specs.Io.KnownBytes.{Appends, Keeps};
 ghost use Rattle.replay_output.specs.Failures.{failure_lines, with_loss, NothingFailed};
 ghost use Rattle.replay_output.specs.Line.{AreLines, TakesToSort, answers_of};
 ghost use Rattle.replay_output.specs.Lines.{lines};
-ghost use Rattle.replay_output.specs.declared.options.form.Form.{Form};
+ghost use Rattle.replay_output.specs.declared.options.style.Style.{Style};
 
 use crate::failures::{Ending, ProxyFailure, note_loss, nothing_failed, print_failures};
 use crate::line::Line;
@@ -43,19 +43,19 @@ pub fn print_report<O: Sink, E: Sink>(
     ending: Ending,
 ) -> Report
     requires proxies { length failures.old ≡ length received.old }
-    ensures lines { (form : Form) → AreLines form (map vec_items received.old)
+    ensures lines { (style : Style) → AreLines style (map vec_items received.old)
         → OnOk result.printed (Appends (O.given out.old) (O.given out.new)
-        (lines form (map answers_of (map vec_items received.old)))) }
+        (lines style (map answers_of (map vec_items received.old)))) }
     ensures memory { (proxy : ℕ) → result.printed ≡ Err (PrintError.Memory proxy)
         → proxy < length received.old }
     ensures takes { (proxy : ℕ) → result.printed ≡ Err (PrintError.Memory proxy)
         → TakesToSort (map vec_items received.old) proxy }
     ensures nothing { (proxy : ℕ) → result.printed ≡ Err (PrintError.Memory proxy)
         → O.given out.new ≡ O.given out.old }
-    ensures beginning { (form : Form) → AreLines form (map vec_items received.old)
+    ensures beginning { (style : Style) → AreLines style (map vec_items received.old)
         → result.printed ≡ Err PrintError.Write → IfSome (O.given out.new) (λ _. (n : ℕ)
         × Appends (O.given out.old) (O.given out.new)
-        (take n (lines form (map answers_of (map vec_items received.old))))) }
+        (take n (lines style (map answers_of (map vec_items received.old))))) }
     ensures write { (result.printed ≡ Err PrintError.Write)
         ↔ (O.failures out.old < O.failures out.new) }
     ensures failure_lines { OnOk result.told (Appends (E.given error.old) (E.given error.new)
@@ -90,19 +90,19 @@ fn print_and_flush<W: Sink>(
     out: &mut W,
     received: &mut [Vec<Line>],
 ) -> Result<(), PrintError>
-    ensures lines { (form : Form) → AreLines form (map vec_items received.old)
+    ensures lines { (style : Style) → AreLines style (map vec_items received.old)
         → OnOk result (Appends (W.given out.old) (W.given out.new)
-        (lines form (map answers_of (map vec_items received.old)))) }
+        (lines style (map answers_of (map vec_items received.old)))) }
     ensures memory { (proxy : ℕ) → result ≡ Err (PrintError.Memory proxy)
         → proxy < length received.old }
     ensures takes { (proxy : ℕ) → result ≡ Err (PrintError.Memory proxy)
         → TakesToSort (map vec_items received.old) proxy }
     ensures nothing { (proxy : ℕ) → result ≡ Err (PrintError.Memory proxy)
         → W.given out.new ≡ W.given out.old }
-    ensures beginning { (form : Form) → AreLines form (map vec_items received.old)
+    ensures beginning { (style : Style) → AreLines style (map vec_items received.old)
         → result ≡ Err PrintError.Write
         → IfSome (W.given out.new) (λ _. (n : ℕ) × Appends (W.given out.old) (W.given out.new)
-        (take n (lines form (map answers_of (map vec_items received.old))))) }
+        (take n (lines style (map answers_of (map vec_items received.old))))) }
     ensures write { (result ≡ Err PrintError.Write) ↔ (W.failures out.old < W.failures out.new) }
 {
     print_answers(alloc, out, received)?;

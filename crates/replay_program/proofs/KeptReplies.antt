@@ -9,36 +9,40 @@ use Rattle.keyspace.specs.declared.answer.Answer.TheVariants as answer
 use Rattle.keyspace.specs.declared.reply.Reply.{Reply}
 use Rattle.checking.specs.Check.{TakesMemory, check_text, count_at, count_differences}
 use Rattle.checking.specs.Difference.{expected, expected_by}
+use Rattle.replay_output.specs.declared.options.form.Form.{Form}
 use Rattle.replay_output.specs.declared.options.form.Form.TheVariants.{Kept}
+use Rattle.replay_output.specs.declared.options.style.Style.{Style}
 use Rattle.replay_output.specs.declared.line.Line.{Line}
-use Rattle.replay_output.specs.Line.{AreLines, IsLineOf, answer_of, answers_of, kept_of}
-use Rattle.replay_program.specs.Checked.{TakesToCompare, check_lines, count_lines, differences_of, replies_kept}
+use Rattle.replay_output.specs.Line.{IsLineOf, answer_of, answers_of, kept_of}
+use Rattle.replay_program.specs.Checked.{KeepReplies, TakesToCompare, check_lines, count_lines, differences_of, replies_kept}
 
 kept_is_expected : (a : Answer) → option_to_list (kept_of Kept a) ≡ expected_by a
 kept_is_expected (answer.Reply reply) = refl
 kept_is_expected (answer.Never version) = refl
 kept_is_expected (answer.Held version) = refl
 
-kept_by_lines : (proxy : ℕ) (ls : List Line) → All (IsLineOf Kept proxy) ls → replies_kept ls ≡ expected (answers_of ls)
-kept_by_lines proxy [] all = refl
-kept_by_lines proxy (l ∷ ls) all =
-    let P = IsLineOf Kept proxy in
-    ap₂ (λ (first rest : List Reply). first ++ rest)
-    (ap option_to_list (All-head P l ls all).kept ∙ kept_is_expected (answer_of l))
-    (kept_by_lines proxy ls (All-tail P l ls all))
+module _ (style : Style) (kept : style.form ≡ Kept) where
+  kept_by_lines : (proxy : ℕ) (ls : List Line) → All (IsLineOf style proxy) ls → replies_kept ls ≡ expected (answers_of ls)
+  kept_by_lines proxy [] all = refl
+  kept_by_lines proxy (l ∷ ls) all =
+      let P = IsLineOf style proxy in
+      let reply = (All-head P l ls all).kept ∙ ap (λ (form : Form). kept_of form (answer_of l)) kept in
+      ap₂ (λ (first rest : List Reply). first ++ rest)
+      (ap option_to_list reply ∙ kept_is_expected (answer_of l))
+      (kept_by_lines proxy ls (All-tail P l ls all))
 
-kept_from : (received : List (List Line))
-    → ((place : ℕ) (ls : List Line) → slice_get received place ≡ Some ls → (proxy : ℕ) × All (IsLineOf Kept proxy) ls)
-    → map replies_kept received ≡ map expected (map answers_of received)
-kept_from [] each = refl
-kept_from (ls ∷ received) each =
-    let first = each zero ls refl in
-    ap₂ (λ (l : List Reply) (rest : List (List Reply)). l ∷ rest) (kept_by_lines first.0 ls first.1)
-    (kept_from received (λ place l at. each (suc place) l at))
+  kept_from : (received : List (List Line))
+      → ((place : ℕ) (ls : List Line) → slice_get received place ≡ Some ls → (proxy : ℕ) × All (IsLineOf style proxy) ls)
+      → map replies_kept received ≡ map expected (map answers_of received)
+  kept_from [] each = refl
+  kept_from (ls ∷ received) each =
+      let first = each zero ls refl in
+      ap₂ (λ (l : List Reply) (rest : List (List Reply)). l ∷ rest) (kept_by_lines first.0 ls first.1)
+      (kept_from received (λ place l at. each (suc place) l at))
 
-pub kept_are_expected : (received : List (List Line)) → AreLines Kept received
+pub kept_are_expected : (received : List (List Line)) → KeepReplies received
     → map replies_kept received ≡ map expected (map answers_of received)
-kept_are_expected received are = kept_from received (λ place ls at. (place, are place ls at))
+kept_are_expected received keep = kept_from keep.0 keep.1 received (λ place ls at. (place, keep.2 place ls at))
 
 pub as_many_answers : (received : List (List Line)) → count_lines received ≡ count_lines (map answers_of received)
 as_many_answers [] = refl
@@ -46,7 +50,7 @@ as_many_answers (ls ∷ received) =
     ap₂ (λ (n m : ℕ). n + m) (sym (length-map ls answer_of)) (as_many_answers received)
 
 -- the text of a check of what lines keep is that of their answers
-pub check_of_lines : (received : List (List Line)) (batches : ℕ) (kept recorded : List (List Reply)) → AreLines Kept received
+pub check_of_lines : (received : List (List Line)) (batches : ℕ) (kept recorded : List (List Reply)) → KeepReplies received
     → batches ≡ count_lines received → kept ≡ map replies_kept received
     → (check_text batches kept recorded ≡ check_lines recorded (map answers_of received))
     × (count_differences kept recorded ≡ differences_of recorded (map answers_of received))

@@ -30,8 +30,8 @@ use Rattle.replay_program.specs.Program.{
 use Rattle.replay_program.specs.Replayed.{HasFailed, IsReplayed, Took, Written}
 use Rattle.replay_output.specs.Start.{start_line}
 use Rattle.replay_arguments.specs.Words.{AsksForText, IsMistaken, is_kept}
-use Rattle.replay_workers.specs.declared.stream.recorder.Recorder.{Recorder}
-use Rattle.replay_workers.specs.Sinks.{SinkState}
+use Rattle.replay_stream.specs.declared.recorder.Recorder.{Recorder}
+use Rattle.replay_stream.specs.Sinks.{SinkState}
 
 keeps_itself : (a : Option (List ℕ)) → Keeps a a
 keeps_itself None = tt

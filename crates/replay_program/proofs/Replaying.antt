@@ -64,7 +64,7 @@ held_ok (Err e) P holds ok = absurd (false≢true ok)
 
 module _ (options : Options) (files : List (Option (List ℕ))) (received : List (List Line)) (failures : List ProxyFailure)
     (complete : Bool) (stop : Option Stop) (run : IsRun options files received failures complete stop) where
-  pub are_lines : AreLines options.form received
+  pub are_lines : AreLines options.style received
   are_lines proxy of_proxy at =
       let bytes = found received files proxy of_proxy (sym run.received_count) at in
       let failure = found received failures proxy of_proxy (run.failures_count ∙ sym run.received_count) at in
@@ -91,12 +91,12 @@ module _ (options : Options) (files : List (Option (List ℕ))) (received : List
             };
         chain = run.chain;
         serializable = run.serializable;
-        from_files = from_one options.window run.log proxies run.proxies tell options.form;
+        from_files = from_one options.window run.log proxies run.proxies tell options.style.form;
         replies = λ proxy.
             let own = part run.log proxy in
             tell.replies options.window run.log proxy own [] (sym (append-nil own));
-        each_word = each_said options.window run.log proxies run.proxies tell options.form;
-        all_words = all_said options.window run.log proxies run.proxies tell options.form;
+        each_word = each_said options.window run.log proxies run.proxies tell options.style.form;
+        all_words = all_said options.window run.log proxies run.proxies tell options.style.form;
         finish = run.finish (run.no_stop whole);
         printed =
             subst Printed

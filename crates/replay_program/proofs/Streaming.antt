@@ -1,10 +1,9 @@
 -- What was streamed, from what was run.
-use Rattle.std.specs.Prelude.{◌≡◌, ◌≢◌, ◌↔◌, ℕ, zero, suc, ◌+◌, ◌<◌, Bool, true, false, ◌⊎◌, List, [], ◌∷◌, ◌++◌, length, map, Option, Some, None, IfSome, IsErr, IsOk, IsTrue, OnOk, Result, Ok, Err, is_some, slice_get}
+use Rattle.std.specs.Prelude.{◌≡◌, ◌≢◌, ◌↔◌, ℕ, zero, suc, ◌+◌, ◌<◌, Bool, false, ◌⊎◌, List, [], ◌∷◌, ◌++◌, length, map, Option, Some, None, IfSome, IsErr, IsOk, IsTrue, OnOk, Result, Ok, Err, is_some, slice_get}
 use Rattle.std.specs.List.{All, range_with_len}
 use Rattle.std.specs.Io.KnownBytes.{Appends, Keeps}
 use Rattle.std.proofs.Common.{refl, sym, ap, subst, ◌∙◌, append-nil, inl, inr, arith}
 use Rattle.std.proofs.lemmas.Bool.{false≢true}
-use Rattle.std.proofs.lemmas.List.{length-map}
 use Rattle.std.proofs.lemmas.List.Elements.{All-head, All-tail}
 use Rattle.std.proofs.lemmas.Option.{none-some, same_Some}
 use Rattle.keyspace.specs.declared.answer.Answer.{Answer}
@@ -20,18 +19,18 @@ use Rattle.replay_output.specs.declared.stream.AnswerError.{AnswerError}
 use Rattle.replay_output.specs.declared.stream.AnswerError.TheVariants.{Memory, Write}
 use Rattle.replay_output.specs.Failures.{IsClean, NothingFailed, failure_lines}
 use Rattle.replay_output.specs.Record.{answer_records}
-use Rattle.replay_output.specs.Streamed.{printed_for, stream_text}
+use Rattle.replay_output.specs.Streamed.{stream_text}
 use Rattle.replay_output.specs.Unwritten.{unwritten_lines}
 use Rattle.replay_output.proofs.callers.Quiet.{no_lines, no_unwritten_lines}
-use Rattle.replay_workers.specs.declared.stream.recorder.Recorder.{Recorder}
-use Rattle.replay_workers.specs.Outlet.{TookText}
-use Rattle.replay_workers.specs.Recorder.{TookRecords, is_unwritten, unwritten_cause}
-use Rattle.replay_workers.specs.Sinks.{SinkState, Takes}
-use Rattle.replay_workers.specs.Streaming.{HasRecords, HaveRecords, IsStreamed, IsStreamedFor, Recorded, recorded_each}
+use Rattle.replay_stream.specs.declared.recorder.Recorder.{Recorder}
+use Rattle.replay_stream.specs.Outlet.{TookText}
+use Rattle.replay_stream.specs.Recorder.{TookRecords, is_unwritten, unwritten_cause}
+use Rattle.replay_stream.specs.Sinks.{SinkState, Takes}
+use Rattle.replay_stream.specs.Streaming.{HasRecords, HaveRecords, IsStreamed, Recorded, recorded_each}
 use Rattle.replay_workers.specs.Worker.{TakesFrames}
 use Rattle.replay_workers.proofs.callers.Lists.{all_at, found}
-use Rattle.replay_program.specs.Replayed.{HasFailed, Took, Written, answers_each, ending_of}
-use Rattle.replay_program.specs.Streamed.{IsStreamDone, PrintsAll, RecordsAll, StreamedAndFailed, state_after, state_before, unwritten_each}
+use Rattle.replay_program.specs.Replayed.{HasFailed, Took, Written, ending_of}
+use Rattle.replay_program.specs.Streamed.{IsStreamDone, StreamedAndFailed, state_after, state_before, unwritten_each}
 use Rattle.replay_program.proofs.Replaying.{complete_from}
 use Rattle.replay_program.proofs.Reporting.{all_said, each_said, from_one, value_at}
 
@@ -143,16 +142,16 @@ module _ {W : Type 0} (state_of : W → SinkState) (options : Options) (files : 
               };
           chain = run.chain;
           serializable = run.serializable;
-          from_files = from_one options.window run.log proxies run.proxies tell options.form;
+          from_files = from_one options.window run.log proxies run.proxies tell options.style.form;
           replies = λ proxy.
               let own = part run.log proxy in
               tell.replies options.window run.log proxy own [] (sym (append-nil own));
-          each_word = each_said options.window run.log proxies run.proxies tell options.form;
-          all_words = all_said options.window run.log proxies run.proxies tell options.form;
+          each_word = each_said options.window run.log proxies run.proxies tell options.style.form;
+          all_words = all_said options.window run.log proxies run.proxies tell options.style.form;
           finish = run.finish (run.no_stop whole);
           printed = (
             (
-              stream_text options.form run.printed,
+              stream_text options.style run.printed,
               record {
                 printed = run.printed;
                 known =
@@ -169,7 +168,7 @@ module _ {W : Type 0} (state_of : W → SinkState) (options : Options) (files : 
                     ∙ ap (answers options.window run.log) (omega arith) ∙ sym is;
                 text_is = refl;
               },
-              (subst (λ (failed : Bool). TookText failed before after (stream_text options.form run.printed)) well run.text).0,
+              (subst (λ (failed : Bool). TookText failed before after (stream_text options.style run.printed)) well run.text).0,
             ),
             λ proxy own r at r_at.
                 let is = value_at (answers options.window run.log) 0 proxies proxy own at in

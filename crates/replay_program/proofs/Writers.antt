@@ -4,8 +4,8 @@ use Rattle.std.proofs.Common.{refl, sym, ap, subst, ◌∙◌, append_assoc, inl
 use Rattle.std.proofs.lemmas.List.{length-map}
 use Rattle.std.proofs.lemmas.Option.{none-some, same_Some, slice_get-map}
 use Rattle.replay_arguments.specs.Opening.{contents_each}
-use Rattle.replay_workers.specs.declared.stream.recorder.Recorder.{Recorder}
-use Rattle.replay_workers.specs.Sinks.{SinkState}
+use Rattle.replay_stream.specs.declared.recorder.Recorder.{Recorder}
+use Rattle.replay_stream.specs.Sinks.{SinkState}
 use Rattle.replay_output.specs.declared.options.Options.{Options}
 use Rattle.replay_program.specs.Program.{AreWriters, HaveWriters, StreamsAndFails, StreamsFiles}
 use Rattle.replay_program.specs.Replayed.{DidNotStart, Written}

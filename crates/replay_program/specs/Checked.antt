@@ -6,11 +6,18 @@ use Rattle.keyspace.specs.declared.reply.Reply.{Reply}
 use Rattle.checking.specs.Difference.{expected}
 use Rattle.checking.specs.Check.{check_text, count_at, count_differences}
 use Rattle.replay_output.specs.declared.line.Line.{Line}
+use Rattle.replay_output.specs.declared.options.form.Form.TheVariants.{Kept}
+use Rattle.replay_output.specs.declared.options.style.Style.{Style}
+use Rattle.replay_output.specs.Line.{AreLines}
 
 -- how many items all lists have
 abbrev pub count_lines : {X : Type 0} → List (List X) → ℕ
 count_lines [] = 0
 count_lines (first ∷ rest) = length first + count_lines rest
+
+-- the lines are of a style in which replies are kept
+abbrev pub KeepReplies : List (List Line) → Type 0
+KeepReplies ls = (style : Style) × (style.form ≡ Kept) × AreLines style ls
 
 -- the replies that lines keep
 abbrev pub replies_kept : List Line → List Reply

@@ -15,8 +15,8 @@ use Rattle.replay_program.specs.Replayed.{DidNotStart, FailsToPrint, FailsToRepl
 use Rattle.replay_program.specs.Replies.{IsCauseOf, IsReplyFile, replies_line}
 use Rattle.replay_output.specs.Start.{start_line}
 use Rattle.replay_arguments.specs.Words.{AsksForText, HasInputOnce, HoldsOptions, HoldsStream, IsTaken, is_kept, named, rows_of_words}
-use Rattle.replay_workers.specs.declared.stream.recorder.Recorder.{Recorder}
-use Rattle.replay_workers.specs.Sinks.{SinkState}
+use Rattle.replay_stream.specs.declared.recorder.Recorder.{Recorder}
+use Rattle.replay_stream.specs.Sinks.{SinkState}
 use Rattle.replay_program.specs.Streamed.{IsStreamDone, StreamedAndFailed}
 
 -- the line was printed, or standard error failed
@@ -73,7 +73,7 @@ pub record AsksToReplay (words : List (List ℕ)) (options : Options) (names : L
   pub least : 1 ≤ length names
   pub most : length names ≤ MAX_PROXIES
   pub input : HasInputOnce (rows_of_words words)
-  pub plain : is_kept options.form ≡ false
+  pub plain : is_kept options.style.form ≡ false
   pub at_the_end : HoldsStream (rows_of_words words) false
 
 -- the words are taken, and ask that the answers to the files of these names are printed as they come, and recorded in files of these
@@ -86,7 +86,7 @@ pub record AsksToStream (words : List (List ℕ)) (options : Options) (names rec
   pub least : 1 ≤ length names
   pub most : length names ≤ MAX_PROXIES
   pub input : HasInputOnce (rows_of_words words)
-  pub plain : is_kept options.form ≡ false
+  pub plain : is_kept options.style.form ≡ false
   pub as_they_come : HoldsStream (rows_of_words words) true
   pub records_each : (length records ≡ 0) ⊎ (length records ≡ length names)
 
@@ -100,7 +100,7 @@ pub record AsksToCheck (words : List (List ℕ)) (options : Options) (names repl
   pub most : length names ≤ MAX_PROXIES
   pub input : HasInputOnce (rows_of_words words)
   pub as_many : length replies ≡ length names
-  pub kept : options.form ≡ Kept
+  pub kept : options.style.form ≡ Kept
   pub at_the_end : HoldsStream (rows_of_words words) false
 
 -- the message about arguments that aren't text
@@ -153,8 +153,8 @@ pub record AreWriters {W : Type 0} (state_of : W → SinkState) (begun : List �
   pub count : length writers ≡ length names
   pub of_files : HaveWriters begun records (map (option_map (λ (w : W). (state_of w).given)) writers)
 
--- The files of these names were read and resolved. The lines are those of all answers, and so are the records that the writers of those
--- files were given, if there are any: the recorders that have ended have these writers.
+-- The files of these names were read and resolved. The lines are those of all answers that are shown. The records that the writers of
+-- those files were given, if there are any, are those of all answers: the recorders that have ended have these writers.
 pub record StreamsFiles {W : Type 0} (state_of : W → SinkState) (contents begun : List ℕ → Option (List ℕ)) (options : Options)
     (names records : List (List ℕ)) (recorders : List (Option (Recorder W))) (before after : Option (List ℕ)) : Type 0 where
   pub writers : List (Option W)
@@ -178,8 +178,8 @@ pub record DidNotCreate (has_created cannot_create : List ℕ → Type 0) (names
   pub nothing_printed : out.after ≡ out.before
   pub told : Told error (creating_line (opening.CannotOpen proxy))
 
--- The files of these names were read and resolved, and something failed. The lines are those of the first answers to each proxy, and
--- so are the records that the writers of those files were given, if there are any.
+-- The files of these names were read and resolved, and something failed. The lines are those of the first answers to each proxy, each
+-- if it is shown. The records that the writers of those files were given, if there are any, are those of the first answers too.
 pub record StreamsAndFails {W : Type 0} (state_of : W → SinkState) (contents begun : List ℕ → Option (List ℕ)) (options : Options)
     (names records : List (List ℕ)) (recorders : List (Option (Recorder W))) (out error : Written) : Type 0 where
   pub writers : List (Option W)

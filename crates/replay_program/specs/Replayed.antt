@@ -41,8 +41,8 @@ pub record IsFileOf (bytes : Option (List ℕ)) (batches : List Batch) : Type 0 
 abbrev pub answers_each : ℤ → List Step → ℕ → List (List Answer)
 answers_each window log proxies = map (answers window log) (range_with_len 0 proxies)
 
--- How the line of a reply says that the transaction of this entry was committed: by its word; in a frame, and in a reply that is
--- compared with a recorded one, by the verdict itself.
+-- How the line of a reply, shown or not, says that the transaction of this entry was committed: by its word; in a frame, and in a
+-- reply that is compared with a recorded one, by the verdict itself.
 abbrev pub SaysCommitted : Form → Entry → Type 0
 SaysCommitted Words entry = entry_word entry ≡ codes "committed"
 SaysCommitted Json entry = entry_json entry ≡ codes "\"committed\""
@@ -50,7 +50,7 @@ SaysCommitted Frames entry = entry.verdict ≡ Committed
 SaysCommitted Kept entry = entry.verdict ≡ Committed
 
 -- Of these answers, one per line, one is to this proxy for its batch of this version, and says at this index that a transaction was
--- committed.
+-- committed. Its line may be shown or not.
 pub record LineSaysCommitted (form : Form) (answers : List (List Answer)) (proxy : ℕ) (version : ℤ) (index : ℕ) : Type 0 where
   pub reply : Reply
   pub of_proxy : IsSomeAnd (slice_get answers proxy) (λ own. Contains own (answer.Reply reply))
@@ -58,20 +58,20 @@ pub record LineSaysCommitted (form : Form) (answers : List (List Answer)) (proxy
   pub at_index : IsSomeAnd (slice_get reply.entries index) (SaysCommitted form)
 
 -- All was read and resolved, and the text of the answers was printed. There is one log of the reference resolver that
--- holds the batches of each file once, in order, and no others. What was printed is of its answers, all of them.
+-- holds the batches of each file once, in order, and no others. What was printed is of its answers: all of them that are shown.
 pub record IsReplayedBy (Printed : List (List Answer) → Type 0) (options : Options) (files : List (Option (List ℕ))) :
     Type 0 where
   pub log : List Step
-  -- The transactions whose lines say that they were committed can be run one at a time, in the order of commit, and each reads what it
-  -- has read. The lines say so of every committed transaction.
+  -- The transactions whose words say that they were committed can be run one at a time, in the order of commit, and each reads what it
+  -- has read. The words say so of every committed transaction. They are those of all answers, whether or not their lines are shown.
   pub serializable : IsSerializable (run options.window log).processed
   pub each_word :
       (proxy : ℕ) (version : ℤ) (index : ℕ)
-      → LineSaysCommitted options.form (answers_each options.window log (length files)) proxy version index
+      → LineSaysCommitted options.style.form (answers_each options.window log (length files)) proxy version index
       → IsCommittedAt (run options.window log).processed proxy version index
   pub all_words :
       (proxy : ℕ) (version : ℤ) (index : ℕ) → IsCommittedAt (run options.window log).processed proxy version index
-      → LineSaysCommitted options.form (answers_each options.window log (length files)) proxy version index
+      → LineSaysCommitted options.style.form (answers_each options.window log (length files)) proxy version index
   pub proxies : TakesOnlyFrom (length files) log
   pub each_file :
       (proxy : ℕ) (bytes : Option (List ℕ)) → slice_get files proxy ≡ Some bytes →
@@ -89,10 +89,10 @@ pub record IsReplayedBy (Printed : List (List Answer) → Type 0) (options : Opt
   pub finish : FinishesLast log
   pub printed : Printed (answers_each options.window log (length files))
 
--- all was read, resolved and printed: the text printed is the lines of the answers
+-- all was read, resolved and printed: the text printed is the lines of the answers that are shown
 abbrev pub IsReplayed : Options → List (Option (List ℕ)) → Option (List ℕ) → Option (List ℕ) → Type 0
 IsReplayed options files before after =
-    IsReplayedBy (λ answers. Appends before after (lines options.form answers)) options files
+    IsReplayedBy (λ answers. Appends before after (lines options.style answers)) options files
 
 -- all was read, resolved and compared: the text printed is the lines of the differences, and their number is as said
 abbrev pub IsChecked : (ℕ → Type 0) → List (List Reply) → Options → List (Option (List ℕ)) → Option (List ℕ) → Option (List ℕ)
@@ -172,4 +172,4 @@ FailsToPrint text Takes options files out error =
 
 -- The program failed.
 abbrev pub FailsToReplay : Options → List (Option (List ℕ)) → Written → Written → Type 0
-FailsToReplay options files out error = FailsToPrint (lines options.form) TakesToSort options files out error
+FailsToReplay options files out error = FailsToPrint (lines options.style) TakesToSort options files out error

@@ -5,26 +5,26 @@ use Rattle.std.specs.Io.KnownBytes.{Appends}
 use Rattle.keyspace.specs.declared.answer.Answer.{Answer}
 use Rattle.resolver.specs.declared.stop.Stop.{Stop}
 use Rattle.replay_output.specs.declared.failures.ProxyFailure.{ProxyFailure}
-use Rattle.replay_output.specs.declared.options.form.Form.{Form}
+use Rattle.replay_output.specs.declared.options.style.Style.{Style}
 use Rattle.replay_output.specs.declared.options.Options.{Options}
 use Rattle.replay_output.specs.Failures.{failure_lines, NothingFailed}
 use Rattle.replay_output.specs.Record.{answer_records}
 use Rattle.replay_output.specs.Streamed.{Printed, printed_for, stream_text}
 use Rattle.replay_output.specs.Unwritten.{unwritten_lines}
-use Rattle.replay_workers.specs.declared.stream.recorder.Recorder.{Recorder}
-use Rattle.replay_workers.specs.Recorder.{is_unwritten, unwritten_cause}
-use Rattle.replay_workers.specs.Sinks.{SinkState, Takes}
-use Rattle.replay_workers.specs.Streaming.{HaveRecords, IsStreamed, Recorded, recorded_each}
+use Rattle.replay_stream.specs.declared.recorder.Recorder.{Recorder}
+use Rattle.replay_stream.specs.Recorder.{is_unwritten, unwritten_cause}
+use Rattle.replay_stream.specs.Sinks.{SinkState, Takes}
+use Rattle.replay_stream.specs.Streaming.{HaveRecords, IsStreamed, Recorded, recorded_each}
 use Rattle.replay_program.specs.Replayed.{DidNotStart, HasFailed, IsReplayedBy, Took, Written, ending_of}
 
--- The text is the lines of these answers: those of each proxy are all of its answers, in order. The lines of different proxies may
--- alternate in any way.
-pub record PrintsAll (form : Form) (answers : List (List Answer)) (text : List ℕ) : Type 0 where
+-- The text is the lines of these answers, each if it is shown: those of each proxy are all of its answers, in order. The lines of
+-- different proxies may alternate in any way.
+pub record PrintsAll (style : Style) (answers : List (List Answer)) (text : List ℕ) : Type 0 where
   pub printed : List Printed
   pub known : All (λ (p : Printed). p.proxy < length answers) printed
   pub each :
       (proxy : ℕ) (own : List Answer) → slice_get answers proxy ≡ Some own → printed_for proxy printed ≡ own
-  pub text_is : text ≡ stream_text form printed
+  pub text_is : text ≡ stream_text style printed
 
 -- each writer of records was given those of all answers to its proxy
 abbrev pub RecordsAll : List (List Answer) → List (Option Recorded) → Type 0
@@ -32,10 +32,11 @@ RecordsAll answers recorded =
     (proxy : ℕ) (own : List Answer) (r : Recorded) → slice_get answers proxy ≡ Some own
     → slice_get recorded proxy ≡ Some (Some r) → Takes r.before r.after (answer_records own)
 
--- All was read and resolved. What was printed are the lines of all answers, and what was recorded are the records of all.
+-- All was read and resolved. What was printed are the lines of all answers that are shown, and what was recorded are the records of
+-- all.
 abbrev pub PrintsAndRecords : Options → List (Option (List ℕ)) → List (Option Recorded) → Option (List ℕ) → Option (List ℕ) → Type 0
 PrintsAndRecords options files recorded before after =
-    IsReplayedBy (λ answers. ((text : List ℕ) × PrintsAll options.form answers text × Appends before after text)
+    IsReplayedBy (λ answers. ((text : List ℕ) × PrintsAll options.style answers text × Appends before after text)
     × RecordsAll answers recorded) options files
 
 -- The same of these writers of records, whose recorders have ended like this. A proxy has a recorder if it has a writer.

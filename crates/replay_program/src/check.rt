@@ -44,7 +44,7 @@ pub fn check_over<
     requires least_files { 1 ≤ vec_len readers }
     requires most_files { vec_len readers ≤ MAX_PROXIES }
     requires as_many { vec_len recorded ≡ vec_len readers }
-    requires kept { options.form ≡ Kept }
+    requires kept { options.style.form ≡ Kept }
     ensures done { result ≡ Status.Done
         → IsChecked (λ count. count ≡ 0) (map vec_items recorded.items) options
         (map S.remaining readers.items) (O.given out.old) (O.given out.new) }

@@ -26,12 +26,12 @@ pub use replay_arguments::{
     fail_to_create, fail_to_open, open_files, read_words,
 };
 pub use replay_output::{
-    AnswerError, Ending, Form, Line, Options, PackedText, PrintError, ProxyFailure, Report,
-    StartError, Status, fail_to_start, print_answers, print_report, write_record,
+    AnswerError, Ending, Filter, Form, Line, Options, PackedText, PrintError, ProxyFailure, Report,
+    StartError, Status, Style, fail_to_start, print_answers, print_report, write_record,
 };
+pub use replay_stream::Recorder;
 pub use replay_workers::{
-    AlwaysOpen, Assignment, Finished, Gatekeeper, MostUnanswered, Recorder, ShareKeeper, Unshared,
-    work,
+    AlwaysOpen, Assignment, Finished, Gatekeeper, MostUnanswered, ShareKeeper, Unshared, work,
 };
 pub use report::RunReport;
 pub use stream::stream_over;

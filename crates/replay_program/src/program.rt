@@ -8,7 +8,7 @@ ghost use Rattle.replay_arguments.specs.Opening.{IsFirstRefused, contents_each};
 ghost use Rattle.replay_program.specs.Program.{ChecksFiles, FailsOnFiles, FailsToCheck};
 ghost use Rattle.replay_program.specs.Program.{FailsOnStream, HasDifferences, IsDone, IsFailed};
 ghost use Rattle.replay_program.specs.Program.{HaveWriters, StreamsFiles, Told};
-ghost use Rattle.replay_workers.specs.Sinks.{state_by};
+ghost use Rattle.replay_stream.specs.Sinks.{state_by};
 ghost use Rattle.replay_program.specs.Replayed.{IsReplayed, written};
 ghost use Rattle.replay_arguments.specs.Words.{IsMistaken};
 
@@ -67,7 +67,7 @@ pub fn run<R: Threads + Wait + Copy + Send + 'static, F: Files, O: Sink, E: Sink
         (written (O.given out.old) (O.given out.new) (O.failures out.old) (O.failures out.new)) }
 {
     match read_words(alloc, words) {
-        Ok(line) if line.options.form.is_kept() => RunReport::without_recorders(
+        Ok(line) if line.options.style.form.is_kept() => RunReport::without_recorders(
             alloc,
             check_files(rt, alloc, files, &line, out, error),
         ),
@@ -129,7 +129,7 @@ pub fn check_files<R: Threads + Wait + Copy + Send + 'static, F: Files, O: Sink,
     requires least_files { 1 ≤ vec_len line.now.files }
     requires most_files { vec_len line.now.files ≤ MAX_PROXIES }
     requires as_many { vec_len line.now.replies ≡ vec_len line.now.files }
-    requires kept { line.now.options.form ≡ Form.Kept }
+    requires kept { line.now.options.style.form ≡ Form.Kept }
     ensures done { result ≡ Status.Done
         → ChecksFiles (λ count. count ≡ 0) (F.contents files.now) line.now.options
         (map (λ name. name.now) line.now.files.items)

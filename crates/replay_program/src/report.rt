@@ -3,7 +3,7 @@
 ghost use Rattle.std.specs.Prelude.{◌≡◌, []};
 
 use replay_output::Status;
-use replay_workers::Recorder;
+use replay_stream::Recorder;
 use std::alloc::Global;
 
 /// How a run has ended.

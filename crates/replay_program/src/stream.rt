@@ -6,7 +6,7 @@ ghost use Rattle.std.specs.List.{All};
 ghost use Rattle.std.specs.Io.KnownBytes.{Appends, Keeps};
 ghost use Rattle.replay_output.specs.Failures.{NothingFailed, failure_lines};
 ghost use Rattle.replay_output.specs.Unwritten.{unwritten_lines};
-ghost use Rattle.replay_workers.specs.Sinks.{state_by};
+ghost use Rattle.replay_stream.specs.Sinks.{state_by};
 ghost use Rattle.replay_program.specs.Replayed.{written};
 ghost use Rattle.replay_program.specs.Streamed.{FailsToStream, IsStreamDone};
 
@@ -15,7 +15,8 @@ use replay_output::{
     Ending, Options, ProxyFailure, Status, all_written, fail_to_start, nothing_failed,
     print_failures, print_unwritten,
 };
-use replay_workers::{Gatekeeper, ShareKeeper, Streamed, run_stream};
+use replay_stream::{Streamed, run_stream};
+use replay_workers::{Gatekeeper, ShareKeeper};
 use resolver::MAX_PROXIES;
 use std::alloc::Global;
 use std::sync::{Arc, Wait};

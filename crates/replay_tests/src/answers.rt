@@ -1,7 +1,7 @@
 //! Answers from their texts, and the lines of them.
 
 use keyspace::{Answer, Entry, Places, Verdict};
-use replay_program::{Form, Line};
+use replay_program::{Form, Line, Style};
 use std::alloc::{AllocError, Global};
 use test_values::{Unmade, entry, reply};
 use wire::encode_reply;
@@ -51,8 +51,8 @@ pub fn answer_of(alloc: Global, text: &str) -> Result<Answer, Unmade> {
 }
 
 /// Makes the line of an answer to this proxy.
-pub fn line_of(alloc: Global, form: Form, proxy: usize, answer: &str) -> Result<Line, Unmade> {
-    match Line::new(alloc, form, proxy, answer_of(alloc, answer)?) {
+pub fn line_of(alloc: Global, style: Style, proxy: usize, answer: &str) -> Result<Line, Unmade> {
+    match Line::new(alloc, style, proxy, answer_of(alloc, answer)?) {
         Some(line) => Ok(line),
         None => Err(Unmade::Memory),
     }
@@ -63,7 +63,7 @@ pub fn lines_of(alloc: Global, proxy: usize, answers: &str) -> Result<Vec<Line>,
     let mut lines = Vec::new(alloc);
     for answer in answers.split("; ") {
         lines
-            .push(line_of(alloc, Form::Words, proxy, answer)?)
+            .push(line_of(alloc, Style::all(Form::Words), proxy, answer)?)
             .map_err(AllocError::from)?;
     }
     Ok(lines)

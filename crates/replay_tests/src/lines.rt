@@ -2,7 +2,8 @@
 
 use crate::answers::{line_of, received_of};
 use crate::failing::Failing;
-use replay_program::{Form, PrintError, print_answers};
+use crate::words::options_of;
+use replay_program::{Form, PrintError, Style, print_answers};
 use std::alloc::Global;
 use std::test::Fail;
 use test_values::Unmade;
@@ -17,7 +18,11 @@ fn text_of(bytes: Vec<u8>) -> Result<String, Unmade> {
 
 // The text of the line of an answer.
 fn printed(alloc: Global, form: Form, proxy: usize, answer: &str) -> Result<String, Unmade> {
-    let line = line_of(alloc, form, proxy, answer)?;
+    styled(alloc, Style::all(form), proxy, answer)
+}
+
+fn styled(alloc: Global, style: Style, proxy: usize, answer: &str) -> Result<String, Unmade> {
+    let line = line_of(alloc, style, proxy, answer)?;
     let mut out = StdSink::new(Vec::new(alloc));
     line.text.print(&mut out).map_err(|_failed| Unmade::Memory)?;
     text_of(out.into_inner())
@@ -117,6 +122,41 @@ fn answers_as_json(rt: HostRuntime) -> Result<(), Fail> {
     ] {
         let made = printed(rt.alloc(), Form::Json, 7, answer)?;
         assert_eq!(rt; made.as_str(), text);
+    }
+    Ok(())
+}
+
+// What options show of answers, and what they don't.
+#[test]
+fn filtered_lines(rt: HostRuntime) -> Result<(), Fail> {
+    for (given, shown, hidden) in [
+        (
+            "--only conflict f",
+            "5 committed conflict:0",
+            "5 committed tooold",
+        ),
+        ("--only tooold f", "5 tooold", "5 never"),
+        ("--only committed f", "5 conflict committed", "5 held"),
+        ("--versions 5..7 f", "6 held", "7 held"),
+        ("--versions 5.. f", "5 never", "4 empty"),
+        ("--versions ..5 f", "4 empty", "5 empty"),
+        (
+            "--only conflict --versions 5.. f",
+            "5 conflict",
+            "4 conflict",
+        ),
+        ("--versions .. f", "5 empty", ""),
+        ("--quiet f", "", "5 committed"),
+    ] {
+        let style = options_of(rt.alloc(), given)?.style;
+        if !shown.is_empty() {
+            let text = styled(rt.alloc(), style, 0, shown)?;
+            let whole = printed(rt.alloc(), Form::Words, 0, shown)?;
+            assert_eq!(rt; text.as_str(), whole.as_str());
+        }
+        if !hidden.is_empty() {
+            assert_eq!(rt; styled(rt.alloc(), style, 0, hidden)?.as_str(), "");
+        }
     }
     Ok(())
 }

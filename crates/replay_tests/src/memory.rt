@@ -6,7 +6,7 @@ use crate::rows::{
     SECOND_FILE_CONTINUES_CHAIN, SNAPSHOT_AT_WRITE,
 };
 use crate::runs::{Reader, file_of, reader, replay_into};
-use replay_program::{Options, Status, Unshared};
+use replay_program::{Options, Status, Style, Unshared};
 use std::alloc::{AllocError, Global};
 use std::process::Abort;
 use std::str;
@@ -155,7 +155,7 @@ fn ends_as_promised<R: Threads + Wait + Copy + Send + 'static>(
         mut error,
     } = Run::new_at_last(alloc, row.files)?;
     let mut options = Options::default();
-    options.form = row.form;
+    options.style = Style::all(row.form);
     let status = replay_into(
         rt,
         alloc,

@@ -4,7 +4,7 @@ use crate::answers::{line_of, lines_of, received_of};
 use crate::failing::Failing;
 use crate::failures::{CLEAN, LOST, SHORT};
 use crate::runs::ended;
-use replay_program::{Ending, Form, Line, ProxyFailure, Report, Status, print_report};
+use replay_program::{Ending, Form, Line, ProxyFailure, Report, Status, Style, print_report};
 use resolver::Stop;
 use std::alloc::{AllocError, Global};
 use std::io::{BufWriter, Write};
@@ -145,8 +145,8 @@ fn to_sort(alloc: Global) -> Result<(Vec<Vec<Line>>, Vec<u8>, Vec<u8>), Unmade> 
     let mut many = Vec::new(alloc);
     for version in (0..21_u32).rev() {
         let answer = format!(in alloc; "{version} held")?;
-        many.push(line_of(alloc, Form::Words, 1, answer.as_str())?)
-            .map_err(AllocError::from)?;
+        let line = line_of(alloc, Style::all(Form::Words), 1, answer.as_str())?;
+        many.push(line).map_err(AllocError::from)?;
     }
     let received = vec![in alloc; lines_of(alloc, 0, "7 held")?, many].map_err(AllocError::from)?;
     Ok((

@@ -2,7 +2,7 @@
 
 use crate::failing::Failing;
 use crate::runs::ended;
-use replay_program::{CommandLine, Form, Options, Refusal, Status, read_words};
+use replay_program::{CommandLine, Filter, Form, Options, Refusal, Status, Style, read_words};
 use std::alloc::{AllocError, Global};
 use std::process::Abort;
 use std::test::Fail;
@@ -51,17 +51,34 @@ fn push_options(alloc: Global, text: &mut String, line: &CommandLine) -> Result<
     let options = &line.options;
     let (capacity, window, limit) = (options.capacity, options.window, options.limit);
     text.push_str(&format!(in alloc; "| {capacity} {window} {limit}")?)?;
-    text.push_str(match options.form {
+    text.push_str(match options.style.form {
         Form::Words => "",
         Form::Frames => " frames",
         Form::Json => " json",
         Form::Kept => " check",
     })?;
+    push_filter(alloc, text, &options.style.filter)?;
     if line.is_streamed {
         text.push_str(" stream")?;
     }
     push_names(text, &line.replies)?;
     push_names(text, &line.records)
+}
+
+fn push_filter(alloc: Global, text: &mut String, filter: &Filter) -> Result<(), Unmade> {
+    if filter.quiet {
+        text.push_str(" quiet")?;
+    }
+    if let Some(verdict) = filter.only {
+        text.push_str(&format!(in alloc; " only {verdict:?}")?)?;
+    }
+    if filter.least != i64::MIN {
+        text.push_str(&format!(in alloc; " from {}", filter.least)?)?;
+    }
+    if let Some(below) = filter.below {
+        text.push_str(&format!(in alloc; " below {below}")?)?;
+    }
+    Ok(())
 }
 
 fn push_names(text: &mut String, names: &[&str]) -> Result<(), Unmade> {
@@ -146,6 +163,21 @@ fn refused_words(rt: HostRuntime) -> Result<(), Fail> {
         "--stream --replies f",
         "--stream --replies r f g",
         "--stream --replies r --replies s f",
+        "--quiet --quiet f",
+        "--quiet=yes f",
+        "--only f",
+        "--only conflicts f",
+        "--only conflict --only tooold f",
+        "--versions 5 f",
+        "--versions 5.7 f",
+        "--versions 5...7 f",
+        "--versions 5..7.. f",
+        "--versions a.. f",
+        "--versions ..9223372036854775808 f",
+        "--versions=..- f",
+        "--quiet --check r f",
+        "--only conflict --check r f",
+        "--versions .. --check r f",
     ] {
         refuses(&rt, given)?;
     }
@@ -168,6 +200,18 @@ fn reasons_of_refusals(rt: HostRuntime) -> Result<(), Fail> {
         (
             "--stream --check r f",
             "error: --stream is wanted without --check\n",
+        ),
+        (
+            "--only never f",
+            "error: --only is committed, conflict or tooold\n",
+        ),
+        (
+            "--versions 5 f",
+            "error: --versions is A..B with integers of 64 bits, of which each can be omitted\n",
+        ),
+        (
+            "--quiet --check r f",
+            "error: --quiet, --only and --versions are wanted without --check\n",
         ),
         (
             "--replies r f",
@@ -209,6 +253,24 @@ fn words_and_options(rt: HostRuntime) -> Result<(), Fail> {
             "a b | 16 5000000 1000000 check r s",
         ),
         ("a --stream b", "a b | 16 5000000 1000000 stream"),
+        ("--quiet a", "a | 16 5000000 1000000 quiet"),
+        (
+            "--only committed a --stream",
+            "a | 16 5000000 1000000 only Committed stream",
+        ),
+        (
+            "--only conflict --versions +5..07 --json a",
+            "a | 16 5000000 1000000 json only Conflict from 5 below 7",
+        ),
+        (
+            "--only=tooold --versions=-9223372036854775807.. a",
+            "a | 16 5000000 1000000 only TooOld from -9223372036854775807",
+        ),
+        (
+            "--versions ..9223372036854775807 --frames a",
+            "a | 16 5000000 1000000 frames below 9223372036854775807",
+        ),
+        ("--versions .. a", "a | 16 5000000 1000000"),
         (
             "--replies r a --stream --json",
             "a | 16 5000000 1000000 json stream r",
@@ -244,7 +306,7 @@ fn defaults(rt: HostRuntime) {
         capacity: 16,
         window: 5_000_000,
         limit: 1_000_000,
-        form: Form::Words,
+        style: Style::all(Form::Words),
     };
     assert_eq!(rt; Options::default(), wanted);
 }
@@ -264,6 +326,9 @@ fn version_and_help(rt: HostRuntime) -> Result<(), Fail> {
         "          [default: 5000000]\n\n      --limit <N>\n          Boundaries that the conflict set keeps at most, from 1 to 16777216\n",
         "          [default: 1000000]\n\n      --frames\n          Prints each reply as its frame in hexadecimal, in place of words\n",
         "      --json\n          Prints each answer as a line of JSON\n",
+        "      --quiet\n          Prints no lines of answers\n",
+        "      --only <VERDICT>\n          Prints only replies that have this verdict: committed, conflict or tooold\n",
+        "      --versions <A..B>\n          Prints only versions from A to below B; each can be omitted\n",
         "      --check <REPLIES>\n          Compares with the reply frames of another resolver; once a FILE, in order\n",
         "      --stream\n          Prints each answer as it comes, in the order of each proxy\n",
         "      --replies <OUT>\n          With --stream, writes the records of answers to a file; once a FILE, in order\n",

@@ -3,7 +3,7 @@
 use crate::runs::{file_of, push_batch, reader};
 use keyspace::{Answer, Batch};
 use lane::{Intake, Port, Taken, lane};
-use replay_program::{AlwaysOpen, Assignment, Finished, Form, Unshared, work};
+use replay_program::{AlwaysOpen, Assignment, Filter, Finished, Form, Style, Unshared, work};
 use resolver::Client;
 use std::alloc::Global;
 use std::process::Abort;
@@ -17,7 +17,18 @@ use wire::StdSink;
 const FIRST: Assignment = Assignment {
     proxy: 0,
     share: 4,
-    form: Form::Words,
+    style: Style {
+        form: Form::Words,
+        filter: ALL_LINES,
+    },
+};
+
+// The filter that shows every line.
+const ALL_LINES: Filter = Filter {
+    quiet: false,
+    only: None,
+    least: i64::MIN,
+    below: None,
 };
 
 // A client, and the resolver's ends of its lanes.

@@ -7,23 +7,23 @@ use Rattle.std.proofs.lemmas.List.{map-append}
 use Rattle.std.proofs.lemmas.List.Elements.{All-push}
 use Rattle.keyspace.specs.declared.answer.Answer.{Answer}
 use Rattle.lane.specs.Lane.{IntakeView}
-use Rattle.replay_output.specs.declared.options.form.Form.{Form}
+use Rattle.replay_output.specs.declared.options.style.Style.{Style}
 use Rattle.replay_workers.specs.declared.ends.Ends.{Ends}
 use Rattle.replay_workers.specs.declared.inbox.Inbox.{Inbox}
 use Rattle.replay_output.specs.declared.line.Line.{Line}
 use Rattle.replay_output.specs.Line.{answer_of, answers_of, IsLineOf}
 use Rattle.replay_workers.specs.Ends.{EndsGoOn}
 use Rattle.replay_workers.specs.Inbox.{KeepsLines, InboxGoesOn}
-use Rattle.replay_workers.proofs.SameLanes.{ends_go_on}
+use Rattle.replay_workers.proofs.callers.SameLanes.{ends_go_on}
 
 -- the answer's line was kept, behind the others
-abbrev pub IsKept : Form → ℕ → List Line → List Line → Answer → Type 0
-IsKept form proxy old new answer =
-    (line : Line) × (new ≡ old ++ line ∷ []) × (answer_of line ≡ answer) × IsLineOf form proxy line
+abbrev pub IsKept : Style → ℕ → List Line → List Line → Answer → Type 0
+IsKept style proxy old new answer =
+    (line : Line) × (new ≡ old ++ line ∷ []) × (answer_of line ≡ answer) × IsLineOf style proxy line
 
-module _ (form : Form) (proxy : ℕ) (before now : List Answer) (answer : Answer) (old new : List Line) where
-  dropped_also : (was : Bool) → KeepsLines form proxy before now old was → new ≡ old
-      → KeepsLines form proxy before (now ++ answer ∷ []) new true
+module _ (style : Style) (proxy : ℕ) (before now : List Answer) (answer : Answer) (old new : List Line) where
+  dropped_also : (was : Bool) → KeepsLines style proxy before now old was → new ≡ old
+      → KeepsLines style proxy before (now ++ answer ∷ []) new true
   dropped_also was keeps same = record {
     dropped = keeps.dropped ++ answer ∷ [];
     taken =
@@ -32,11 +32,11 @@ module _ (form : Form) (proxy : ℕ) (before now : List Answer) (answer : Answer
         ∙ ap (λ (l : List Answer). before ++ l) (append_assoc (answers_of old) keeps.dropped (answer ∷ []))
         ∙ ap (λ (l : List Line). before ++ (answers_of l ++ (keeps.dropped ++ answer ∷ []))) (sym same);
     none_dropped = λ none. absurd (false≢true (sym none));
-    each = subst (All (IsLineOf form proxy)) (sym same) keeps.each;
+    each = subst (All (IsLineOf style proxy)) (sym same) keeps.each;
   }
 
-  kept_also : KeepsLines form proxy before now old false → IsKept form proxy old new answer
-      → KeepsLines form proxy before (now ++ answer ∷ []) new false
+  kept_also : KeepsLines style proxy before now old false → IsKept style proxy old new answer
+      → KeepsLines style proxy before (now ++ answer ∷ []) new false
   kept_also keeps kept = record {
     dropped = [];
     taken =
@@ -49,45 +49,45 @@ module _ (form : Form) (proxy : ℕ) (before now : List Answer) (answer : Answer
         ∙ ap answers_of (sym kept.1) ∙ sym (append-nil (answers_of new)));
     none_dropped = λ none. refl;
     each =
-        subst (All (IsLineOf form proxy)) (sym kept.1) (All-push (IsLineOf form proxy) old kept.0 keeps.each kept.3);
+        subst (All (IsLineOf style proxy)) (sym kept.1) (All-push (IsLineOf style proxy) old kept.0 keeps.each kept.3);
   }
 
-  pub keeps_also : (was lost : Bool) → KeepsLines form proxy before now old was → (was ≡ true → lost ≡ true)
-      → (lost ≡ true → new ≡ old) → (lost ≡ false → IsKept form proxy old new answer)
-      → KeepsLines form proxy before (now ++ answer ∷ []) new lost
+  pub keeps_also : (was lost : Bool) → KeepsLines style proxy before now old was → (was ≡ true → lost ≡ true)
+      → (lost ≡ true → new ≡ old) → (lost ≡ false → IsKept style proxy old new answer)
+      → KeepsLines style proxy before (now ++ answer ∷ []) new lost
   keeps_also was true keeps stays lost kept = dropped_also was keeps (lost refl)
   keeps_also true false keeps stays lost kept = absurd (false≢true (stays refl))
   keeps_also false false keeps stays lost kept = kept_also keeps (kept refl)
 
 pub item_kept : (first old new : Inbox) (ends : Ends) (answer : Answer) → InboxGoesOn first old
     → EndsGoOn old.ends ends → ends.replies.taken ≡ old.ends.replies.taken ++ answer ∷ [] → new.ends ≡ ends
-    → new.proxy ≡ old.proxy → new.form ≡ old.form → (old.lost ≡ true → new.lost ≡ true)
+    → new.proxy ≡ old.proxy → new.style ≡ old.style → (old.lost ≡ true → new.lost ≡ true)
     → (new.lost ≡ true → new.lines.items ≡ old.lines.items)
-    → (new.lost ≡ false → IsKept old.form old.proxy old.lines.items new.lines.items answer) → InboxGoesOn first new
-item_kept first old new ends answer goes on took same_ends same_proxy same_form stays lost kept = record {
+    → (new.lost ≡ false → IsKept old.style old.proxy old.lines.items new.lines.items answer) → InboxGoesOn first new
+item_kept first old new ends answer goes on took same_ends same_proxy same_style stays lost kept = record {
   ends =
       ends_go_on first.ends old.ends new.ends goes.ends
       (subst (λ (e : Ends). EndsGoOn old.ends e) (sym same_ends) on);
   proxy = same_proxy ∙ goes.proxy;
-  form = same_form ∙ goes.form;
+  style = same_style ∙ goes.style;
   lines = λ before keeps.
       let also =
-      keeps_also old.form old.proxy before old.ends.replies.taken answer old.lines.items new.lines.items old.lost new.lost
+      keeps_also old.style old.proxy before old.ends.replies.taken answer old.lines.items new.lines.items old.lost new.lost
       (goes.lines before keeps) stays lost kept in
       let taken : old.ends.replies.taken ++ answer ∷ [] ≡ new.ends.replies.taken =
       sym took ∙ ap (λ (e : Ends). e.replies.taken) (sym same_ends) in
-      subst (λ (now : List Answer). KeepsLines new.form new.proxy before now new.lines.items new.lost) taken
-      (subst (λ (p : ℕ). KeepsLines new.form p before (old.ends.replies.taken ++ answer ∷ []) new.lines.items new.lost)
+      subst (λ (now : List Answer). KeepsLines new.style new.proxy before now new.lines.items new.lost) taken
+      (subst (λ (p : ℕ). KeepsLines new.style p before (old.ends.replies.taken ++ answer ∷ []) new.lines.items new.lost)
       (sym same_proxy)
-      (subst (λ (f : Form). KeepsLines f old.proxy before (old.ends.replies.taken ++ answer ∷ []) new.lines.items new.lost)
-      (sym same_form) also));
+      (subst (λ (f : Style). KeepsLines f old.proxy before (old.ends.replies.taken ++ answer ∷ []) new.lines.items new.lost)
+      (sym same_style) also));
 }
 
 pub inbox_goes_on : (a b c : Inbox) → InboxGoesOn a b → InboxGoesOn b c → InboxGoesOn a c
 inbox_goes_on a b c first second = record {
   ends = ends_go_on a.ends b.ends c.ends first.ends second.ends;
   proxy = second.proxy ∙ first.proxy;
-  form = second.form ∙ first.form;
+  style = second.style ∙ first.style;
   lines = λ before keeps. second.lines before (first.lines before keeps);
 }
 
@@ -97,9 +97,9 @@ pub with_ends : (old new : Inbox) → EndsGoOn old.ends new.ends → new.ends.re
 with_ends old new on same is = subst (InboxGoesOn old) (sym is) (record {
   ends = on;
   proxy = refl;
-  form = refl;
+  style = refl;
   lines = λ before keeps.
-      subst (λ (r : IntakeView Answer). KeepsLines old.form old.proxy before r.taken old.lines.items old.lost) (sym same)
+      subst (λ (r : IntakeView Answer). KeepsLines old.style old.proxy before r.taken old.lines.items old.lost) (sym same)
       keeps;
 })
 

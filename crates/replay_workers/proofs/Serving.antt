@@ -1,6 +1,6 @@
 -- What was read, sent, answered and received of one proxy, put together.
 use Rattle.std.specs.Prelude.{◌≡◌, ℕ, ◌<◌, ◌≤◌, ℤ, Bool, true, false, ◌&&◌, List, [], ◌∷◌, ◌++◌, length, Option, None, Some, option_to_list, Contains}
-use Rattle.std.proofs.Common.{refl, sym, ap, subst, ◌∙◌, append_assoc, append-nil, length-append, arith, inl, inr}
+use Rattle.std.proofs.Common.{refl, sym, ap, subst, ◌∙◌, append_assoc, append-nil, arith, inl, inr}
 use Rattle.std.proofs.lemmas.Bool.{false≢true}
 use Rattle.std.proofs.lemmas.List.Elements.{Contains-append_left}
 use Rattle.keyspace.specs.declared.batch.Batch.{Batch}
@@ -14,16 +14,14 @@ use Rattle.resolver.specs.declared.client.Client.{Client}
 use Rattle.resolver.specs.declared.turn.Account.{Account}
 use Rattle.resolver.specs.Core.{IsBeginning}
 use Rattle.resolver.specs.Settled.{SettledFor}
-use Rattle.replay_output.specs.declared.options.form.Form.{Form}
+use Rattle.replay_output.specs.declared.options.style.Style.{Style}
 use Rattle.replay_workers.specs.declared.worker.Finished.{Finished}
 use Rattle.replay_output.specs.Line.{answers_of}
 use Rattle.replay_workers.specs.Worker.{HasWorked, LeavesLane, TakesFrames}
 use Rattle.replay_workers.specs.Threads.{failure_of}
 use Rattle.replay_workers.specs.Run.{IsServed}
-
-pub both : (a b : Bool) → (a && b) ≡ true → (a ≡ true) × (b ≡ true)
-both true b is = (refl, is)
-both false b is = absurd (false≢true is)
+use Rattle.replay_workers.proofs.callers.Ending.{none_left}
+use Rattle.replay_workers.proofs.callers.Lists.{both}
 
 -- a worker that leaves a batch and a closed lane, which was open, has sent as many batches as a lane takes
 worn_lane : (requests : PortView Batch) (batch : Batch) → LeavesLane false requests (Some batch) → requests.closed ≡ true
@@ -31,28 +29,20 @@ worn_lane : (requests : PortView Batch) (batch : Batch) → LeavesLane false req
 worn_lane requests batch (inl left) closed = absurd (false≢true (sym left ∙ closed))
 worn_lane requests batch (inr worn) closed = worn.1
 
--- fewer were sent, so none is left
 none_worn : (requests : PortView Batch) (unsent : Option Batch) → LeavesLane false requests unsent → requests.closed ≡ true
     → length requests.sent < MAX_SENT → unsent ≡ None
 none_worn requests None leaves closed few = refl
 none_worn requests (Some batch) leaves closed few = absurd (omega (arith, few, worn_lane requests batch leaves closed))
 
--- if these are the first batches that were sent, with the one left over they aren't the same
-pub none_left : (batches held rest : List Batch) (unsent : Option Batch) → batches ≡ held ++ rest
-    → batches ++ option_to_list unsent ≡ held → unsent ≡ None
-none_left batches held rest None is same = refl
-none_left batches held rest (Some batch) is same =
-    absurd (omega (arith, ap length is, ap length same, length-append held rest, length-append batches (batch ∷ [])))
-
 -- the worker was given a client that had sent and taken nothing
-pub served : (window : ℤ) (form : Form) (log : List Step) (ended all_sent : Bool) (answers_sent : List Answer) (account : Account)
+pub served : (window : ℤ) (style : Style) (log : List Step) (ended all_sent : Bool) (answers_sent : List Answer) (account : Account)
     (bytes : Option (List ℕ)) (proxy : ℕ) (given : Client) (finished : Finished) → given.requests.sent ≡ [] → given.requests.closed ≡ false
-    → given.replies.taken ≡ [] → HasWorked form proxy bytes given finished → SettledFor window [] log ended answers_sent account proxy finished.client
+    → given.replies.taken ≡ [] → HasWorked style proxy bytes given finished → SettledFor window [] log ended answers_sent account proxy finished.client
     → ((version : ℤ) (j : ℕ) → ReportsCommitted finished.client.replies.taken version j
     → IsCommittedAt (run window log).processed proxy version j)
     → (all_sent ≡ true → finished.unsent ≡ None) → (account.stop ≡ None → account.complete ≡ true)
-    → IsServed window form log (account.complete && all_sent) account.stop bytes proxy finished.lines.items (failure_of finished)
-served window form log ended all_sent answers_sent account bytes proxy given finished none_sent fresh none_taken worked settled reported none_unsent whole =
+    → IsServed window style log (account.complete && all_sent) account.stop bytes proxy finished.lines.items (failure_of finished)
+served window style log ended all_sent answers_sent account bytes proxy given finished none_sent fresh none_taken worked settled reported none_unsent whole =
     let sends = worked.sends in
     let keeps = worked.keeps in
     let unsent = option_to_list finished.unsent in
@@ -111,13 +101,13 @@ served window form log ended all_sent answers_sent account bytes proxy given fin
     }
 
 -- a worker has a batch left that it read and could not send, though no stop was met
-pub left_over : (window : ℤ) (form : Form) (log : List Step) (ended : Bool) (answers_sent : List Answer) (account : Account)
+pub left_over : (window : ℤ) (style : Style) (log : List Step) (ended : Bool) (answers_sent : List Answer) (account : Account)
     (bytes : Option (List ℕ)) (proxy : ℕ) (given : Client) (finished : Finished) (batch : Batch) → given.requests.sent ≡ []
-    → given.requests.closed ≡ false → HasWorked form proxy bytes given finished
+    → given.requests.closed ≡ false → HasWorked style proxy bytes given finished
     → SettledFor window [] log ended answers_sent account proxy finished.client
     → account.complete ≡ true → finished.unsent ≡ Some batch
     → (left : Option (List ℕ)) × TakesFrames bytes left (part log proxy ++ batch ∷ []) × (MAX_SENT ≤ length (part log proxy))
-left_over window form log ended answers_sent account bytes proxy given finished batch none_sent fresh worked settled complete is =
+left_over window style log ended answers_sent account bytes proxy given finished batch none_sent fresh worked settled complete is =
     let sends = worked.sends in
     let has_ended = settled.all_ended complete in
     let all = settled.all_batches has_ended in

@@ -10,23 +10,14 @@ use Rattle.keyspace.specs.declared.batch.Batch.{Batch}
 use Rattle.lane.specs.Lane.{HasEnded}
 use Rattle.resolver.specs.declared.client.Client.{Client}
 use Rattle.resolver.specs.Resolver.{IsNewClient, SameClients}
-use Rattle.replay_output.specs.declared.options.form.Form.{Form}
+use Rattle.replay_output.specs.declared.options.style.Style.{Style}
 use Rattle.replay_workers.specs.declared.outcome.Outcome.{Outcome}
 use Rattle.replay_workers.specs.declared.threads.Started.{Started}
 use Rattle.replay_workers.specs.declared.worker.Finished.{Finished}
 use Rattle.replay_workers.specs.Worker.{HasWorked, ClientGoesOn}
 use Rattle.replay_workers.specs.Threads.{Given, given_each, given_to, HasWorkedOn, HandsBack, IsOutcomeOf, failure_of}
 use Rattle.replay_workers.specs.Run.{HasCapacity}
-
-pub at_also : {X : Type 0} (xs : List X) (place : ℕ) (x y : X) → slice_get xs place ≡ Some x
-    → slice_get (xs ++ y ∷ []) place ≡ Some x
-at_also [] place x y at = absurd (none-some x at)
-at_also (first ∷ xs) zero x y at = at
-at_also (first ∷ xs) (suc place) x y at = at_also xs place x y at
-
-pub at_last : {X : Type 0} (xs : List X) (y : X) → slice_get (xs ++ y ∷ []) (length xs) ≡ Some y
-at_last [] y = refl
-at_last (x ∷ xs) y = at_last xs y
+use Rattle.replay_workers.proofs.callers.Lists.{at_also, at_last}
 
 -- whether a batch was handed back by now
 hands_back_also : (finished : List Finished) (f : Finished) (was now : Bool) (unsent : Option Batch) → f.unsent ≡ unsent
@@ -62,20 +53,20 @@ outcome_also finished old new f of clients lines failures sent sends = record {
   unsent = hands_back_also finished f old.all_sent new.all_sent f.unsent refl of.unsent sends;
 }
 
-pub given_count : {S : Type 0} (form : Form) (share first : ℕ) (clients : List Client) (readers : List S)
-    → length readers ≡ length clients → length (given_each form share first clients readers) ≡ length clients
-given_count form share first [] readers same = refl
-given_count form share first (c ∷ clients) [] same = absurd (omega (arith, same))
-given_count form share first (c ∷ clients) (r ∷ readers) same =
-    let rest = given_count form share (first + 1) clients readers (omega (arith, same)) in
+pub given_count : {S : Type 0} (style : Style) (share first : ℕ) (clients : List Client) (readers : List S)
+    → length readers ≡ length clients → length (given_each style share first clients readers) ≡ length clients
+given_count style share first [] readers same = refl
+given_count style share first (c ∷ clients) [] same = absurd (omega (arith, same))
+given_count style share first (c ∷ clients) (r ∷ readers) same =
+    let rest = given_count style share (first + 1) clients readers (omega (arith, same)) in
     omega (arith, rest)
 
 -- as many workers were started as there are readers
-pub started_count : {S : Type 0} (form : Form) (share : ℕ) (clients : List Client) (readers : List S) (workers : List (Started S))
-    → length readers ≡ length clients → map given_to workers ≡ given_each form share 0 clients readers
+pub started_count : {S : Type 0} (style : Style) (share : ℕ) (clients : List Client) (readers : List S) (workers : List (Started S))
+    → length readers ≡ length clients → map given_to workers ≡ given_each style share 0 clients readers
     → length workers ≡ length readers
-started_count form share clients readers workers same given =
-    sym (length-map workers given_to) ∙ ap length given ∙ given_count form share 0 clients readers same ∙ sym same
+started_count style share clients readers workers same given =
+    sym (length-map workers given_to) ∙ ap length given ∙ given_count style share 0 clients readers same ∙ sym same
 
 at_place : {X : Type 0} (xs : List X) (place : ℕ) → place < length xs → (x : X) × (slice_get xs place ≡ Some x)
 at_place [] place inside = absurd (omega (arith, inside))
@@ -109,27 +100,27 @@ capacities_stay capacity old new same all place d inside =
 
 module _ {S : Type 0} (remaining : S → Option (List ℕ)) where
   -- each client is handed back as the one that was given
-  pub clients_back : (form : Form) (share first : ℕ) (clients : List Client) (readers : List S) (finished : List Finished)
+  pub clients_back : (style : Style) (share first : ℕ) (clients : List Client) (readers : List S) (finished : List Finished)
       → length readers ≡ length clients
-      → AllZip (HasWorkedOn remaining) (given_each form share first clients readers) finished
+      → AllZip (HasWorkedOn remaining) (given_each style share first clients readers) finished
       → AllZip ClientGoesOn clients (map (λ f. f.client) finished)
-  clients_back form share first [] readers [] same all = tt
-  clients_back form share first [] readers (f ∷ finished) same all = absurd all
-  clients_back form share first (c ∷ clients) [] finished same all = absurd (omega (arith, same))
-  clients_back form share first (c ∷ clients) (r ∷ readers) [] same all = absurd all
-  clients_back form share first (c ∷ clients) (r ∷ readers) (f ∷ finished) same all =
-      (all.0.client, clients_back form share (first + 1) clients readers finished (omega (arith, same)) all.1)
+  clients_back style share first [] readers [] same all = tt
+  clients_back style share first [] readers (f ∷ finished) same all = absurd all
+  clients_back style share first (c ∷ clients) [] finished same all = absurd (omega (arith, same))
+  clients_back style share first (c ∷ clients) (r ∷ readers) [] same all = absurd all
+  clients_back style share first (c ∷ clients) (r ∷ readers) (f ∷ finished) same all =
+      (all.0.client, clients_back style share (first + 1) clients readers finished (omega (arith, same)) all.1)
 
-  pub finished_count : (form : Form) (share first : ℕ) (clients : List Client) (readers : List S) (finished : List Finished)
+  pub finished_count : (style : Style) (share first : ℕ) (clients : List Client) (readers : List S) (finished : List Finished)
       → length readers ≡ length clients
-      → AllZip (HasWorkedOn remaining) (given_each form share first clients readers) finished
+      → AllZip (HasWorkedOn remaining) (given_each style share first clients readers) finished
       → length finished ≡ length clients
-  finished_count form share first [] readers [] same all = refl
-  finished_count form share first [] readers (f ∷ finished) same all = absurd all
-  finished_count form share first (c ∷ clients) [] finished same all = absurd (omega (arith, same))
-  finished_count form share first (c ∷ clients) (r ∷ readers) [] same all = absurd all
-  finished_count form share first (c ∷ clients) (r ∷ readers) (f ∷ finished) same all =
-      let rest = finished_count form share (first + 1) clients readers finished (omega (arith, same)) all.1 in
+  finished_count style share first [] readers [] same all = refl
+  finished_count style share first [] readers (f ∷ finished) same all = absurd all
+  finished_count style share first (c ∷ clients) [] finished same all = absurd (omega (arith, same))
+  finished_count style share first (c ∷ clients) (r ∷ readers) [] same all = absurd all
+  finished_count style share first (c ∷ clients) (r ∷ readers) (f ∷ finished) same all =
+      let rest = finished_count style share (first + 1) clients readers finished (omega (arith, same)) all.1 in
       omega (arith, rest)
 
   -- each client has taken its answers to their end
@@ -143,22 +134,22 @@ module _ {S : Type 0} (remaining : S → Option (List ℕ)) where
   clients_ended (one ∷ given) (f ∷ finished) all (suc place) c at = clients_ended given finished all.1 place c at
 
   -- the worker at this place was given the client and the reader at it, and its proxy is the place
-  pub worked_at : (form : Form) (share first : ℕ) (clients : List Client) (readers : List S) (finished : List Finished)
+  pub worked_at : (style : Style) (share first : ℕ) (clients : List Client) (readers : List S) (finished : List Finished)
       → length readers ≡ length clients
-      → AllZip (HasWorkedOn remaining) (given_each form share first clients readers) finished
+      → AllZip (HasWorkedOn remaining) (given_each style share first clients readers) finished
       → (place : ℕ) (bytes : Option (List ℕ)) (f : Finished) → slice_get (map remaining readers) place ≡ Some bytes
       → slice_get finished place ≡ Some f
-      → (c : Client) × (slice_get clients place ≡ Some c) × HasWorked form (first + place) bytes c f
-  worked_at form share first clients [] finished same all place bytes f at there = absurd (none-some bytes at)
-  worked_at form share first [] (r ∷ readers) finished same all place bytes f at there = absurd (omega (arith, same))
-  worked_at form share first (c ∷ clients) (r ∷ readers) [] same all place bytes f at there = absurd all
-  worked_at form share first (c ∷ clients) (r ∷ readers) (g ∷ finished) same all zero bytes f at there = (
+      → (c : Client) × (slice_get clients place ≡ Some c) × HasWorked style (first + place) bytes c f
+  worked_at style share first clients [] finished same all place bytes f at there = absurd (none-some bytes at)
+  worked_at style share first [] (r ∷ readers) finished same all place bytes f at there = absurd (omega (arith, same))
+  worked_at style share first (c ∷ clients) (r ∷ readers) [] same all place bytes f at there = absurd all
+  worked_at style share first (c ∷ clients) (r ∷ readers) (g ∷ finished) same all zero bytes f at there = (
     c,
     refl,
-    subst (λ (first : ℕ). HasWorked form first bytes c f) (omega arith)
-        (subst (λ (bytes : Option (List ℕ)). HasWorked form first bytes c f) (same_Some (remaining r) bytes at)
-        (subst (λ (f : Finished). HasWorked form first (remaining r) c f) (same_Some g f there) all.0)),
+    subst (λ (first : ℕ). HasWorked style first bytes c f) (omega arith)
+        (subst (λ (bytes : Option (List ℕ)). HasWorked style first bytes c f) (same_Some (remaining r) bytes at)
+        (subst (λ (f : Finished). HasWorked style first (remaining r) c f) (same_Some g f there) all.0)),
   )
-  worked_at form share first (c ∷ clients) (r ∷ readers) (g ∷ finished) same all (suc place) bytes f at there =
-      let rest = worked_at form share (first + 1) clients readers finished (omega (arith, same)) all.1 place bytes f at there in
-      (rest.0, rest.1, subst (λ (proxy : ℕ). HasWorked form proxy bytes rest.0 f) (omega arith) rest.2)
+  worked_at style share first (c ∷ clients) (r ∷ readers) (g ∷ finished) same all (suc place) bytes f at there =
+      let rest = worked_at style share (first + 1) clients readers finished (omega (arith, same)) all.1 place bytes f at there in
+      (rest.0, rest.1, subst (λ (proxy : ℕ). HasWorked style proxy bytes rest.0 f) (omega arith) rest.2)

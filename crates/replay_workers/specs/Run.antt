@@ -17,7 +17,7 @@ use Rattle.resolver.specs.declared.turn.Account.{Account}
 use Rattle.resolver.specs.Core.{IsBeginning}
 use Rattle.resolver.specs.Resolver.{TakesOnlyFrom, FinishesLast}
 use Rattle.replay_output.specs.declared.failures.ProxyFailure.{ProxyFailure}
-use Rattle.replay_output.specs.declared.options.form.Form.{Form}
+use Rattle.replay_output.specs.declared.options.style.Style.{Style}
 use Rattle.replay_output.specs.declared.line.Line.{Line}
 use Rattle.replay_output.specs.declared.options.Options.{Options}
 use Rattle.replay_workers.specs.declared.outcome.Outcome.{Outcome}
@@ -35,7 +35,7 @@ HasCapacity capacity client = (client.requests.capacity ≡ capacity) × (client
 
 -- What became of one file, whose reader told these bytes, by whether the run is complete and the stop that it met: its
 -- batches and the lines of its proxy, beside those of the reference resolver.
-pub record IsServed (window : ℤ) (form : Form) (log : List Step) (complete : Bool) (stop : Option Stop)
+pub record IsServed (window : ℤ) (style : Style) (log : List Step) (complete : Bool) (stop : Option Stop)
     (bytes : Option (List ℕ)) (proxy : ℕ) (lines : List Line) (failure : ProxyFailure) : Type 0 where
   -- these batches were read, from the frames at the front, and these bytes are left
   pub read : List Batch
@@ -62,7 +62,7 @@ pub record IsServed (window : ℤ) (form : Form) (log : List Step) (complete : B
   pub reported :
       (version : ℤ) (j : ℕ) → ReportsCommitted (answers_of lines) version j
       → IsCommittedAt (run window log).processed proxy version j
-  pub lines_told : All (IsLineOf form proxy) lines
+  pub lines_told : All (IsLineOf style proxy) lines
 
 -- Of some file, a batch was read that the log doesn't take: it was the last that was read, and could not be sent, since its
 -- proxy's lane has taken as many batches as a lane takes. The log holds these.
@@ -87,7 +87,7 @@ pub record IsRun (options : Options) (files : List (Option (List ℕ))) (receive
       (proxy : ℕ) (bytes : Option (List ℕ)) (lines : List Line) (failure : ProxyFailure) →
       slice_get files proxy ≡ Some bytes → slice_get received proxy ≡ Some lines →
       slice_get failures proxy ≡ Some failure →
-      IsServed options.window options.form log complete stop bytes proxy lines failure
+      IsServed options.window options.style log complete stop bytes proxy lines failure
   -- what was processed follows the chain of versions
   pub chain : IsChain options.window (run options.window log).processed
   -- so what was committed can be run one transaction at a time, in the order of commit, and each reads what it has read

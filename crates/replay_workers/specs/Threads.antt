@@ -4,7 +4,7 @@ use Rattle.std.specs.List.{All}
 use Rattle.keyspace.specs.declared.batch.Batch.{Batch}
 use Rattle.resolver.specs.declared.client.Client.{Client}
 use Rattle.replay_output.specs.declared.failures.ProxyFailure.{ProxyFailure}
-use Rattle.replay_output.specs.declared.options.form.Form.{Form}
+use Rattle.replay_output.specs.declared.options.style.Style.{Style}
 use Rattle.replay_workers.specs.declared.outcome.Outcome.{Outcome}
 use Rattle.replay_workers.specs.declared.worker.Finished.{Finished}
 use Rattle.replay_workers.specs.declared.threads.Task.{Task}
@@ -14,7 +14,7 @@ use Rattle.replay_workers.specs.Worker.{HasWorked}
 
 -- the task of a worker
 pub record Given (S : Type 0) : Type 0 where
-  pub form : Form
+  pub style : Style
   pub share : ℕ
   pub proxy : ℕ
   pub client : Client
@@ -22,17 +22,17 @@ pub record Given (S : Type 0) : Type 0 where
 
 module _ {S : Type 0} where
   -- from this proxy on, each worker is given the client and the reader at its place
-  abbrev pub given_each : Form → ℕ → ℕ → List Client → List S → List (Given S)
-  given_each form share proxy (client ∷ clients) (reader ∷ readers) =
-      record { form = form; share = share; proxy = proxy; client = client; reader = reader }
-      ∷ given_each form share (proxy + 1) clients readers
-  given_each form share proxy (client ∷ clients) [] = []
-  given_each form share proxy [] readers = []
+  abbrev pub given_each : Style → ℕ → ℕ → List Client → List S → List (Given S)
+  given_each style share proxy (client ∷ clients) (reader ∷ readers) =
+      record { style = style; share = share; proxy = proxy; client = client; reader = reader }
+      ∷ given_each style share (proxy + 1) clients readers
+  given_each style share proxy (client ∷ clients) [] = []
+  given_each style share proxy [] readers = []
 
   -- the values that the worker of a task must get
   abbrev pub given_by : {G : Type 0} → Task S G → Given S
   given_by task = record {
-    form = task.assignment.form;
+    style = task.assignment.style;
     share = task.assignment.share;
     proxy = task.assignment.proxy;
     client = task.client;
@@ -42,7 +42,7 @@ module _ {S : Type 0} where
   -- the values of a worker that was promised this work
   abbrev pub given_for : Work S → Given S
   given_for work = record {
-    form = work.assignment.form;
+    style = work.assignment.style;
     share = work.assignment.share;
     proxy = work.assignment.proxy;
     client = work.client.value;
@@ -56,7 +56,7 @@ module _ {S : Type 0} where
   -- a worker has worked on what it was given, whose bytes the reader tells
   abbrev pub HasWorkedOn : (S → Option (List ℕ)) → Given S → Finished → Type 0
   HasWorkedOn remaining given finished =
-      HasWorked given.form given.proxy (remaining given.reader) given.client finished
+      HasWorked given.style given.proxy (remaining given.reader) given.client finished
 
 -- what failed of the proxy
 abbrev pub failure_of : Finished → ProxyFailure

@@ -9,7 +9,7 @@ use Rattle.wire.specs.declared.error.WireError.{WireError}
 use Rattle.wire.specs.declared.error.WireError.TheVariants as wire
 use Rattle.wire.specs.NextFrame.{TakesFrame, IsFaultOf}
 use Rattle.resolver.specs.declared.client.Client.{Client}
-use Rattle.replay_output.specs.declared.options.form.Form.{Form}
+use Rattle.replay_output.specs.declared.options.style.Style.{Style}
 use Rattle.replay_workers.specs.declared.worker.Assignment.{Assignment}
 use Rattle.replay_workers.specs.declared.worker.Finished.{Finished}
 use Rattle.replay_workers.specs.declared.worker.FileEnd.{FileEnd}
@@ -87,13 +87,13 @@ LeavesLane was requests (Some batch) =
 
 -- What a worker has done that was given this proxy's client, and a reader with these bytes left: it sent the batches that it
 -- read, its lines are those of the answers that it took, and it has closed its lane and taken answers to their end.
-pub record HasWorked (form : Form) (proxy : ℕ) (bytes : Option (List ℕ)) (given : Client) (finished : Finished) :
+pub record HasWorked (style : Style) (proxy : ℕ) (bytes : Option (List ℕ)) (given : Client) (finished : Finished) :
     Type 0 where
   pub client : ClientGoesOn given finished.client
   pub sends :
       SendsFrames bytes given.requests.sent finished.client.requests.sent finished.fault finished.unsent
   pub keeps :
-      KeepsLines form proxy given.replies.taken finished.client.replies.taken finished.lines.items finished.lost
+      KeepsLines style proxy given.replies.taken finished.client.replies.taken finished.lines.items finished.lost
   pub leaves : LeavesLane given.requests.closed finished.client.requests finished.unsent
   pub ended : HasEnded finished.client.replies
 

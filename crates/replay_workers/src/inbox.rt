@@ -9,11 +9,11 @@ ghost use Rattle.replay_output.specs.declared.line.Line.{Line as LineOfAnswer};
 
 use crate::ends::Ends;
 use crate::gatekeeper::Gatekeeper;
-use crate::pause::pause;
+use crate::rest::pause;
 use crate::worker::Assignment;
 use keyspace::Answer;
 use lane::Taken;
-use replay_output::{Form, Line};
+use replay_output::{Line, Style};
 use resolver::Client;
 use std::alloc::Global;
 use std::sync::Wait;
@@ -27,8 +27,8 @@ pub struct Inbox {
     /// The line of an answer could not be kept. Later answers are dropped too.
     pub lost: bool,
     pub proxy: usize,
-    /// The form of printed answers.
-    pub form: Form,
+    /// How answers are printed.
+    pub style: Style,
     alloc: Global,
     // The place of the next answer. It stops at `u64::MAX`, which no lane comes to.
     place: u64,
@@ -43,16 +43,16 @@ impl Inbox {
         ensures asks_as { result.ends.proxy ≡ assignment.proxy }
         ensures share { result.ends.share ≡ assignment.share }
         ensures proxy { result.proxy ≡ assignment.proxy }
-        ensures form { result.form ≡ assignment.form }
+        ensures style { result.style ≡ assignment.style }
         ensures lines { Keeps client.replies.taken result }
     {
-        let Assignment { proxy, form, .. } = assignment;
+        let Assignment { proxy, style, .. } = assignment;
         Inbox {
             ends: Ends::new(assignment, client),
             lines: Vec::new(alloc),
             lost: false,
             proxy,
-            form,
+            style,
             alloc,
             place: 0,
         }
@@ -98,17 +98,17 @@ impl Inbox {
     fn keep(&mut self, answer: Answer)
         ensures ends { self.new.ends ≡ self.old.ends }
         ensures proxy { self.new.proxy ≡ self.old.proxy }
-        ensures form { self.new.form ≡ self.old.form }
+        ensures style { self.new.style ≡ self.old.style }
         ensures loss_stays { self.old.lost ≡ true → self.new.lost ≡ true }
         ensures lost { self.new.lost ≡ true → self.new.lines.items ≡ self.old.lines.items }
         ensures kept { self.new.lost ≡ false → (line : LineOfAnswer)
             × (self.new.lines.items ≡ self.old.lines.items ++ line ∷ [])
-            × (answer_of line ≡ answer) × IsLineOf self.old.form self.old.proxy line }
+            × (answer_of line ≡ answer) × IsLineOf self.old.style self.old.proxy line }
     {
         if self.lost {
             return;
         }
-        let Some(line) = Line::new(self.alloc, self.form, self.proxy, answer) else {
+        let Some(line) = Line::new(self.alloc, self.style, self.proxy, answer) else {
             self.lost = true;
             return;
         };

@@ -6,7 +6,7 @@
 //! first where all have used up their share.
 //!
 //! In reading order: `running`, `threads`, `worker`, `inbox`, `ends`, `gatekeeper`, `watch`, `outcome`,
-//! `pause`. What became of the files is `IsRun`, in `specs/Run.antt`. What one worker has done is
+//! `rest`. What became of the files is `IsRun`, in `specs/Run.antt`. What one worker has done is
 //! `HasWorked`, in `specs/Worker.antt`.
 #![tactic(auto)]
 
@@ -14,9 +14,8 @@ mod ends;
 mod gatekeeper;
 mod inbox;
 mod outcome;
-mod pause;
+mod rest;
 mod running;
-mod stream;
 mod threads;
 mod watch;
 mod worker;
@@ -24,6 +23,7 @@ mod worker;
 pub use ends::MostUnanswered;
 pub use gatekeeper::{AlwaysOpen, Gatekeeper, ShareKeeper, Unshared};
 pub use outcome::Outcome;
-pub use running::run;
-pub use stream::{Recorder, Streamed, run_stream};
-pub use worker::{Assignment, Finished, work};
+pub use rest::pause;
+pub use running::{let_through, run};
+pub use watch::Watch;
+pub use worker::{Assignment, FileEnd, Finished, Leftover, work};

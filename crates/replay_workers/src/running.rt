@@ -52,12 +52,12 @@ pub fn run<
         capacity,
         window,
         limit,
-        form,
+        style,
     } = options;
     let outcome = Outcome::with_room(alloc, proxies)?;
     let mut watch = Watch::new(alloc, proxies)?;
     let (mut resolver, clients) = open(alloc, proxies, capacity, window, limit)?;
-    let workers = start_workers(rt, alloc, form, readers, clients, gatekeeper)?;
+    let workers = start_workers(rt, alloc, style, readers, clients, gatekeeper)?;
     turn_to_end(rt, &mut resolver, &**gatekeeper, &mut watch);
     let mut outcome = join_all(rt, workers, outcome);
     let account = resolver.settle(outcome.clients.as_mut_slice());
@@ -98,7 +98,7 @@ fn turn_to_end<G: ShareKeeper, R: Wait>(
 /// Lets the batch of the proxy through that is next, after a turn that took nothing. What all
 /// proxies have told twice, with such a turn between, is so at once: none of them has gone on
 /// meanwhile, and all that they have sent was taken.
-pub(crate) fn let_through<G: ShareKeeper>(resolver: &Resolver, gatekeeper: &G, watch: &mut Watch)
+pub fn let_through<G: ShareKeeper>(resolver: &Resolver, gatekeeper: &G, watch: &mut Watch)
     ensures proxies { length watch.new.told ≡ length watch.old.told }
 {
     if resolver.owed() > 0 {

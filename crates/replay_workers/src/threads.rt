@@ -11,7 +11,7 @@ ghost use Rattle.replay_workers.specs.Threads.{IsOutcomeOf};
 use crate::gatekeeper::{Gatekeeper, ShareKeeper};
 use crate::outcome::Outcome;
 use crate::worker::{Assignment, Finished, work};
-use replay_output::{Form, StartError};
+use replay_output::{StartError, Style};
 use resolver::{Client, share};
 use std::alloc::{AllocError, Global};
 use std::snapshot::Snapshot;
@@ -30,7 +30,7 @@ struct Work<S> {
 
 impl<S: Source> Promise<Finished> for Work<S> {
     ghost kept_by = { λ work finished.
-        HasWorked work.assignment.form work.assignment.proxy (S.remaining work.reader.value) work.client.value finished };
+        HasWorked work.assignment.style work.assignment.proxy (S.remaining work.reader.value) work.client.value finished };
 }
 
 /// A worker that was started, and what it was given.
@@ -63,7 +63,7 @@ impl<S: Source + Drop, G: Gatekeeper + ShareKeeper + Drop> Task<S, G> {
 }
 
 /// Starts a worker for each reader, with the client at the same place, whose number is its proxy's.
-/// They make lines of this form.
+/// They make lines of this style.
 ///
 /// After an error the workers that were started are not joined.
 pub fn start_workers<
@@ -73,7 +73,7 @@ pub fn start_workers<
 >(
     rt: &R,
     alloc: Global,
-    form: Form,
+    style: Style,
     readers: Vec<S>,
     clients: Vec<Client>,
     gatekeeper: &Arc<G, Global>,
@@ -81,11 +81,11 @@ pub fn start_workers<
     requires some { 1 ≤ vec_len readers }
     requires each { vec_len readers ≡ vec_len clients }
     ensures given { IfOk result (λ workers.
-        map given_to workers.items ≡ given_each form (share_of (vec_len readers)) 0 clients.items
+        map given_to workers.items ≡ given_each style (share_of (vec_len readers)) 0 clients.items
         readers.items) }
 {
     let share = share(readers.len());
-    let tasks = make_tasks(alloc, form, share, readers, clients, gatekeeper)?;
+    let tasks = make_tasks(alloc, style, share, readers, clients, gatekeeper)?;
     let mut workers = Vec::with_capacity(alloc, tasks.len())?;
     for task in tasks {
         workers.push_reserved(start(rt, alloc, task)?);
@@ -96,7 +96,7 @@ pub fn start_workers<
 // Takes all memory that main needs before the first thread is started.
 fn make_tasks<S: Drop, G: Drop>(
     alloc: Global,
-    form: Form,
+    style: Style,
     share: u64,
     readers: Vec<S>,
     clients: Vec<Client>,
@@ -104,7 +104,7 @@ fn make_tasks<S: Drop, G: Drop>(
 ) -> Result<Vec<Task<S, G>>, AllocError>
     requires each { vec_len readers ≡ vec_len clients }
     ensures given { IfOk result (λ tasks. map given_by tasks.items
-        ≡ given_each form share 0 clients.items readers.items) }
+        ≡ given_each style share 0 clients.items readers.items) }
 {
     let mut tasks = Vec::with_capacity(alloc, clients.len())?;
     let mut readers = readers.into_iter();
@@ -115,7 +115,7 @@ fn make_tasks<S: Drop, G: Drop>(
         let assignment = Assignment {
             proxy: tasks.len(),
             share,
-            form,
+            style,
         };
         tasks.push_reserved(make_task(assignment, client, reader, gatekeeper)?);
     }

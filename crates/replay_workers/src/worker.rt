@@ -16,10 +16,10 @@ ghost use Rattle.replay_workers.specs.Worker.{is_cut_short, unsent_of};
 use crate::ends::MostUnanswered;
 use crate::gatekeeper::{Gatekeeper, ShareKeeper};
 use crate::inbox::Inbox;
-use crate::pause::pause;
+use crate::rest::pause;
 use keyspace::Batch;
 use lane::Refused;
-use replay_output::{Form, Line};
+use replay_output::{Line, Style};
 use resolver::Client;
 use std::alloc::Global;
 use std::sync::Wait;
@@ -32,8 +32,8 @@ pub struct Assignment {
     pub proxy: usize,
     /// So many of its batches may be unanswered as long as it sends freely.
     pub share: u64,
-    /// The form of printed answers.
-    pub form: Form,
+    /// How answers are printed.
+    pub style: Style,
 }
 
 /// What a worker returns.
@@ -56,7 +56,7 @@ pub struct Finished {
 
 /// How the reading of a file ended.
 #[derive(Drop)]
-pub(crate) enum FileEnd {
+pub enum FileEnd {
     /// All of it was read and sent.
     Reached,
     /// The file has this fault.
@@ -67,7 +67,7 @@ pub(crate) enum FileEnd {
 
 /// The batch that was read last and can't be sent.
 #[derive(Drop)]
-pub(crate) enum Leftover {
+pub enum Leftover {
     /// The answers ended first.
     CutShort(Batch),
     /// The lane takes no more.
@@ -105,7 +105,7 @@ pub fn work<S: Source + Drop, G: Gatekeeper + ShareKeeper, R: Wait>(
     reader: S,
     gatekeeper: &G,
 ) -> Finished
-    ensures worked { HasWorked assignment.form assignment.proxy (S.remaining reader) client result }
+    ensures worked { HasWorked assignment.style assignment.proxy (S.remaining reader) client result }
     ensures within_share { IsWithinShare assignment client result }
 {
     let mut worker = Worker::new(alloc, assignment, client);
@@ -122,7 +122,7 @@ impl Worker {
         ensures asks_as { result.inbox.ends.proxy ≡ assignment.proxy }
         ensures share { result.inbox.ends.share ≡ assignment.share }
         ensures proxy { result.inbox.proxy ≡ assignment.proxy }
-        ensures form { result.inbox.form ≡ assignment.form }
+        ensures style { result.inbox.style ≡ assignment.style }
         ensures lines { Keeps client.replies.taken result.inbox }
     {
         Worker {

@@ -30,6 +30,10 @@ module _ (window : ℤ) (proxy : ℕ) (b : Batch) (s : State) where
   admit-now due =
       cond-false (int_lt version b.previous) (hold proxy b s) admit_now (int_lt-false version b.previous due)
 
+  pub admit-ahead : version <ℤ b.previous → admit window proxy b s ≡ hold proxy b s
+  admit-ahead ahead =
+      cond-true (int_lt version b.previous) (hold proxy b s) admit_now (int_lt-true version b.previous ahead)
+
   pub admit-repeat : b.previous <ℤ version → admit window proxy b s ≡ repeat
   admit-repeat below =
       admit-now (omega (arith, ints))

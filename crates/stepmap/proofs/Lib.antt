@@ -45,6 +45,8 @@ pub mod PlacedKeys
 pub mod Exchanged
 pub mod Overwritten
 pub mod WritingOn
+pub mod CopiedOn
+pub mod InCopy
 pub mod NextReady
 pub mod NoneReady
 pub mod SingleKeys

@@ -11,6 +11,7 @@ pub mod Uniting
 pub mod Laws
 pub mod KeyBound
 pub mod Stored
+pub mod Copying
 pub mod Asking
 pub mod Filtering
 pub mod Kept

@@ -66,9 +66,21 @@ impl<const N: usize> Boundaries<N> {
         ensures room { IfOk result (λ b. 1 ≤ b.room) }
         ensures memory { IsOkUnless result ArenaError.Memory }
     {
+        Boundaries::everywhere(alloc, -1)
+    }
+
+    // Makes the one boundary of the function that has this version everywhere.
+    pub fn everywhere(alloc: Global, version: i64) -> Result<Self, ArenaError>
+        requires fan_out { 4 ≤ N }
+        requires few { N ≤ 65536 }
+        ensures first { IfOk result (λ b. b.boundaries
+            ≡ (record { key = []; version = version }) ∷ []) }
+        ensures room { IfOk result (λ b. 1 ≤ b.room) }
+        ensures memory { IsOkUnless result ArenaError.Memory }
+    {
         let mut keys = Arena::new(alloc);
         let empty = keys.place((), &[])?;
-        let tree = Tree::new(alloc, empty, -1)?;
+        let tree = Tree::new(alloc, empty, version)?;
         Ok(Boundaries {
             wanted: Vec::new(alloc),
             keys,
@@ -83,6 +95,12 @@ impl<const N: usize> Boundaries<N> {
         ensures within { result ≤ self.now.room }
     {
         self.tree.len()
+    }
+
+    // Returns how many bytes of memory the boundaries have used so far.
+    pub fn bytes_held(&self) -> usize {
+        let keys = self.keys.bytes_held(0);
+        keys.saturating_add(self.tree.bytes_held())
     }
 
     // Returns the version at the key.

@@ -16,6 +16,7 @@
 
 mod boundaries;
 mod bounding;
+mod copying;
 mod error;
 mod key_bound;
 mod key_lengths;

@@ -1,5 +1,4 @@
 //! The step map: boundaries, a filter before them, an edge, and a limit.
-
 ghost use Rattle.std.specs.Prelude.{◌≡◌, ℕ, ◌+◌, ◌*◌, ◌≤◌, ◌<◌, ℤ, negsuc, ◌≤ℤ◌, ◌↔◌};
 ghost use Rattle.std.specs.Prelude.{List, [], length, slice_get, Some, None, Err};
 ghost use Rattle.std.specs.Prelude.{IfOk, OnOk, OnErr, IfErr, IsTrue};
@@ -18,6 +17,7 @@ ghost use Rattle.stepmap.specs.Counting.{live_count};
 
 mod answering;
 mod room;
+mod trimming;
 
 use crate::boundaries::Boundaries;
 use crate::error::StepError;
@@ -147,11 +147,17 @@ impl StepMap {
             (L.queries queries.now) answers.new.items) }
     {
         answers.clear();
-        answers.reserve(queries.len())?;
-        while answers.len() < queries.len() {
-            self.answer_some(queries, answers)?;
-        }
+        answers.resize(queries.len(), false)?;
+        self.answer_all(queries, &mut answers[..]);
         Ok(())
+    }
+
+    /// Returns about how many bytes of memory the boundaries and the filter have used so far. Memory
+    /// of boundaries that were removed still counts, until [`StepMap::trim`]. What the allocator adds
+    /// doesn't count.
+    pub fn bytes_held(&self) -> usize {
+        let boundaries = self.boundaries.bytes_held();
+        boundaries.saturating_add(self.filter.bytes_held())
     }
 
     /// Returns the number of boundaries, that at the empty key included.

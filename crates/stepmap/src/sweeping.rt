@@ -127,7 +127,7 @@ impl<const N: usize> Boundaries<N> {
 }
 
 // Moves the cursor to the key of a slot, or empties it if there is none.
-fn move_to(keys: &Arena<()>, cursor: &mut Vec<u8>, next: Option<Slot>)
+pub fn move_to(keys: &Arena<()>, cursor: &mut Vec<u8>, next: Option<Slot>)
     requires live { IfSome next (λ slot. IsLive keys.now slot) }
     requires fits { IfSome next (λ slot. length (bytes_at keys.now slot)
         ≤ vec_capacity cursor.old) }

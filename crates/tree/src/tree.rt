@@ -35,6 +35,12 @@ use std::marker::Model;
 // above it.
 const WAY: usize = 66;
 
+// How many bytes of memory an entry takes, with the head of its key.
+const ENTRY_BYTES: usize = 20;
+
+// How many bytes of memory a node takes besides its entries.
+const NODE_BYTES: usize = 16;
+
 /// Items in the order of their keys, at least one. Contracts see the items, for how many nodes are
 /// reserved, and what the nodes know of the bytes of keys.
 #[derive(Drop)]
@@ -132,6 +138,12 @@ impl<const N: usize> Tree<N> {
         ensures within { result ≤ self.now.room }
     {
         self.len
+    }
+
+    /// Returns how many bytes of memory the nodes have used so far.
+    pub fn bytes_held(&self) -> usize {
+        let node = N.saturating_mul(ENTRY_BYTES).saturating_add(NODE_BYTES);
+        self.nodes.bytes_held(node)
     }
 
     /// Returns the last item below the bound, and the key of the first one that isn't.

@@ -105,6 +105,12 @@ impl CoreObject {
         self.core.set().boundaries() as u64
     }
 
+    /// Returns about how many bytes of memory the conflict set has used for its boundaries and its
+    /// filter. Batches held and answers owed don't count. No clause counts bytes.
+    pub fn bytes_held(&self) -> u64 {
+        self.core.set().bytes_held() as u64
+    }
+
     /// Returns how many boundaries the conflict set may have.
     pub fn limit(&self) -> u64
         ensures limit { result ≡ self.now.core.set.map.limit }

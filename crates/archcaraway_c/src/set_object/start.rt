@@ -47,6 +47,12 @@ impl SetObject {
         self.set.limit() as u64
     }
 
+    /// Returns about how many bytes of memory the set has used for its boundaries and its filter,
+    /// as [`ConflictSet::bytes_held`] counts them. No clause counts bytes.
+    pub fn bytes_held(&self) -> u64 {
+        self.set.bytes_held() as u64
+    }
+
     /// Returns the version of the batch resolved last, or that at which the set started.
     pub fn version(&self) -> i64
         ensures version { result ≡ self.now.resolved }

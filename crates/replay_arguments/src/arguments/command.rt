@@ -3,8 +3,9 @@
 ghost use Rattle.std.specs.Prelude.{◌≡◌, IfOk, false};
 ghost use Rattle.clap.specs.Words.{app_of, rule_of};
 ghost use Rattle.replay_arguments.specs.Words.{capacity_rule, check_rule, file_rule, frames_rule};
-ghost use Rattle.replay_arguments.specs.Words.{json_rule, limit_rule, number_rule, replay_app};
-ghost use Rattle.replay_arguments.specs.Words.{replies_rule, stream_rule, window_rule};
+ghost use Rattle.replay_arguments.specs.Words.{json_rule, limit_rule, number_rule, only_rule};
+ghost use Rattle.replay_arguments.specs.Words.{quiet_rule, replay_app, replies_rule, stream_rule};
+ghost use Rattle.replay_arguments.specs.Words.{versions_rule, window_rule};
 
 use clap::builder::ValueParser;
 use clap::{Arg, ArgAction, Command};
@@ -33,6 +34,9 @@ pub fn command<'a>(alloc: Global) -> Result<Command<'a>, AllocError>
         .arg(limit(alloc))?
         .arg(frames(alloc))?
         .arg(json(alloc))?
+        .arg(quiet(alloc))?
+        .arg(only(alloc))?
+        .arg(versions(alloc))?
         .arg(check(alloc))?
         .arg(stream(alloc))?
         .arg(replies(alloc))?
@@ -99,6 +103,36 @@ fn json<'a>(alloc: Global) -> Arg<'a>
         .long("json")
         .action(ArgAction::SetTrue)
         .help("Prints each answer as a line of JSON")
+}
+
+fn quiet<'a>(alloc: Global) -> Arg<'a>
+    ensures rule { rule_of result ≡ quiet_rule }
+    ensures local { result.global ≡ false }
+{
+    Arg::new(alloc, "quiet")
+        .long("quiet")
+        .action(ArgAction::SetTrue)
+        .help("Prints no lines of answers")
+}
+
+fn only<'a>(alloc: Global) -> Arg<'a>
+    ensures rule { rule_of result ≡ only_rule }
+    ensures local { result.global ≡ false }
+{
+    Arg::new(alloc, "only")
+        .long("only")
+        .value_name("VERDICT")
+        .help("Prints only replies that have this verdict: committed, conflict or tooold")
+}
+
+fn versions<'a>(alloc: Global) -> Arg<'a>
+    ensures rule { rule_of result ≡ versions_rule }
+    ensures local { result.global ≡ false }
+{
+    Arg::new(alloc, "versions")
+        .long("versions")
+        .value_name("A..B")
+        .help("Prints only versions from A to below B; each can be omitted")
 }
 
 fn check<'a>(alloc: Global) -> Arg<'a>

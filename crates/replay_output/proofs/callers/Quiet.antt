@@ -1,5 +1,5 @@
 -- Lemmas for callers: where nothing failed, standard error gets no line.
-use Rattle.std.specs.Prelude.{◌≡◌, ℕ, zero, suc, ◌+◌, Bool, false, List, [], ◌∷◌, ◌++◌}
+use Rattle.std.specs.Prelude.{◌≡◌, ℕ, suc, ◌+◌, Bool, false, List, [], ◌∷◌, ◌++◌}
 use Rattle.std.specs.List.{All, flat_map, enumerate_from}
 use Rattle.std.proofs.Common.{refl, ap, ◌∙◌, arith}
 use Rattle.replay_output.specs.declared.failures.ProxyFailure.{ProxyFailure}

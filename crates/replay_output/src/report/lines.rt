@@ -7,7 +7,7 @@ ghost use Rattle.replay_output.specs.Line.{AreLines, TakesToSort, answers_of, te
 ghost use Rattle.replay_output.specs.Line.{version_of_line};
 ghost use Rattle.replay_output.specs.Lines.{lines};
 ghost use Rattle.checking.specs.InOrder.{in_order_by};
-ghost use Rattle.replay_output.specs.declared.options.form.Form.{Form};
+ghost use Rattle.replay_output.specs.declared.options.style.Style.{Style};
 
 use crate::line::Line;
 use checking::sort_by_version;
@@ -33,20 +33,20 @@ pub fn print_answers<W: Sink>(
     out: &mut W,
     received: &mut [Vec<Line>],
 ) -> Result<(), PrintError>
-    ensures lines { (form : Form) → AreLines form (map vec_items received.old)
+    ensures lines { (style : Style) → AreLines style (map vec_items received.old)
         → OnOk result (Appends (W.given out.old) (W.given out.new)
-        (lines form (map answers_of (map vec_items received.old)))) }
+        (lines style (map answers_of (map vec_items received.old)))) }
     ensures memory { (proxy : ℕ) → result ≡ Err (PrintError.Memory proxy)
         → proxy < length received.old }
     ensures takes { (proxy : ℕ) → result ≡ Err (PrintError.Memory proxy)
         → TakesToSort (map vec_items received.old) proxy }
     ensures nothing { (proxy : ℕ) → result ≡ Err (PrintError.Memory proxy)
         → W.given out.new ≡ W.given out.old }
-    ensures beginning { (form : Form) → AreLines form (map vec_items received.old)
+    ensures beginning { (style : Style) → AreLines style (map vec_items received.old)
         → result ≡ Err PrintError.Write
         → IfSome (W.given out.new) (λ _. (n : ℕ)
         × Appends (W.given out.old) (W.given out.new)
-        (take n (lines form (map answers_of (map vec_items received.old))))) }
+        (take n (lines style (map answers_of (map vec_items received.old))))) }
     ensures write { (result ≡ Err PrintError.Write) ↔ (W.failures out.old < W.failures out.new) }
     ensures least_failures { W.failures out.old ≤ W.failures out.new }
 {

@@ -6,11 +6,10 @@ ghost use Rattle.std.specs.Prelude.{vec_items, vec_len, IfErr, IfOk, IfSome, IsE
 ghost use Rattle.std.specs.Prelude.{IsTrue, OnErr, OnOk};
 ghost use Rattle.std.specs.Io.KnownBytes.{Appends, Keeps};
 ghost use Rattle.checking.specs.Check.{count_at};
-ghost use Rattle.replay_program.specs.Checked.{TakesToCompare, check_lines, count_lines};
-ghost use Rattle.replay_program.specs.Checked.{differences_of, replies_kept};
+ghost use Rattle.replay_program.specs.Checked.{KeepReplies, TakesToCompare, check_lines};
+ghost use Rattle.replay_program.specs.Checked.{count_lines, differences_of, replies_kept};
 ghost use Rattle.replay_output.specs.Failures.{failure_lines, with_loss, NothingFailed};
-ghost use Rattle.replay_output.specs.Line.{AreLines, answers_of};
-ghost use Rattle.replay_output.specs.declared.options.form.Form.{Form};
+ghost use Rattle.replay_output.specs.Line.{answers_of};
 
 use checking::{Checked, check_all};
 use keyspace::Reply;
@@ -50,11 +49,11 @@ pub fn print_check<O: Sink, E: Sink>(
     requires some { 1 ≤ vec_len received }
     requires as_many { vec_len received ≡ vec_len recorded }
     requires proxies { length failures.old ≡ vec_len received }
-    ensures lines { AreLines Form.Kept (map vec_items received.items)
+    ensures lines { KeepReplies (map vec_items received.items)
         → OnOk result.printed (Appends (O.given out.old) (O.given out.new)
         (check_lines (map vec_items recorded.items)
         (map answers_of (map vec_items received.items)))) }
-    ensures count { AreLines Form.Kept (map vec_items received.items)
+    ensures count { KeepReplies (map vec_items received.items)
         → IfOk result.printed (λ count.
         count ≡ differences_of (map vec_items recorded.items)
         (map answers_of (map vec_items received.items))) }
@@ -64,7 +63,7 @@ pub fn print_check<O: Sink, E: Sink>(
         → TakesToCompare (map vec_items recorded.items) (map vec_items received.items) proxy }
     ensures nothing { (proxy : ℕ) → result.printed ≡ Err (PrintError.Memory proxy)
         → O.given out.new ≡ O.given out.old }
-    ensures beginning { AreLines Form.Kept (map vec_items received.items)
+    ensures beginning { KeepReplies (map vec_items received.items)
         → result.printed ≡ Err PrintError.Write → IfSome (O.given out.new) (λ _. (n : ℕ)
         × Appends (O.given out.old) (O.given out.new)
         (take n (check_lines (map vec_items recorded.items)
@@ -124,11 +123,11 @@ fn print_differences<W: Sink>(
 ) -> Result<usize, PrintError>
     requires some { 1 ≤ vec_len received }
     requires as_many { vec_len received ≡ vec_len recorded }
-    ensures lines { AreLines Form.Kept (map vec_items received.items)
+    ensures lines { KeepReplies (map vec_items received.items)
         → OnOk result (Appends (W.given out.old) (W.given out.new)
         (check_lines (map vec_items recorded.items)
         (map answers_of (map vec_items received.items)))) }
-    ensures count { AreLines Form.Kept (map vec_items received.items) → IfOk result (λ count.
+    ensures count { KeepReplies (map vec_items received.items) → IfOk result (λ count.
         count ≡ differences_of (map vec_items recorded.items)
         (map answers_of (map vec_items received.items))) }
     ensures memory { (proxy : ℕ) → result ≡ Err (PrintError.Memory proxy)
@@ -137,7 +136,7 @@ fn print_differences<W: Sink>(
         → TakesToCompare (map vec_items recorded.items) (map vec_items received.items) proxy }
     ensures nothing { (proxy : ℕ) → result ≡ Err (PrintError.Memory proxy)
         → W.given out.new ≡ W.given out.old }
-    ensures beginning { AreLines Form.Kept (map vec_items received.items)
+    ensures beginning { KeepReplies (map vec_items received.items)
         → result ≡ Err PrintError.Write
         → IfSome (W.given out.new) (λ _. (n : ℕ) × Appends (W.given out.old) (W.given out.new)
         (take n (check_lines (map vec_items recorded.items)
@@ -175,10 +174,10 @@ fn check_received(
 ) -> Result<Checked, usize>
     requires some { 1 ≤ vec_len received }
     requires as_many { vec_len received ≡ vec_len recorded }
-    ensures text { AreLines Form.Kept (map vec_items received.items) → IfOk result (λ checked.
+    ensures text { KeepReplies (map vec_items received.items) → IfOk result (λ checked.
         checked.text.items ≡ check_lines (map vec_items recorded.items)
         (map answers_of (map vec_items received.items))) }
-    ensures differences { AreLines Form.Kept (map vec_items received.items)
+    ensures differences { KeepReplies (map vec_items received.items)
         → IfOk result (λ checked.
         checked.differences ≡ differences_of (map vec_items recorded.items)
         (map answers_of (map vec_items received.items))) }

@@ -5,7 +5,7 @@ ghost use Rattle.std.specs.Io.KnownBytes.{Appends, Keeps};
 ghost use Rattle.replay_program.specs.Program.{HasDifferences, HasNoMemory, HasReadNoText, IsDone};
 ghost use Rattle.replay_program.specs.Program.{IsFailed, Told, not_text};
 ghost use Rattle.replay_program.specs.Replayed.{written};
-ghost use Rattle.replay_workers.specs.Sinks.{state_by};
+ghost use Rattle.replay_stream.specs.Sinks.{state_by};
 ghost use Rattle.replay_output.specs.Start.{start_line};
 ghost use Rattle.replay_arguments.specs.Words.{IsMistaken};
 

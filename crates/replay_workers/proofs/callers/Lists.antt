@@ -1,8 +1,10 @@
 -- Lemmas for callers: what is at an index of a list, and lists that agree item by item.
-use Rattle.std.proofs.Common.{◌≡◌, ℕ, zero, suc, List, [], ◌∷◌, ◌++◌, length, refl, subst, arith}
-use Rattle.std.specs.Prelude.{Some, slice_get}
+use Rattle.std.proofs.Common.{◌≡◌, ℕ, zero, suc, List, [], ◌∷◌, ◌++◌, length, refl, ap, subst, ◌∙◌, arith}
+use Rattle.std.specs.Prelude.{Bool, true, false, ◌&&◌, Some, map, slice_get}
+use Rattle.std.specs.Option.{option_map}
 use Rattle.std.specs.List.{All, AllZip}
-use Rattle.std.proofs.lemmas.Option.{none-some, slice_get_within, get_or_from_slice_get}
+use Rattle.std.proofs.lemmas.Bool.{false≢true}
+use Rattle.std.proofs.lemmas.Option.{none-some, slice_get_within, slice_get-map, get_or_from_slice_get}
 
 -- a list of the same length has an item at the same place
 pub found : {X Y : Type 0} (xs : List X) (ys : List Y) (place : ℕ) (x : X) → length ys ≡ length xs
@@ -24,3 +26,21 @@ AllZip-also R [] [] x y all it = (it, tt)
 AllZip-also R [] (first ∷ ys) x y all it = absurd all
 AllZip-also R (first ∷ xs) [] x y all it = absurd all
 AllZip-also R (first ∷ xs) (other ∷ ys) x y all it = (all.0, AllZip-also R xs ys x y all.1 it)
+
+pub both : (a b : Bool) → (a && b) ≡ true → (a ≡ true) × (b ≡ true)
+both true b is = (refl, is)
+both false b is = absurd (false≢true is)
+
+pub mapped_at : {X Y : Type 0} (f : X → Y) (xs : List X) (place : ℕ) (x : X) → slice_get xs place ≡ Some x
+    → slice_get (map f xs) place ≡ Some (f x)
+mapped_at f xs place x at = slice_get-map f xs place ∙ ap (option_map f) at
+
+pub at_also : {X : Type 0} (xs : List X) (place : ℕ) (x y : X) → slice_get xs place ≡ Some x
+    → slice_get (xs ++ y ∷ []) place ≡ Some x
+at_also [] place x y at = absurd (none-some x at)
+at_also (first ∷ xs) zero x y at = at
+at_also (first ∷ xs) (suc place) x y at = at_also xs place x y at
+
+pub at_last : {X : Type 0} (xs : List X) (y : X) → slice_get (xs ++ y ∷ []) (length xs) ≡ Some y
+at_last [] y = refl
+at_last (x ∷ xs) y = at_last xs y

@@ -2,8 +2,6 @@ use Rattle.std.proofs.Common.{w64, to_z, of_z, ◌≡◌, [], length, ap, sym, �
 use Rattle.std.proofs.lemmas.Int.{to_z-of_z}
 use Rattle.keyspace.specs.Judge.{judge_txns}
 use Rattle.conflict.specs.InBatch.{in_batches}
-use Rattle.keyspace.specs.BatchRanges.{ranges_in}
-use Rattle.conflict.specs.Written.{TellRuns}
 use Rattle.conflict.proofs.JudgedBatch.{length-in_batches, changed_whole}
 use Rattle.conflict.proofs.judging.judge_batch.Goals as goal
 
@@ -21,11 +19,16 @@ returns-clause-judged c = λ ws covers.
     ∙ sym (c.history_first.ensures.scan (to_z w64 (of_z w64 c.args.oldest)) ws [] txns)
     ∙ ap (λ oldest. judge_txns oldest ws [] txns) (to_z-of_z w64 c.args.oldest c.ranges.oldest)
 
-pub judge_in_batch-requires-clause-runs : goal.judge_in_batch-requires-clause-runs
-judge_in_batch-requires-clause-runs c =
+pub judge_in_batch-requires-clause-ranked : goal.judge_in_batch-requires-clause-ranked
+judge_in_batch-requires-clause-ranked c =
     let ranked = c.ranks-ranks.ensures.ranked in
-    let tell : TellRuns ranked.keys c.ranks-ranks.result.now.runs (ranges_in c.args.batch.now.txns) = record {
-      have_begins = ranked.are_begins.all;
-      are_runs = ranked.are_runs;
-    } in
-    (ranked.keys, c.in_ok-reset.ensures.count ∙ c.begins.ensures.count ∙ ranked.count, rw c.runs.ensures.runs tell)
+    record {
+      ranked_as = ranked.ranked_as;
+      keys = ranked.keys;
+      rising = ranked.rising;
+      count = c.in_ok-reset.ensures.count ∙ c.begins.ensures.count ∙ ranked.count;
+      have_begins = ranked.have_begins;
+      are_runs = c.runs.ensures.runs ∙ ranked.are_runs;
+      each = ranked.each;
+      itself = ranked.itself;
+    }

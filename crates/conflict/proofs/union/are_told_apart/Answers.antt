@@ -24,6 +24,7 @@ begin_of_run keys range own is some = elim (cases_Bool (is_filled range)) [
 
 pub returns-then-first-gt0 : goal.returns-then-first-gt0
 returns-then-first-gt0 c = record {
+  filled = λ told. (c.if-first-gt0.true, omega (arith, ltb-true c.args.first.1 c.args.second.0 told));
   apart = λ told keys a b first second.
       let less = ltb-true c.args.first.1 c.args.second.0 told in
       before_from_rank keys a.end b.begin (omega (

@@ -4,7 +4,8 @@ use Rattle.std.proofs.lemmas.Int.{to_z-of_z}
 use Rattle.std.specs.Prelude.{ℕ, Bool, true, false, slice_index_or}
 use Rattle.keys.specs.Ranks.{AreChosenInOrder}
 use Rattle.keys.specs.declared.range.Range.{Range}
-use Rattle.keyspace.specs.BatchRanges.{is_write_in}
+use Rattle.keys.specs.Singles.{AreRankedFor}
+use Rattle.keyspace.specs.BatchRanges.{is_write_in, writes_in}
 use Rattle.keys.proofs.callers.Booleans.{not_both_ways}
 use Rattle.keyspace.specs.Writes.{Write, at_version, committed}
 use Rattle.stepmap.specs.StepMap.{Steps, lengths}
@@ -24,6 +25,14 @@ use Rattle.conflict.proofs.Swept.{on_err, since_raised}
 use Rattle.conflict.proofs.UnionWritten.{IsUnion, apart, all_written, over_limit, full_of, memory_of, memory_not_full, of_err}
 use Rattle.conflict.proofs.writing.write_batch.Goals.{After-spans-spans, After-raise, In_err-prepare, After-write_prepared}
 use Rattle.conflict.proofs.writing.write_batch.Goals as goal
+
+pub gather-requires-clause-ranked : goal.gather-requires-clause-ranked
+gather-requires-clause-ranked c =
+    let written = writes_in c.args.batch.now.txns in (
+      written,
+      subst (λ (ranges : List Range). AreRankedFor written ranges c.ranks.result.now)
+          (sym c.ranges-ranges.ensures.ranges) c.ranks.ensures.ranked,
+    )
 
 pub gather-requires-clause-in_order : goal.gather-requires-clause-in_order
 gather-requires-clause-in_order c =

@@ -51,16 +51,15 @@ loop-txn-preserved c =
     let so_far = c.loop-txn.invariant ws before in
     elim c.if-eq.branch [
       | then-eq w ↦
-          let at_t : slice_get p.batch.txns n ≡ Some w.txn-transaction.result =
-          ap (λ (b : Batch). slice_get b.txns n) (sym c.batch-batch.ensures.batch) ∙ w.txn-transaction.ensures.txn in
+          let here : slice_get c.batch-batch.result.now.txns n ≡ Some found.0 =
+          ap (λ (b : Batch). slice_get b.txns n) c.batch-batch.ensures.batch ∙ found.1 in
           let fits : SFits w64 c.batch-batch.result.now.version = search rules in
           let same = to_z-of_z w64 c.batch-batch.result.now.version fits in
           let version_is = ap (λ (b : Batch). b.version) c.batch-batch.ensures.batch in
-          let writes_are = ap (λ (u : Txn). u.writes) w.transaction.view_is in
           subst (IsFound _) (sym w.found-is)
-          (found_txn test p.proxy p.batch.version p.batch.txns p.reply.entries n w.txn-transaction.result e ws _ _ _ _
-          (w.search_ranges-found.ensures.found _ so_far) w.proxy.ensures.proxy (cc)
-          (writes_are ∙ counted_if e.verdict w.txn-transaction.result (sym equal ∙ w.if-eq.true)) at_t at_e)
+          (found_txn test p.proxy p.batch.version p.batch.txns p.reply.entries n found.0 e ws _ _ _ _
+          (w.search_txn-found.ensures.found found.0 here _ so_far) w.proxy.ensures.proxy (cc)
+          (counted_if e.verdict found.0 (sym equal ∙ w.if-eq.true)) found.1 at_e)
       | else-eq w ↦
           subst (IsFound _) (sym w.found-is)
           (found_same test p.proxy p.batch.version p.batch.txns p.reply.entries n found.0 e ws _ so_far

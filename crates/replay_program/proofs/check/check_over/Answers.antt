@@ -4,11 +4,9 @@ use Rattle.std.proofs.lemmas.List.{length-map}
 use Rattle.keyspace.specs.declared.reply.Reply.{Reply}
 use Rattle.replay_output.specs.declared.failures.Ending.{Ending}
 use Rattle.replay_output.specs.declared.failures.ProxyFailure.{ProxyFailure}
-use Rattle.replay_output.specs.declared.options.form.Form.{Form}
 use Rattle.replay_output.specs.declared.line.Line.{Line}
-use Rattle.replay_program.specs.Checked.{TakesToCompare, check_lines, differences_of}
+use Rattle.replay_program.specs.Checked.{KeepReplies, TakesToCompare, check_lines, differences_of}
 use Rattle.replay_output.specs.Failures.{failure_lines, NothingFailed}
-use Rattle.replay_output.specs.Line.{AreLines}
 use Rattle.replay_workers.specs.Run.{IsRun, is_complete}
 use Rattle.replay_program.specs.Replayed.{written, Took}
 use Rattle.replay_program.proofs.Replaying.{ending_is, held_ok, are_lines, is_replayed, ran_and_failed, held_at, held_and, ok_at}
@@ -54,8 +52,8 @@ returns g c =
     (g.O.Sink.failures c.args.out.now) (g.O.Sink.failures c.print_check.new.out) in
     let error = written (g.E.Sink.given c.args.error.now) (g.E.Sink.given c.print_check.new.error)
     (g.E.Sink.failures c.args.error.now) (g.E.Sink.failures c.print_check.new.error) in
-    let are = subst (λ (form : Form). AreLines form received) c.requires.kept
-    (are_lines options files received failures complete account.stop run) in
+    let are : KeepReplies received =
+    (options.style, c.requires.kept, are_lines options files received failures complete account.stop run) in
     let lines = report.lines are in
     record {
       done = λ is.

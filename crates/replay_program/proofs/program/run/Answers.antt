@@ -5,7 +5,7 @@ use Rattle.std.proofs.lemmas.List.{length-map}
 use Rattle.replay_arguments.specs.Words.{HoldsStream, rows_of_words}
 use Rattle.replay_program.specs.Replayed.{written}
 use Rattle.replay_output.specs.declared.status.Status.{Status}
-use Rattle.replay_workers.specs.Sinks.{state_by}
+use Rattle.replay_stream.specs.Sinks.{state_by}
 use Rattle.replay_program.proofs.Programs.{Ends, ends_by, ends_checked, ends_replayed, ends_streamed, not_kept, not_streamed}
 use Rattle.replay_program.proofs.program.run.Goals as goal
 
@@ -123,7 +123,7 @@ returns-in-Ok-2 g c =
           length-map line.files.items (λ name. name.now),
         ))
       ];
-      plain = not_kept line.options.form (λ is. no (c.is_kept.ensures.kept.1 is));
+      plain = not_kept line.options.style.form (λ is. no (c.is_kept.ensures.kept.1 is));
     })
     streamed.done streamed.quiet streamed.failed streamed.ends streamed.same in
     record {
@@ -162,7 +162,7 @@ returns-in-Ok-3 g c =
       most = omega (arith, c.in-Ok.ensures.most, length-map line.files.items (λ name. name.now));
       input = c.in-Ok.ensures.input;
       at_the_end = subst (HoldsStream (rows_of_words words)) off c.in-Ok.ensures.streamed;
-      plain = not_kept line.options.form (λ is. no (c.is_kept.ensures.kept.1 is));
+      plain = not_kept line.options.style.form (λ is. no (c.is_kept.ensures.kept.1 is));
     })
     replayed.done replayed.quiet replayed.failed replayed.ends replayed.same in
     let ends = subst (λ (s : Status). Ends (g.F.Files.has_opened files) (g.F.Files.cannot_open files) (g.F.Files.contents files) out error

@@ -1,10 +1,10 @@
-use Rattle.std.proofs.Common.{◌∙◌, ◌≡◌, List, ℕ, Bor, ap, map, length, refl, subst, sym, Err, inl, inr, arith}
+use Rattle.std.proofs.Common.{◌∙◌, ◌≡◌, List, ℕ, Bor, ap, map, refl, subst, Err, inl, inr, arith}
 use Rattle.std.proofs.lemmas.List.{length-map}
 use Rattle.replay_output.specs.declared.start.StartError.TheVariants as start
 use Rattle.replay_arguments.specs.Opening.{IsFirstRefused, contents_each}
 use Rattle.replay_program.specs.Program.{AreWriters}
 use Rattle.replay_program.specs.Replayed.{written}
-use Rattle.replay_workers.specs.Sinks.{state_by}
+use Rattle.replay_stream.specs.Sinks.{state_by}
 use Rattle.replay_program.proofs.Programs.{fails_to_create, fails_to_stream}
 use Rattle.replay_program.proofs.Writers.{files_failed, files_streamed}
 use Rattle.replay_program.proofs.program.stream_files.Goals as goal

@@ -55,17 +55,17 @@ returns g c =
     let error = written (g.E.Sink.given c.args.error.now) (g.E.Sink.given c.print_report.new.error)
     (g.E.Sink.failures c.args.error.now) (g.E.Sink.failures c.print_report.new.error) in
     let are = are_lines options files received failures complete account.stop run in
-    let lines = report.lines options.form are in
+    let lines = report.lines options.style are in
     record {
       done = λ is.
           let parts = report.done.0 is in
-          is_replayed options files received failures complete account.stop run (λ answers. Took out (lines_of options.form answers))
+          is_replayed options files received failures complete account.stop run (λ answers. Took out (lines_of options.style answers))
           c.answers_tell_verdicts.ensures.tell
           (subst (λ (e : Ending). NothingFailed failures e) ending parts.2)
           (held_ok c.print_report.result.printed _ lines parts.0);
       quiet = report.quiet;
       failed = λ is.
-          inr (ran_and_failed options files received failures complete account.stop run (lines_of options.form) TakesToSort out error told
+          inr (ran_and_failed options files received failures complete account.stop run (lines_of options.style) TakesToSort out error told
           c.print_report.result.printed c.print_report.result.told lines
           (λ proxy memory. omega (
             arith,
@@ -73,7 +73,7 @@ returns g c =
             length-map c.deref_mut.result.now (vec_items {X = Line} {Z = Global}),
           ))
           report.takes
-          report.nothing (report.beginning options.form are) report.write.0
+          report.nothing (report.beginning options.style are) report.write.0
           (subst (λ (e : Ending). OnOk c.print_report.result.told (Took error (failure_lines told e))) ending report.failure_lines)
           report.told.0 report.loss report.no_loss
           (λ all.

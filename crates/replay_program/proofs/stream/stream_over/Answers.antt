@@ -1,10 +1,9 @@
-use Rattle.std.proofs.Common.{◌≡◌, ◌++◌, Bool, ◌&&◌, List, map, length, refl, ap, sym, subst, inl, inr, ◌∙◌, arith}
+use Rattle.std.proofs.Common.{◌≡◌, ◌++◌, Bool, ◌&&◌, map, length, refl, ap, sym, subst, inl, inr, ◌∙◌, arith}
 use Rattle.std.specs.Prelude.{is_some, OnOk}
-use Rattle.std.proofs.lemmas.List.{length-map}
 use Rattle.replay_output.specs.Failures.{failure_lines}
 use Rattle.replay_output.specs.Unwritten.{unwritten_lines}
-use Rattle.replay_workers.specs.Sinks.{SinkState, state_by}
-use Rattle.replay_workers.specs.Streaming.{IsStreamed, recorded_each}
+use Rattle.replay_stream.specs.Sinks.{SinkState, state_by}
+use Rattle.replay_stream.specs.Streaming.{IsStreamed, recorded_each}
 use Rattle.replay_program.specs.Replayed.{ending_of, written, Took}
 use Rattle.replay_program.specs.Streamed.{unwritten_each}
 use Rattle.replay_program.proofs.Replaying.{ending_is, held_ok}

@@ -14,8 +14,8 @@ use Rattle.replay_workers.specs.declared.outcome.Outcome.{Outcome}
 use Rattle.replay_workers.specs.Threads.{given_each, HasWorkedOn, IsOutcomeOf}
 use Rattle.replay_workers.specs.Run.{HasCapacity}
 use Rattle.replay_workers.specs.Stops.{IsStopOf}
-use Rattle.replay_workers.proofs.SameLanes.{clients_go_on}
-use Rattle.replay_workers.proofs.Stopping.{accounted_new}
+use Rattle.replay_workers.proofs.callers.SameLanes.{clients_go_on}
+use Rattle.replay_workers.proofs.callers.Stopping.{accounted_new}
 use Rattle.replay_workers.proofs.Working.{capacities, capacities_stay, clients_back, clients_ended, started_count}
 use Rattle.replay_workers.proofs.Runs.{is_run}
 use Rattle.replay_workers.proofs.running.run.Goals as goal
@@ -43,7 +43,7 @@ join_all-outcome-requires-clause-room g c =
     let clients = c.in_ok-resolver.clients.items in
     let workers = c.in_ok-workers.workers.items in
     let same : length readers ≡ length clients = omega (arith, c.in_ok-resolver.ensures.proxies, c.len-proxies.ensures) in
-    let count = started_count c.args.options.form share clients readers workers same c.in_ok-workers.ensures.given in
+    let count = started_count c.args.options.style share clients readers workers same c.in_ok-workers.ensures.given in
     omega (arith, count, c.in_ok-outcome.ensures.room, c.len-proxies.ensures)
 
 pub settle-account-requires : goal.settle-account-requires
@@ -60,7 +60,7 @@ settle-account-requires g c =
       clients = subst (λ (clients : List Client). AreClients lanes clients)
           (sym (c.as_mut_slice.ensures.value ∙ worked.2.clients))
           (clients_go_on c.in_ok-resolver.resolver.lanes lanes clients back c.in_ok-resolver.ensures.clients
-          c.turn_to_end.ensures.lanes (clients_back g.S.Source.remaining c.args.options.form share 0 clients readers worked.0 same handed));
+          c.turn_to_end.ensures.lanes (clients_back g.S.Source.remaining c.args.options.style share 0 clients readers worked.0 same handed));
     }
 
 pub returns : goal.returns
@@ -90,7 +90,7 @@ returns g c =
     let same_clients = subst (λ (l : List Client). SameClients l now) c.as_mut_slice.ensures.value
     c.settle-account.ensures.clients in
     let all_ended = clients_ended g.S.Source.remaining
-    (given_each c.args.options.form share 0 clients readers) worked.0 handed in
+    (given_each c.args.options.style share 0 clients readers) worked.0 handed in
     let whole : account.stop ≡ None → account.complete ≡ true = λ none.
     c.settle-account.ensures.complete.1 (record {
       no_stop = sym c.settle-account.ensures.stop ∙ none;
@@ -111,5 +111,5 @@ returns g c =
           (capacities_stay c.args.options.capacity outcome.clients.items now same_clients
           (subst (All (HasCapacity c.args.options.capacity)) (sym worked.2.clients)
           (capacities c.args.options.capacity clients back c.in_ok-resolver.ensures.new_clients
-          (clients_back g.S.Source.remaining c.args.options.form share 0 clients readers worked.0 same handed))));
+          (clients_back g.S.Source.remaining c.args.options.style share 0 clients readers worked.0 same handed))));
     }

@@ -1,6 +1,6 @@
 use Rattle.std.specs.Prelude.{negsuc}
-use Rattle.replay_workers.proofs.SameLanes.{lanes_go_on}
-use Rattle.replay_workers.proofs.Stopping.{accounted_turn, core_goes_on}
+use Rattle.replay_workers.proofs.callers.SameLanes.{lanes_go_on}
+use Rattle.replay_workers.proofs.callers.Stopping.{accounted_turn, core_goes_on}
 use Rattle.replay_workers.proofs.running.turn_to_end.Goals as goal
 
 pub loop-preserved-in-Ok-Took : goal.loop-preserved-in-Ok-Took

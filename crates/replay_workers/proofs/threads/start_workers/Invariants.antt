@@ -9,6 +9,6 @@ abbrev pub invariant-loop-task : goal.invariant-loop-task
 invariant-loop-task g l = record {
   given :
       map given_to l.workers.items ++ map given_by (into_iter_items l.task-iterator)
-      ≡ given_each l.fn.form (share_of (vec_len l.fn.readers)) 0 l.fn.clients.items l.fn.readers.items;
+      ≡ given_each l.fn.style (share_of (vec_len l.fn.readers)) 0 l.fn.clients.items l.fn.readers.items;
   room : vec_len l.workers + into_iter_len l.task-iterator ≤ vec_capacity l.workers;
 }

@@ -6,7 +6,7 @@ use Rattle.lane.specs.Lane.{PortView, IntakeView, PortGoesOn, IntakeGoesOn, HasE
 use Rattle.replay_output.specs.declared.line.Line.{Line}
 use Rattle.wire.specs.Frames.{frames_reader}
 use Rattle.replay_workers.specs.Worker.{LeavesLane, fault_of, unsent_of}
-use Rattle.replay_workers.proofs.Ending.{keeps_moved, sends_moved}
+use Rattle.replay_workers.proofs.callers.Ending.{keeps_moved, sends_moved}
 use Rattle.replay_workers.proofs.Keeping.{inbox_goes_on}
 use Rattle.replay_workers.proofs.worker.work.Goals as goal
 
@@ -40,9 +40,9 @@ returns-clause-worked g c =
           (sym (ap (λ (r : PortView Batch). r.sent) done.requests ∙ closed.nothing_sent)) (sym done.fault) (sym done.unsent)
           sent.sent;
       keeps =
-          keeps_moved last.form c.args.assignment.form last.proxy c.args.assignment.proxy given.replies.taken
+          keeps_moved last.style c.args.assignment.style last.proxy c.args.assignment.proxy given.replies.taken
           last.ends.replies.taken finished.client.replies.taken last.lines.items finished.lines.items last.lost finished.lost
-          (goes.form ∙ made.form) (goes.proxy ∙ made.proxy)
+          (goes.style ∙ made.style) (goes.proxy ∙ made.proxy)
           (sym (ap (λ (r : IntakeView Answer). r.taken) done.replies)) (sym (ap (λ (l : Vec Line Global). l.items) done.lines)) (sym done.lost)
           (goes.lines given.replies.taken made.lines);
       leaves =

@@ -1,13 +1,15 @@
-use Rattle.std.proofs.Common.{rules, ◌≡◌, ◌-◌, ◌<◌, ◌++◌, ◌∷◌, ◌∙◌, [], List, Some, get_or, slice_get, length, take, refl, sym, ap, subst, arith}
+use Rattle.std.proofs.Common.{rules, ◌≡◌, ◌⊎◌, ◌-◌, ◌<◌, ◌++◌, ◌∷◌, ◌∙◌, [], List, Some, cond, get_or, inl, inr, slice_get, length, map, take, refl, sym, ap, subst, arith}
 use Rattle.std.specs.Prelude.{ℕ}
 use Rattle.std.proofs.lemmas.Option.{get_or_from_slice_get, same_Some, slice_get_within}
 use Rattle.std.proofs.lemmas.List.{get_or-map, length-map}
-use Rattle.keys.specs.Ranks.{run_or_none, runs_of}
+use Rattle.keys.specs.Range.{IsEmpty}
+use Rattle.keys.specs.Ranks.{run, run_or_none}
+use Rattle.keys.proofs.callers.Ranks.{empty_if}
 use Rattle.keys.specs.Key.{IsBefore, IsAtMost}
 use Rattle.keys.specs.declared.range.Range.{Range}
 use Rattle.conflict.specs.declared.union.Span.{Span}
 use Rattle.conflict.specs.declared.union.Union.TheInside.{Inside}
-use Rattle.conflict.specs.Union.{AreSpanned, AreUnited, EndsAt}
+use Rattle.conflict.specs.Union.{AreSpanned, AreUnited, EndsAt, HaveRuns}
 use Rattle.conflict.proofs.Comparing.{at_most_from_le, before_unless_le, before_from_lt, at_most_unless_lt}
 use Rattle.conflict.proofs.LastSpan.{last_of, set_last, no_spans}
 use Rattle.conflict.proofs.Spanned.{spanned_at}
@@ -27,12 +29,66 @@ last_ends ranges spans n last united spanned count some is =
     let ends = subst (λ (x : Span). EndsAt ranges x.end at.0.end) (sym is) at.2.ends in
     (ends.0, ends.1)
 
--- the run of a range
-run_at : (keys : List (List ℕ)) (ranges : List Range) (runs : List (ℕ × ℕ)) (i : ℕ) (range : Range) (d : ℕ × ℕ)
-    → runs ≡ runs_of keys ranges → slice_get ranges i ≡ Some range → get_or runs i d ≡ run_or_none keys range
-run_at keys ranges runs i range d is at =
-    ap (λ rs. get_or rs i d) is ∙ get_or-map (run_or_none keys) ranges i range d (slice_get_within ranges i range at)
-    ∙ ap (run_or_none keys) (get_or_from_slice_get ranges i range range at)
+-- the run of a range, of what it is ranked as
+run_at : (ranges : List Range) (runs : List (ℕ × ℕ)) (have : HaveRuns ranges runs) (i : ℕ) (range : Range) (d : ℕ × ℕ)
+    → slice_get ranges i ≡ Some range → get_or runs i d ≡ run_or_none have.keys (have.ranked_as range)
+run_at ranges runs have i range d at =
+    let f = have.ranked_as in
+    let within = slice_get_within ranges i range at in
+    ap (λ rs. get_or rs i d) have.are_runs
+    ∙ get_or-map (run_or_none have.keys) (map f ranges) i (f range) d (omega (arith, within, length-map ranges f))
+    ∙ ap (run_or_none have.keys)
+    (get_or-map f ranges i range (f range) within ∙ ap f (get_or_from_slice_get ranges i range range at))
+
+-- there are as many runs as ranges
+as_many : (ranges : List Range) (runs : List (ℕ × ℕ)) (have : HaveRuns ranges runs) → length runs ≡ length ranges
+as_many ranges runs have =
+    ap length have.are_runs ∙ length-map (map have.ranked_as ranges) (run_or_none have.keys)
+    ∙ length-map ranges have.ranked_as
+
+-- the run of an empty range ends at 0, and so it begins there
+none_of : (keys : List (List ℕ)) (range : Range) (own : ℕ × ℕ) → own ≡ run_or_none keys range → IsEmpty range → own ≡ (0, 0)
+none_of keys range own is empty = is ∙ ap (λ b. cond b (run keys range) (0, 0)) (empty_if range empty)
+
+-- ranges are ranked as themselves where the runs show that they are apart
+module _ (ranges : List Range) (runs : List (ℕ × ℕ)) (have : HaveRuns ranges runs) where
+  ranked_at : (i : ℕ) (range : Range) → slice_get ranges i ≡ Some range
+      → (have.ranked_as range ≡ range) ⊎ IsEmpty (have.ranked_as range)
+  ranked_at i range at =
+      subst (λ (r : Range). (have.ranked_as r ≡ r) ⊎ IsEmpty (have.ranked_as r)) (get_or_from_slice_get ranges i range range at)
+      (have.each i range (slice_get_within ranges i range at))
+
+  itself_if_ends : (i : ℕ) (range : Range) (own : ℕ × ℕ) → slice_get ranges i ≡ Some range
+      → own ≡ run_or_none have.keys (have.ranked_as range) → 0 < own.1 → have.ranked_as range ≡ range
+  itself_if_ends i range own at is some = elim (ranked_at i range at) [
+    | inl same ↦ same
+    | inr empty ↦
+        let none : own.1 ≡ 0 = ap (λ (r : ℕ × ℕ). r.1) (none_of have.keys (have.ranked_as range) own is empty) in
+        absurd (omega (arith, none, some))
+  ]
+
+  itself_if_begins : (i : ℕ) (range : Range) (own : ℕ × ℕ) → slice_get ranges i ≡ Some range
+      → own ≡ run_or_none have.keys (have.ranked_as range) → 0 < own.0 → have.ranked_as range ≡ range
+  itself_if_begins i range own at is some = elim (ranked_at i range at) [
+    | inl same ↦ same
+    | inr empty ↦
+        let none : own.0 ≡ 0 = ap (λ (r : ℕ × ℕ). r.0) (none_of have.keys (have.ranked_as range) own is empty) in
+        absurd (omega (arith, none, some))
+  ]
+
+  -- so they are apart
+  behind_by_runs : (i j : ℕ) (first second : Range) (d e : ℕ × ℕ) → slice_get ranges i ≡ Some first
+      → slice_get ranges j ≡ Some second → (0 < (get_or runs i d).1) × (0 < (get_or runs j e).0)
+      → ((keys : List (List ℕ)) (a b : Range) → get_or runs i d ≡ run_or_none keys a
+      → get_or runs j e ≡ run_or_none keys b → IsBefore a.end b.begin)
+      → IsBefore first.end second.begin
+  behind_by_runs i j first second d e at_i at_j some apart =
+      let own = run_at ranges runs have i first d at_i in
+      let next = run_at ranges runs have j second e at_j in
+      subst (λ (a : Range). IsBefore a.end second.begin) (itself_if_ends i first (get_or runs i d) at_i own some.0)
+      (subst (λ (b : Range). IsBefore (have.ranked_as first).end b.begin)
+      (itself_if_begins j second (get_or runs j e) at_j next some.1)
+      (apart have.keys (have.ranked_as first) (have.ranked_as second) own next))
 
 pub range-requires : goal.range-requires
 range-requires g c =
@@ -51,12 +107,7 @@ run_there g c =
     let some : 0 < spans.len = c.in-Some.ensures.variant.0 refl in
     let own = subst (λ xs. AreSpanned ranges xs c.requires.spanned.0) (sym c.self.view_is) c.requires.spanned.1 in
     let ends = last_ends ranges spans.items spans.len c.in-Some.last.now c.requires.spanned.0 own spans.ok.0 some c.in-Some.ensures.value in
-    omega (
-      arith,
-      slice_get_within ranges c.in-Some.last.now.end ends.0 ends.1,
-      ap length c.requires.runs.1,
-      length-map ranges (run_or_none c.requires.runs.0),
-    )
+    omega (arith, slice_get_within ranges c.in-Some.last.now.end ends.0 ends.1, as_many ranges c.args.runs.now c.requires.runs)
 
 pub offset_bounds-runs-last : goal.offset_bounds-runs-last
 offset_bounds-runs-last g c = let within = run_there g (goal.at.offset_bounds-runs-last g c).In-Some in search rules
@@ -140,10 +191,11 @@ returns g c =
                 let ends = last_ends ranges spans.items n last c.requires.spanned.0
                 (subst (λ xs. AreSpanned ranges xs c.requires.spanned.0) (sym c.self.view_is) c.requires.spanned.1) spans.ok.0 some
                 w.in-Some.ensures.value in
+                let runs = c.args.runs.now in
+                let told = w.if-not-are_told_apart.false in
                 let behind : IsBefore ends.0.end range.begin =
-                w.are_told_apart.ensures.apart w.if-not-are_told_apart.false c.requires.runs.0 ends.0 range
-                (run_at c.requires.runs.0 ranges c.args.runs.now last.end ends.0 _ c.requires.runs.1 ends.1)
-                (run_at c.requires.runs.0 ranges c.args.runs.now c.args.index range _ c.requires.runs.1 at) in
+                behind_by_runs ranges runs c.requires.runs last.end c.args.index ends.0 range _ _ ends.1 at
+                (w.are_told_apart.ensures.filled told) (w.are_told_apart.ensures.apart told) in
                 let after = c.in_ok-push.ensures.items ∙ ap (λ (u : Inside). u.spans.items ++ own ∷ []) w.self-inside-is
                 ∙ ap (λ xs. xs ++ own ∷ []) (set_last spans.items n last spans.ok.0 some) in
                 subst (λ xs. AreUnited ranges xs (added ++ range ∷ [])) (sym after)

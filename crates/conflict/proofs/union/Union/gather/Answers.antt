@@ -1,7 +1,8 @@
-use Rattle.std.proofs.Common.{◌≡◌, ◌<◌, length, get_or, take, ◌+◌, [], true, false, sym, subst, arith}
+use Rattle.std.proofs.Common.{◌≡◌, ◌⊎◌, ◌<◌, ◌∙◌, List, length, get_or, take, ◌+◌, [], true, false, inl, inr, sym, subst, arith}
 use Rattle.std.proofs.lemmas.List.{get_or_default, take_all}
 use Rattle.std.proofs.lemmas.Option.{slice_get_within}
 use Rattle.keys.specs.Range.{IsEmpty, is_filled}
+use Rattle.keys.specs.Singles.{IsRankedAs}
 use Rattle.keys.specs.declared.range.Range.{Range}
 use Rattle.keys.proofs.callers.Ranks.{chosen_filled, empty_if}
 use Rattle.conflict.specs.Union.{AreUnited}
@@ -29,6 +30,25 @@ bounds-written-index g c =
     let are = c.requires.in_order in
     let filled = chosen_filled are.chosen ranges order are.in_order i 0 inside in
     omega (arith, slice_get_within ranges index filled.0 filled.1, c.requires.count)
+
+-- a range is ranked as itself, or as an empty one
+itself_or_empty : (checked : List Range) (range other : Range) → IsRankedAs checked range other
+    → (other ≡ range) ⊎ IsEmpty other
+itself_or_empty checked range other (inl same) = inl same
+itself_or_empty checked range other (inr (empty, none)) = inr empty
+
+pub add-requires-clause-runs : goal.add-requires-clause-runs
+add-requires-clause-runs g c =
+    let ranked = c.requires.ranked in
+    let f = ranked.1.ranked_as in
+    record {
+      keys = ranked.1.keys;
+      ranked_as = f;
+      are_runs = c.runs-runs.ensures.runs ∙ ranked.1.are_runs;
+      each = λ k d lt.
+          let ranges = g.L.RangeList.ranges c.args.ranges.now in
+          itself_or_empty ranked.0 (get_or ranges k d) (f (get_or ranges k d)) (ranked.1.each k d lt);
+    }
 
 pub add-requires-clause-spanned : goal.add-requires-clause-spanned
 add-requires-clause-spanned g c = (c.loop-index.invariant.united, c.loop-index.invariant.spanned)

@@ -1,6 +1,7 @@
 use Rattle.std.proofs.Common.{◌≡◌, ◌≤◌, length, None, Some, Option, IsSomeAnd, slice_get, w64, SFits, arith, rules, sym, ap, subst, ◌∙◌}
 use Rattle.std.proofs.lemmas.Int.{to_z-of_z}
 use Rattle.std.proofs.lemmas.Option.{slice_get_past}
+use Rattle.keys.specs.declared.range.Range.{Range}
 use Rattle.keyspace.specs.declared.batch.Batch.{Batch}
 use Rattle.keyspace.specs.declared.txn.Txn.{Txn}
 use Rattle.explanations.specs.Explains.{newest_of}
@@ -56,10 +57,11 @@ returns c =
     let snapshot_is : c.snapshot.result ≡ t.snapshot =
     subst (λ (o : Option Txn). IsSomeAnd o (λ u. c.snapshot.result ≡ u.snapshot)) c.txn-transaction.ensures.txn
     c.snapshot.ensures.snapshot in
-    let read : slice_get t.reads c.args.read ≡ Some c.get.result =
-    ap (λ (u : Txn). slice_get u.reads c.args.read) (sym c.transaction.view_is) ∙ c.get.ensures.range in
+    let read : slice_get t.reads c.args.read ≡ Some c.of.result =
+    ap (λ (u : Txn). slice_get u.reads c.args.read) (sym c.transaction.view_is) ∙ c.get.ensures.range
+    ∙ ap (λ (r : Range). Some r) (sym c.of.ensures.range) in
     record {
       found =
-          found_asked kept.items c.args.self.now.kept b c.args.txn c.args.read t c.get.result _ _ _ c.search.ensures.found
+          found_asked kept.items c.args.self.now.kept b c.args.txn c.args.read t c.of.result _ _ _ c.search.ensures.found
           (cc) (cc) kept_is newest c.txn-transaction.ensures.txn read;
     }

@@ -17,7 +17,7 @@ returns-in-Some c =
     let within : c.args.index < length hashes = omega arith in
     record {
       hash = λ range there.
-          hash_found (ranges_in txns) hashes c.self.invariant.2 c.args.index range
+          hash_found (ranges_in txns) hashes c.self.invariant.3 c.args.index range
           (ap (λ (ts : List Txn). slice_get (ranges_in ts) c.args.index) c.self.view_is ∙ there) c.in-Some.hash.now within
           (lookup.1 ∙ ap (λ (hs : List (Option ℕ)). get_or hs c.args.index c.in-Some.hash.now) c.deref.ensures.value);
     }
@@ -32,6 +32,6 @@ returns-in-None c =
     let past : length hashes ≤ c.args.index = omega arith in
     record {
       hash = λ range there.
-          hash_missing (ranges_in txns) hashes c.self.invariant.2 c.args.index range
+          hash_missing (ranges_in txns) hashes c.self.invariant.3 c.args.index range
           (ap (λ (ts : List Txn). slice_get (ranges_in ts) c.args.index) c.self.view_is ∙ there) past;
     }

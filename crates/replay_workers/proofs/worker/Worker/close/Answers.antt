@@ -2,7 +2,7 @@ use Rattle.std.proofs.Common.{sym, subst, ◌∙◌, refl}
 use Rattle.keyspace.specs.declared.batch.Batch.{Batch}
 use Rattle.lane.specs.Lane.{PortView}
 use Rattle.replay_workers.specs.Worker.{LeavesLane, unsent_of}
-use Rattle.replay_workers.proofs.Ending.{ended_first, left_closed, left_open}
+use Rattle.replay_workers.proofs.callers.Ending.{ended_first, left_closed, left_open}
 use Rattle.replay_workers.proofs.Keeping.{inbox_goes_on, with_ends}
 use Rattle.replay_workers.proofs.worker.Worker.close.Goals as goal
 

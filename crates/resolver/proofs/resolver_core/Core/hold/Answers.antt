@@ -1,8 +1,13 @@
-use Rattle.std.proofs.Common.{◌<◌, length, sym, subst}
+use Rattle.std.proofs.Common.{rules, ◌≡◌, ◌<◌, ◌++◌, ◌∷◌, List, [], length, sym, ap, subst, ◌∙◌, arith}
+use Rattle.std.specs.Prelude.{OnOk}
 use Rattle.std.specs.List.{All}
+use Rattle.std.proofs.lemmas.Int.{ints}
 use Rattle.std.proofs.lemmas.List.Elements.{All-push}
+use Rattle.std.proofs.lemmas.Result.{on_ok_weaker}
 use Rattle.keyspace.specs.Leaving.{Held}
-use Rattle.resolver.specs.Core.{CoreState}
+use Rattle.keyspace.specs.Run.{State, hold}
+use Rattle.resolver.specs.Core.{CoreState, Given, IsIn, core_of}
+use Rattle.resolver.proofs.Admitting.{admit-ahead}
 use Rattle.resolver.proofs.resolver_core.Core.hold.Goals.{in-Ok, in-Err}
 use Rattle.resolver.proofs.resolver_core.Core.hold.Goals as goal
 
@@ -23,3 +28,28 @@ invariant_of-self c =
       ];
       past = c.self.invariant.past;
     }
+
+-- the core holds the batch that the reference resolver holds
+IsIn-held : (state : State) (given : Given) (core : CoreState) (h : Held) (held : List Held)
+    → held ≡ core.held ++ h ∷ [] → IsIn state given core
+    → IsIn (hold h.0 h.1 state) given (record core { held = held })
+IsIn-held state given core h held is are = record {
+  version = are.version;
+  held = is ∙ ap (λ hs. hs ++ h ∷ []) are.held;
+  kept = are.kept;
+  remembers = are.remembers;
+  answers = are.answers;
+}
+
+pub returns-clause-ok : goal.returns-clause-ok
+returns-clause-ok c =
+    let h : Held = (c.args.proxy, c.args.batch) in
+    let before : CoreState = core_of c.self.inside.set c.self.inside.version c.self.inside.gate
+    c.self.inside.replies c.self.inside.owed c.self.inside.stop in
+    let held : OnOk c.match-hold.result (c.hold.new.self ≡ c.self.inside.gate ++ h ∷ []) = search rules in
+    on_ok_weaker c.match-hold.result (λ same state given are.
+    let was = subst (IsIn state given) (sym c.self.view_is) are in
+    let ahead = admit-ahead c.args.self.now.set.window c.args.proxy c.args.batch state
+    (omega (arith, ints, are.version, c.requires.ahead)) in
+    subst (λ s. IsIn s given (record before { held = c.hold.new.self })) (sym ahead)
+    (IsIn-held state given before h c.hold.new.self same was)) held

@@ -1,0 +1,9 @@
+pub mod Writing
+pub mod Recording
+pub mod Outlets
+pub mod Passing
+pub mod Rounds
+pub mod Streams
+pub mod Places
+pub mod Joining
+pub mod StreamRuns

@@ -1,0 +1,7 @@
+-- In reading order.
+pub mod Sender
+pub mod Sinks
+pub mod Recorder
+pub mod Outlet
+pub mod Proxies
+pub mod Streaming

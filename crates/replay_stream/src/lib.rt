@@ -1,0 +1,24 @@
+//! A run whose answers are printed as they come.
+//!
+//! Each proxy has a sender, which reads its file and sends its batches in a thread of its own. If
+//! its answers are to be recorded, it has a recorder, which writes their records in another one.
+//! The thread that turns the resolver takes all answers, prints them and passes them on.
+//!
+//! In reading order: `progress`, `sender`, `recorder`, `outlet`, `threads`, `streamed`, `proxies`,
+//! `running`. What a sender has done is `HasSent`, in `specs/Sender.antt`, and what a recorder has
+//! done is `HasRecorded`, in `specs/Recorder.antt`. What became of all files is `IsStreamed`, in
+//! `specs/Streaming.antt`.
+#![tactic(auto)]
+
+mod outlet;
+mod progress;
+mod proxies;
+mod recorder;
+mod running;
+mod sender;
+mod streamed;
+mod threads;
+
+pub use recorder::Recorder;
+pub use running::run_stream;
+pub use streamed::Streamed;

@@ -1,0 +1,170 @@
+//! A stream: senders read and send, and recorders write records, while this thread turns the
+//! resolver and prints the answers.
+
+ghost use Rattle.std.specs.Prelude.{◌≡◌, ◌≤◌, ◌&&◌, ℕ, true, Some, is_some, map, slice_get};
+ghost use Rattle.std.specs.Prelude.{vec_len, IfOk, IsTrue, OnErr};
+ghost use Rattle.resolver.specs.declared.resolver_core.TheConstants.{MAX_PROXIES};
+ghost use Rattle.replay_stream.specs.Recorder.{is_unwritten, unwritten_cause};
+ghost use Rattle.replay_stream.specs.Streaming.{HaveRecords, IsStreamed, recorded_each};
+ghost use Rattle.resolver.specs.Core.{GoesOn};
+ghost use Rattle.resolver.specs.Lanes.{Lanes, Each, LanesGoOn};
+ghost use Rattle.resolver.specs.Resolver.{IsResolving, IsThrough};
+ghost use Rattle.replay_stream.specs.Outlet.{AreNumbered, HavePassedAll, StreamsOn};
+ghost use Rattle.replay_stream.specs.Proxies.{outlets_of, threads_of};
+ghost use Rattle.replay_stream.specs.Sinks.{state_by};
+ghost use Rattle.replay_workers.specs.Stops.{IsAccountedFor};
+
+use crate::outlet::{Passed, Printer};
+use crate::proxies::{Proxy, connect_all, join_all, start_all};
+use crate::streamed::Streamed;
+use replay_output::{Options, StartError};
+use replay_workers::{Gatekeeper, ShareKeeper, Watch, let_through};
+use resolver::{Account, Resolver, Turn, open};
+use std::alloc::Global;
+use std::sync::{Arc, Wait};
+use std::thread;
+use std::thread::Threads;
+use wire::{Sink, Source};
+
+/// Runs a sender for each reader, and a recorder for each writer of records, each in its own
+/// thread. Turns the resolver until it is done or has stopped, and prints each answer as it comes.
+/// `records` has the writer of each proxy, if there is one, at its number.
+///
+/// Returns what became of the proxies, and the account of the resolver. Once a thread was started,
+/// this one takes no memory but in turns, in starting threads and for the line of an answer. After
+/// an error no thread is joined.
+pub fn run_stream<
+    S: Source + Send + Drop + 'static,
+    W: Sink + Send + Drop + 'static,
+    G: Gatekeeper + ShareKeeper + Send + Sync + Drop + 'static,
+    R: Threads + Wait + Copy + Send + 'static,
+    O: Sink,
+>(
+    rt: &R,
+    alloc: Global,
+    readers: Vec<S>,
+    records: Vec<Option<W>>,
+    options: Options,
+    gatekeeper: &Arc<G, Global>,
+    out: &mut O,
+) -> Result<(Streamed<W>, Account), StartError>
+    requires least_readers { 1 ≤ vec_len readers }
+    requires most_readers { vec_len readers ≤ MAX_PROXIES }
+    requires as_many { vec_len records ≡ vec_len readers }
+    ensures run { IfOk result (λ ended. IsStreamed options (map S.remaining readers.items)
+        (map is_some records.items) (state_by O.given O.failures out.old)
+        (state_by O.given O.failures out.new) ended.0.failed ended.0.failures.items
+        (recorded_each (state_by W.given W.failures) records.items ended.0.recorders.items)
+        (ended.1.complete && ended.0.all_sent) ended.1.stop) }
+    ensures unwritten { IfOk result (λ ended. ended.0.unwritten.items
+        ≡ map (λ recorder. is_unwritten (unwritten_cause recorder)) ended.0.recorders.items) }
+    ensures recorders { IfOk result (λ ended.
+        HaveRecords (map is_some records.items) ended.0.recorders.items) }
+    ensures nothing { OnErr result (state_by O.given O.failures out.new
+        ≡ state_by O.given O.failures out.old) }
+{
+    let count = readers.len();
+    let mut streamed = Streamed::with_room(alloc, count)?;
+    let mut watch = Watch::new(alloc, count)?;
+    let Options {
+        capacity,
+        window,
+        limit,
+        style,
+    } = options;
+    let (mut resolver, clients) = open(alloc, count, capacity, window, limit)?;
+    let tasks = connect_all(alloc, options, readers, records, clients, gatekeeper)?;
+    let mut proxies = start_all(rt, alloc, tasks)?;
+    let mut printer = Printer::new(alloc, style);
+    turn_to_end(
+        rt,
+        &mut resolver,
+        &**gatekeeper,
+        &mut watch,
+        &mut proxies,
+        &mut printer,
+        out,
+    );
+    streamed.failed = printer.failed;
+    let mut streamed = join_all(rt, proxies, streamed);
+    let account = resolver.settle(streamed.clients.as_mut_slice());
+    Ok((streamed, account))
+}
+
+// Turns the resolver until it is done; after a stop, until a turn leaves nothing owed. Before each
+// turn it passes on what has come. If all proxies wait for each other, a batch is admitted. Returns
+// once all answers were passed on.
+fn turn_to_end<S: Source, W: Sink, G: Gatekeeper + ShareKeeper, R: Wait, O: Sink>(
+    rt: &R,
+    resolver: &mut Resolver,
+    gatekeeper: &G,
+    watch: &mut Watch,
+    proxies: &mut [Proxy<S, W>],
+    printer: &mut Printer,
+    out: &mut O,
+)
+    requires numbered { AreNumbered (outlets_of proxies.old) }
+    ensures through { IsThrough resolver.new }
+    ensures closed { (proxy : ℕ) (l : Lanes) → slice_get resolver.new.lanes proxy ≡ Some l
+        → l.replies.closed ≡ true }
+    ensures accounted { IsAccountedFor resolver.old → IsAccountedFor resolver.new }
+    ensures resolving { IsResolving resolver.old → IsResolving resolver.new }
+    ensures goes_on { GoesOn resolver.old.core resolver.new.core }
+    ensures lanes { Each (λ _ l m. LanesGoOn l m) resolver.old.lanes resolver.new.lanes }
+    ensures streams { StreamsOn printer.old.style printer.old.failed printer.new.failed
+        (state_by O.given O.failures out.old)
+        (state_by O.given O.failures out.new) (outlets_of proxies.old) (outlets_of proxies.new) }
+    ensures threads { map threads_of proxies.new ≡ map threads_of proxies.old }
+    ensures passed { HavePassedAll (outlets_of proxies.new) }
+{
+    for _ in rt.forever() {
+        let ended = pass_each(proxies, printer, out, gatekeeper);
+        match resolver.turn() {
+            Ok(Turn::Took(_)) => watch.forget(),
+            Ok(Turn::Idle) => {
+                let_through(resolver, gatekeeper, watch);
+                thread::yield_now();
+            }
+            Ok(Turn::Done) => {
+                if ended {
+                    return;
+                }
+                thread::yield_now();
+            }
+            Err(_) => {
+                if ended && resolver.owed() == 0 {
+                    return;
+                }
+                thread::yield_now();
+            }
+        }
+    }
+    unreachable!()
+}
+
+// Passes on at most one answer of each proxy. Returns whether all outlets have ended.
+#[tactic(auto, using(crate::proofs::Rounds::numbered_stay, crate::proofs::Rounds::passed_to, crate::proofs::Rounds::streams_at, crate::proofs::Rounds::threads_stay))]
+fn pass_each<S: Source, W: Sink, G: Gatekeeper, O: Sink>(
+    proxies: &mut [Proxy<S, W>],
+    printer: &mut Printer,
+    out: &mut O,
+    gatekeeper: &G,
+) -> bool
+    requires numbered { AreNumbered (outlets_of proxies.old) }
+    ensures style { printer.new.style ≡ printer.old.style }
+    ensures numbered { AreNumbered (outlets_of proxies.new) }
+    ensures threads { map threads_of proxies.new ≡ map threads_of proxies.old }
+    ensures streams { StreamsOn printer.old.style printer.old.failed printer.new.failed
+        (state_by O.given O.failures out.old)
+        (state_by O.given O.failures out.new) (outlets_of proxies.old) (outlets_of proxies.new) }
+    ensures passed { IsTrue result → HavePassedAll (outlets_of proxies.new) }
+{
+    let mut ended = true;
+    for proxy in 0..proxies.len() {
+        match proxies[proxy].outlet.pass(printer, out, gatekeeper) {
+            Passed::Ended => {}
+            Passed::Took | Passed::Waits => ended = false,
+        }
+    }
+    ended
+}

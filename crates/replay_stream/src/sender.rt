@@ -1,0 +1,196 @@
+//! A sender reads the file of one proxy and sends its batches, in its own thread.
+
+ghost use Rattle.std.specs.Prelude.{◌≡◌, ◌<◌, ◌⊎◌, [], ◌∷◌, ◌++◌, length, None};
+ghost use Rattle.std.specs.Prelude.{IsTrue, OnOk, OnErr, IfErr};
+ghost use Rattle.flow.specs.Share.{unanswered};
+ghost use Rattle.lane.specs.Lane.{PortGoesOn};
+ghost use Rattle.lane.specs.Refused.{item_of};
+ghost use Rattle.wire.specs.Frames.{frames_reader, refusal_of};
+ghost use Rattle.replay_workers.specs.Worker.{SendsFrames, batch_of, fault_of, unsent_of};
+ghost use Rattle.replay_stream.specs.Sender.{HasSent};
+
+use crate::progress::Progress;
+use flow::{Stand, is_below_share};
+use keyspace::Batch;
+use lane::{Port, Refused};
+use replay_workers::{Assignment, FileEnd, Gatekeeper, Leftover, ShareKeeper, pause};
+use std::alloc::Global;
+use std::sync::Wait;
+use wire::{Frames, Source, WireError, read_frames};
+
+/// What a sender returns.
+#[derive(Drop)]
+pub struct Sent {
+    /// The port that it was given.
+    pub requests: Port<Batch>,
+    /// The fault of the file, which ended it.
+    pub fault: Option<WireError>,
+    /// The batch that was read last, if it was told to send no more, or the lane takes no more.
+    pub unsent: Option<Batch>,
+}
+
+// A proxy's port of its request lane.
+#[derive(Drop)]
+struct Sender {
+    requests: Port<Batch>,
+    proxy: usize,
+    share: u64,
+    // The place of the next batch. It stops at `u64::MAX`, which no lane comes to.
+    place: u64,
+}
+
+/// Sends the batches of the frames of a file, in order, up to the file's end or its fault, and
+/// closes the lane. Once it is told to, it sends no more.
+///
+/// If as many of its batches are unanswered as its share, it stands: it sends the next one only if
+/// the gatekeeper lets it through, or once an answer was taken.
+pub fn send_all<S: Source + Drop, G: Gatekeeper + ShareKeeper, R: Wait>(
+    rt: &R,
+    alloc: Global,
+    assignment: Assignment,
+    requests: Port<Batch>,
+    reader: S,
+    gatekeeper: &G,
+    progress: &Progress,
+) -> Sent
+    ensures sent { HasSent (S.remaining reader) requests result }
+{
+    let Assignment { proxy, share, .. } = assignment;
+    let mut sender = Sender {
+        requests,
+        proxy,
+        share,
+        place: 0,
+    };
+    let end = sender.send_frames(rt, gatekeeper, progress, &mut read_frames(alloc, reader));
+    sender.requests.close();
+    gatekeeper.closed(proxy);
+    sender.finish(end)
+}
+
+impl Sender {
+    // Sends the batches of the frames, in order.
+    fn send_frames<S: Source, G: Gatekeeper + ShareKeeper, R: Wait>(
+        &mut self,
+        rt: &R,
+        gatekeeper: &G,
+        progress: &Progress,
+        frames: &mut Frames<S>,
+    ) -> FileEnd
+        requires fresh { refusal_of frames.old ≡ None }
+        ensures requests { PortGoesOn self.old.requests self.new.requests }
+        ensures sent { SendsFrames (S.remaining (frames_reader frames.old)) self.old.requests.sent
+            self.new.requests.sent (fault_of result) (unsent_of result) }
+    {
+        for _ in rt.forever() {
+            match frames.next() {
+                Ok(Some(batch)) => {
+                    if let Err(leftover) = self.send(rt, gatekeeper, progress, batch) {
+                        return FileEnd::Leaves(leftover);
+                    }
+                }
+                Ok(None) => return FileEnd::Reached,
+                Err(fault) => return FileEnd::Fault(fault),
+            }
+        }
+        unreachable!()
+    }
+
+    // Sends a batch as soon as the gatekeeper and the lane let it. Hands the batch back if it was
+    // told to send no more, or if the lane takes no more.
+    fn send<G: Gatekeeper + ShareKeeper, R: Wait>(
+        &mut self,
+        rt: &R,
+        gatekeeper: &G,
+        progress: &Progress,
+        batch: Batch,
+    ) -> Result<(), Leftover>
+        ensures requests { PortGoesOn self.old.requests self.new.requests }
+        ensures sent { OnOk result (self.new.requests.sent ≡ self.old.requests.sent ++ batch ∷ []) }
+        ensures unchanged { OnErr result (self.new.requests.sent ≡ self.old.requests.sent) }
+        ensures handed_back { IfErr result (λ leftover. batch_of leftover ≡ batch) }
+    {
+        let mut waiting = batch;
+        for _ in rt.forever() {
+            if progress.has_ended() {
+                return Err(Leftover::CutShort(waiting));
+            }
+            waiting = match self.try_send(gatekeeper, progress.answered(), waiting) {
+                Ok(()) => return Ok(()),
+                Err(Refused::Full(refused)) => refused,
+                Err(Refused::Closed(refused) | Refused::Worn(refused)) => {
+                    return Err(Leftover::Worn(refused));
+                }
+            };
+            pause(rt);
+        }
+        unreachable!()
+    }
+
+    // Tries once, after so many answers. A batch that the gatekeeper or the share holds back is
+    // refused as by a full lane.
+    fn try_send<G: Gatekeeper + ShareKeeper>(
+        &mut self,
+        gatekeeper: &G,
+        answered: u64,
+        batch: Batch,
+    ) -> Result<(), Refused<Batch>>
+        ensures requests { PortGoesOn self.old.requests self.new.requests }
+        ensures sent { OnOk result (self.new.requests.sent ≡ self.old.requests.sent ++ batch ∷ []) }
+        ensures unchanged { OnErr result (self.new.requests.sent ≡ self.old.requests.sent) }
+        ensures handed_back { IfErr result (λ refused. item_of refused ≡ batch) }
+        ensures share { OnOk result
+            ((unanswered (length self.old.requests.sent) answered < self.old.share)
+            ⊎ G.lets_through gatekeeper.now self.old.proxy
+            record { previous = batch.previous; answered = answered }) }
+    {
+        if !self.may_send(gatekeeper, answered, &batch) {
+            return Err(Refused::Full(batch));
+        }
+        self.requests.send(batch)?;
+        self.place = self.place.saturating_add(1);
+        Ok(())
+    }
+
+    // Returns whether the batch may be sent now, after so many answers: it may where the share
+    // isn't used up, and else where the gatekeeper lets it through.
+    fn may_send<G: Gatekeeper + ShareKeeper>(
+        &self,
+        gatekeeper: &G,
+        answered: u64,
+        batch: &Batch,
+    ) -> bool
+        ensures share { IsTrue result
+            → (unanswered (length self.now.requests.sent) answered < self.now.share)
+            ⊎ G.lets_through gatekeeper.now self.now.proxy
+            record { previous = batch.now.previous; answered = answered } }
+    {
+        let stand = Stand {
+            previous: batch.previous,
+            answered,
+        };
+        gatekeeper.may_send(self.proxy, self.place)
+            && (is_below_share(self.requests.sent(), answered, self.share)
+                || gatekeeper.stands(self.proxy, stand))
+    }
+
+    fn finish(self, end: FileEnd) -> Sent
+        ensures requests { result.requests ≡ self.requests }
+        ensures fault { result.fault ≡ fault_of end }
+        ensures unsent { result.unsent ≡ unsent_of end }
+    {
+        let (fault, unsent) = match end {
+            FileEnd::Reached => (None, None),
+            FileEnd::Fault(fault) => (Some(fault), None),
+            FileEnd::Leaves(Leftover::CutShort(batch) | Leftover::Worn(batch)) => {
+                (None, Some(batch))
+            }
+        };
+        let Sender { requests, .. } = self;
+        Sent {
+            requests,
+            fault,
+            unsent,
+        }
+    }
+}

@@ -1,6 +1,0 @@
-use Rattle.replay_workers.specs.Recorder.{RecorderGoesOn}
-use Rattle.replay_workers.specs.Sinks.{state_by}
-use Rattle.replay_workers.proofs.stream.recorder.record_all.Given as goal
-
-abbrev pub invariant-loop : goal.invariant-loop
-invariant-loop g l = RecorderGoesOn (state_by g.W.Sink.given g.W.Sink.failures) l.initial.recorder l.recorder
