@@ -16,4 +16,5 @@ mod serving;
 mod shards;
 mod sizes;
 mod step_map;
+mod summaries;
 mod trimming;

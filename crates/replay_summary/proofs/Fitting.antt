@@ -1,0 +1,45 @@
+-- If the numbers of a summary fit in 64 bits, so do those of the summary of its first answers.
+use Rattle.std.specs.Prelude.{◌≡◌, ℕ, ◌+◌, ◌≤◌, ◌<◌, ◌^◌, Bool, List, [], ◌++◌, length, map, take, drop, sum_by, count_by}
+use Rattle.std.proofs.Common.{refl, sym, ap, subst, ◌∙◌, arith, length-append}
+use Rattle.std.proofs.lemmas.List.Sums.{sum_by-append, sum_by-take-le}
+use Rattle.replay_summary.specs.declared.counted.Counted.{Counted}
+use Rattle.replay_summary.specs.Summary.{
+  Fits,
+  first_replies,
+  is_first,
+  is_repeat,
+  repeats,
+  says_held,
+  says_never,
+  selected,
+  summary_of,
+  transactions_in,
+  verdicts,
+}
+use Rattle.replay_summary.proofs.Selecting.{selected-split}
+
+module _ {X : Type 0} (test : List X → X → Bool) (xs : List X) (k : ℕ) where
+  fewer_selected : length (selected test [] (take k xs)) ≤ length (selected test [] xs)
+  fewer_selected =
+      let all : length (selected test [] xs) ≡ length (selected test [] (take k xs)) + length (selected test (take k xs) (drop k xs)) =
+      ap length (selected-split test xs k) ∙ length-append (selected test [] (take k xs)) _ in omega arith
+
+  less_selected : (f : X → ℕ) → sum_by f (selected test [] (take k xs)) ≤ sum_by f (selected test [] xs)
+  less_selected f =
+      let all : sum_by f (selected test [] xs) ≡ sum_by f (selected test [] (take k xs)) + sum_by f (selected test (take k xs) (drop k xs)) =
+      ap (sum_by f) (selected-split test xs k) ∙ sum_by-append f (selected test [] (take k xs)) _ in omega arith
+
+below_too : (m n : ℕ) → m ≤ n → n < 2 ^ 64 → m < 2 ^ 64
+below_too m n less small = omega arith
+
+pub fewer_fit : (cs : List Counted) (k : ℕ) → Fits (summary_of cs) → Fits (summary_of (take k cs))
+fewer_fit cs k fits = record {
+  batches = below_too _ _ (fewer_selected is_first cs k) fits.batches;
+  transactions = below_too _ _ (less_selected is_first cs k (λ x. transactions_in (verdicts x.outcome))) fits.transactions;
+  committed = below_too _ _ (less_selected is_first cs k (λ x. (verdicts x.outcome).committed)) fits.committed;
+  conflict = below_too _ _ (less_selected is_first cs k (λ x. (verdicts x.outcome).conflict)) fits.conflict;
+  too_old = below_too _ _ (less_selected is_first cs k (λ x. (verdicts x.outcome).too_old)) fits.too_old;
+  repeats = below_too _ _ (fewer_selected is_repeat cs k) fits.repeats;
+  never = below_too _ _ (sum_by-take-le _ cs k) fits.never;
+  held = below_too _ _ (sum_by-take-le _ cs k) fits.held;
+}

@@ -1,0 +1,62 @@
+-- The summary of the counted answers of items.
+use Rattle.std.specs.Prelude.{◌≡◌, ℕ, ◌+◌, ◌<◌, ℤ, Bool, List, [], ◌∷◌, ◌++◌, All, Option, Some, None, IfNone, length, map, take, slice_index_or as get_or}
+use Rattle.std.proofs.Common.{refl, sym, ap, subst, ◌∙◌, arith}
+use Rattle.std.proofs.lemmas.List.{take_more, map-append, take-map, get_or-map, length-map}
+use Rattle.checking.specs.InOrder.{Rise}
+use Rattle.replay_summary.specs.declared.counted.Counted.{Counted}
+use Rattle.replay_summary.specs.declared.summary.Summary.{Summary}
+use Rattle.replay_summary.specs.Adding.{is_last, part, plus}
+use Rattle.replay_summary.specs.Counted.{version_of}
+use Rattle.replay_summary.specs.Summary.{Fits, summary_of}
+use Rattle.replay_summary.proofs.Fitting.{fewer_fit}
+use Rattle.replay_summary.proofs.Last.{NoneAbove}
+use Rattle.replay_summary.proofs.Rising.{NoneAbove-map, none_above}
+use Rattle.replay_summary.proofs.Summing.{summary_next}
+
+module _ {X : Type 0} (told : X → Counted) (xs : List X) (i : ℕ) where
+  abbrev pub so_far : Summary
+  so_far = summary_of (map told (take i xs))
+
+  -- the next item
+  pub summary_told : (x : X) → Rise (λ y. version_of (told y)) xs → i < length xs → x ≡ get_or xs i x
+      → summary_of (map told (take (i + 1) xs))
+      ≡ plus so_far (part (is_last (told x).version so_far.versions) (told x).version (told x).outcome)
+  summary_told x rise inside is =
+      let none = NoneAbove-map told version_of (version_of (told (get_or xs i x))) (take i xs)
+      (none_above (λ y. version_of (told y)) xs i x rise inside) in
+      let c = told x in
+      let same : told (get_or xs i x) ≡ c = ap told (sym is) in
+      ap (λ l. summary_of (map told l)) (take_more xs i x inside)
+      ∙ ap summary_of (map-append told (take i xs) (get_or xs i x ∷ []))
+      ∙ ap (λ (d : Counted). summary_of (map told (take i xs) ++ d ∷ [])) same
+      ∙ summary_next (map told (take i xs)) c (subst (λ (d : Counted). NoneAbove version_of d.version (map told (take i xs))) same none)
+
+  -- if the summary of all items fits, so does that of the first ones
+  pub fits_told : Fits (summary_of (map told xs)) → Fits so_far
+  fits_told fits =
+      subst (λ (l : List Counted). Fits (summary_of l)) (take-map told i xs) (fewer_fit (map told xs) i fits)
+
+-- the same for a summary, an answer and its part that were computed
+pub next_told : {X : Type 0} (told : X → Counted) (xs : List X) (i : ℕ) (x : X) (c : Counted) (last : Bool) (added before : Summary)
+    → Rise (λ y. version_of (told y)) xs → i < length xs → x ≡ get_or xs i x → c ≡ told x → before ≡ so_far told xs i
+    → last ≡ is_last c.version before.versions → added ≡ part last c.version c.outcome
+    → plus before added ≡ summary_of (map told (take (i + 1) xs))
+next_told told xs i x c last added before rise inside is is_told is_so_far is_last_of is_part =
+    let seen : last ≡ is_last (told x).version (so_far told xs i).versions =
+    is_last_of ∙ ap (λ (d : Counted). is_last d.version before.versions) is_told
+    ∙ ap (λ (s : Summary). is_last (told x).version s.versions) is_so_far in
+    let adds : added ≡ part (is_last (told x).version (so_far told xs i).versions) (told x).version (told x).outcome =
+    is_part ∙ ap (λ (d : Counted). part last d.version d.outcome) is_told
+    ∙ ap (λ (b : Bool). part b (told x).version (told x).outcome) seen in
+    ap (λ (s : Summary). plus s added) is_so_far ∙ ap (plus (so_far told xs i)) adds ∙ sym (summary_told told xs i x rise inside is)
+
+-- the items of one of several lists rise
+pub rise_at : {X W : Type 0} (view : W → List X) (version : X → ℤ) (ws : List W) (i : ℕ) (w : W) → All (Rise version) (map view ws)
+    → i < length ws → w ≡ get_or ws i w → Rise version (view w)
+rise_at view version ws i w rise inside is =
+    subst (λ l. Rise version l) (get_or-map view ws i w (view w) inside ∙ ap view (sym is))
+    (rise i (view w) (omega (arith, length-map ws view)))
+
+pub if_none : {A : Type 0} {P : Type 0} (found : Option A) → P → IfNone found P
+if_none None p = p
+if_none (Some a) p = tt

@@ -1,0 +1,20 @@
+use Rattle.std.proofs.Common.{append_assoc, ◌∙◌, codes}
+use Rattle.std.specs.Fmt.{decimal}
+use Rattle.std.proofs.lemmas.Result.{on_ok_weaker}
+use Rattle.replay_summary.proofs.Appending.{append_number}
+use Rattle.replay_summary.proofs.text.json.put_verdicts.Goals as goal
+
+pub returns : goal.returns
+returns c = record {
+  text = on_ok_weaker c.put_number-5.result
+      (λ too_old. append_number _ _ _ _ _ _
+      (append_number _ _ _ _ _ _
+      (append_number _ _ _ _ _ _
+      (append_number _ _ _ _ _ _
+      (c.in_ok-put_number.ensures.text ∙ append_assoc c.args.out.now.items (codes "\"batches\":") (decimal c.args.summary.now.batches))
+      c.in_ok-put_number-2.ensures.text)
+      c.in_ok-put_number-3.ensures.text)
+      c.in_ok-put_number-4.ensures.text)
+      too_old)
+      c.put_number-5.ensures.text;
+}

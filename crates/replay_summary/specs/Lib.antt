@@ -1,0 +1,5 @@
+-- In reading order.
+pub mod Counted
+pub mod Summary
+pub mod Adding
+pub mod Text

@@ -1,0 +1,87 @@
+//! A summary as a line of JSON.
+
+ghost use Rattle.std.specs.Prelude.{◌≡◌, ◌++◌, OnOk, codes};
+ghost use Rattle.std.specs.List.{flat_map, enumerate_from};
+ghost use Rattle.replay_summary.specs.Text.{members, other_members, proxy_object};
+ghost use Rattle.replay_summary.specs.Text.{proxy_objects, verdict_members, version_member};
+
+use super::number::put_number;
+use crate::summary::Summary;
+use crate::versions::Versions;
+use std::io;
+use std::io::Write;
+
+/// Appends the object of all proxies, its newline included.
+pub fn put_object(out: &mut Vec<u8>, summaries: &[Summary], total: &Summary) -> io::Result<()>
+    ensures text { OnOk result (out.new.items ≡ out.old.items
+        ++ codes "{\"proxies\":[" ++ proxy_objects summaries.now ++ codes "]," ++ members total.now
+        ++ codes "\n") }
+{
+    out.write_all(b"{\"proxies\":[")?;
+    put_proxies(out, summaries)?;
+    out.write_all(b"],")?;
+    put_members(out, total)?;
+    out.write_all(b"\n")
+}
+
+// Appends the objects of the proxies, with a comma between.
+fn put_proxies(out: &mut Vec<u8>, summaries: &[Summary]) -> io::Result<()>
+    ensures text { OnOk result (out.new.items ≡ out.old.items ++ proxy_objects summaries.now) }
+{
+    for (proxy, summary) in summaries.iter().enumerate() {
+        put_proxy(out, proxy, summary)?;
+    }
+    Ok(())
+}
+
+// Appends the object of a proxy, after a comma unless it is the first one.
+fn put_proxy(out: &mut Vec<u8>, proxy: usize, summary: &Summary) -> io::Result<()>
+    ensures text { OnOk result
+        (out.new.items ≡ out.old.items ++ proxy_object (proxy, summary.now)) }
+{
+    if proxy > 0 {
+        out.write_all(b",")?;
+    }
+    put_number(out, b"{\"proxy\":", proxy)?;
+    out.write_all(b",")?;
+    put_members(out, summary)
+}
+
+// Appends the members of a summary, to the end of the object.
+fn put_members(out: &mut Vec<u8>, summary: &Summary) -> io::Result<()>
+    ensures text { OnOk result (out.new.items ≡ out.old.items ++ members summary.now) }
+{
+    put_verdicts(out, summary)?;
+    put_others(out, summary)?;
+    put_versions(out, summary.versions)
+}
+
+fn put_verdicts(out: &mut Vec<u8>, summary: &Summary) -> io::Result<()>
+    ensures text { OnOk result (out.new.items ≡ out.old.items ++ verdict_members summary.now) }
+{
+    put_number(out, b"\"batches\":", summary.batches)?;
+    put_number(out, b",\"transactions\":", summary.transactions)?;
+    put_number(out, b",\"committed\":", summary.committed)?;
+    put_number(out, b",\"conflict\":", summary.conflict)?;
+    put_number(out, b",\"tooold\":", summary.too_old)
+}
+
+fn put_others(out: &mut Vec<u8>, summary: &Summary) -> io::Result<()>
+    ensures text { OnOk result (out.new.items ≡ out.old.items ++ other_members summary.now) }
+{
+    put_number(out, b",\"repeats\":", summary.repeats)?;
+    put_number(out, b",\"never\":", summary.never)?;
+    put_number(out, b",\"held\":", summary.held)
+}
+
+fn put_versions(out: &mut Vec<u8>, versions: Option<Versions>) -> io::Result<()>
+    ensures text { OnOk result (out.new.items ≡ out.old.items ++ version_member versions) }
+{
+    match versions {
+        Some(Versions { first, last }) => write!(
+            out,
+            ",\"versions\":{{\"first\":{first},\"last\":{last}}}}}"
+        ),
+        None => out.write_all(b",\"versions\":null}"),
+    }
+}
