@@ -1,12 +1,19 @@
 -- Which texts are ranges of versions: how they are cut.
-use Rattle.std.specs.Prelude.{◌≡◌, ◌≢◌, ℕ, zero, suc, ◌<◌, ◌==◌, ℤ, Bool, true, false, cond, List, [], ◌∷◌, ◌++◌, length, drop, Option, None, Some, MatchOption, unwrap_or}
+use Rattle.std.specs.Prelude.{◌≡◌, ◌≢◌, ℕ, zero, suc, ◌<◌, ◌==◌, ℤ, Bool, true, false, cond, List, [], ◌∷◌, ◌++◌, length, drop, Option, None, Some, MatchOption, is_some, option_map, unwrap_or}
 use Rattle.std.specs.Borrow.{Bor}
 use Rattle.std.specs.Str.Parse.{AllDigits, IsNumeral, without_leading_sign}
-use Rattle.std.proofs.Common.{refl, ap, ◌∙◌, subst, arith, get_or}
+use Rattle.std.proofs.Common.{refl, sym, ap, ◌∙◌, subst, arith, get_or}
+use Rattle.std.proofs.lemmas.Bool.{false≢true}
 use Rattle.std.proofs.lemmas.Str.Parse.{digit_at}
 use Rattle.std.proofs.lemmas.Str.Pattern.{IsSplitOnceResult, split_after, split_parts}
 use Rattle.replay_output.specs.Filter.{least_version}
 use Rattle.replay_arguments.specs.Words.{IsEnd, IsVersions}
+
+-- no text is found where none was read
+pub none_found : (found : Option (List ℕ)) (read : Option (Bor (List ℕ))) → is_some read ≡ false
+    → option_map (λ s. s.now) read ≡ found → found ≡ None
+none_found found None none is = sym is
+none_found found (Some text) none is = absurd (false≢true (sym none))
 
 no_stop_in_digits : (ds : List ℕ) (i : ℕ) → AllDigits 10 ds → i < length ds → get_or ds i 0 ≢ 46
 no_stop_in_digits ds i digits inside is =

@@ -17,7 +17,7 @@ use Rattle.resolver.specs.declared.resolver_core.TheConstants.{MAX_PROXIES}
 use Rattle.keyspace.specs.declared.reply.Verdict.{Verdict}
 use Rattle.replay_output.specs.Filter.{least_version}
 use Rattle.replay_output.specs.Lines.{verdict_word}
-use Rattle.replay_output.specs.declared.options.filter.Filter.{Filter}
+use Rattle.replay_output.specs.declared.options.filtering.Filter.{Filter}
 use Rattle.replay_output.specs.declared.options.form.Form.{Form}
 use Rattle.replay_output.specs.declared.options.form.Form.TheVariants.{Frames, Json, Kept}
 use Rattle.replay_output.specs.declared.options.form.Form.TheVariants as lines

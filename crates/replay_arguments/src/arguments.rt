@@ -3,8 +3,9 @@
 ghost use Rattle.std.specs.Prelude.{◌≡◌, ◌≢◌, ◌≤◌, ◌⊎◌, IfErr, IfOk, IfSome, OnOk, Some, codes};
 ghost use Rattle.std.specs.Prelude.{is_some, length, map, string_bytes, true, vec_len};
 ghost use Rattle.clap.specs.Words.{all_of, found_of, rows_of};
-ghost use Rattle.replay_arguments.specs.Words.{AsksForText, HasFiles, HasForm, HasInputOnce};
-ghost use Rattle.replay_arguments.specs.Words.{HasNumbers, HasReplies, HoldsForm, HoldsNumbers};
+ghost use Rattle.replay_arguments.specs.Words.{AsksForAll, AsksForText, HasFiles, HasForm};
+ghost use Rattle.replay_arguments.specs.Words.{HasInputOnce, HasNumbers, HasReplies, HoldsForm};
+ghost use Rattle.replay_arguments.specs.Words.{HoldsNumbers};
 ghost use Rattle.replay_arguments.specs.Words.{HoldsOptions, IsFormOf, IsMistaken, IsRefusalBy};
 ghost use Rattle.replay_arguments.specs.Words.{IsRefusalOf, IsTaken, faults_of, rows_of_words};
 ghost use Rattle.replay_arguments.specs.Words.{HasRecords, HasStream, HoldsStream, HoldsSummary};
@@ -12,7 +13,7 @@ ghost use Rattle.replay_arguments.specs.Words.{IsAlone, named};
 ghost use Rattle.clap.specs.declared.error.kind.ErrorKind.{ErrorKind};
 ghost use Rattle.replay_output.specs.declared.options.form.Form.{Form as FormValue};
 
-use crate::arguments::filter::filter_of;
+use crate::arguments::filtering::filter_of;
 use crate::arguments::input::has_input_once;
 use crate::arguments::summary::summary_of;
 use clap::ArgMatches;
@@ -23,7 +24,7 @@ use resolver::MAX_PROXIES;
 use std::alloc::{AllocError, Global};
 
 mod command;
-mod filter;
+mod filtering;
 mod input;
 mod refusal;
 mod summary;
@@ -64,6 +65,8 @@ pub fn read_words<'a>(alloc: Global, words: &'a [String]) -> Result<CommandLine<
         ≡ Some (map (λ name. name.now) line.replies.items)) }
     ensures as_many { IfOk result (λ line. line.options.style.form ≡ Form.Kept
         → vec_len line.replies ≡ vec_len line.files) }
+    ensures all { IfOk result (λ line. line.options.style.form ≡ Form.Kept
+        → AsksForAll (rows_of_words (map string_bytes words.entry.now))) }
     ensures input { OnOk result (HasInputOnce (rows_of_words (map string_bytes words.entry.now))) }
     ensures streamed { IfOk result (λ line.
         HoldsStream (rows_of_words (map string_bytes words.entry.now)) line.is_streamed) }

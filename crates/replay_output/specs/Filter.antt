@@ -7,7 +7,7 @@ use Rattle.keyspace.specs.Answer.{version_of_answer}
 use Rattle.keyspace.specs.declared.reply.Entry.{Entry}
 use Rattle.keyspace.specs.declared.reply.Verdict.{Verdict}
 use Rattle.keyspace.specs.declared.reply.Verdict.TheVariants.{Conflict, TooOld, Committed}
-use Rattle.replay_output.specs.declared.options.filter.Filter.{Filter}
+use Rattle.replay_output.specs.declared.options.filtering.Filter.{Filter}
 use Rattle.replay_output.specs.declared.options.style.Style.{Style}
 use Rattle.replay_output.specs.declared.options.Options.{Options}
 

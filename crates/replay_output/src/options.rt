@@ -13,11 +13,11 @@ use keyspace::WINDOW;
 use lane::MAX_CAPACITY;
 use stepmap::MAX_LIMIT;
 
-mod filter;
+mod filtering;
 mod form;
 mod style;
 
-pub use filter::Filter;
+pub use filtering::Filter;
 pub use form::Form;
 pub use style::Style;
 

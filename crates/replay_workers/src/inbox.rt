@@ -9,7 +9,7 @@ ghost use Rattle.replay_output.specs.declared.line.Line.{Line as LineOfAnswer};
 
 use crate::ends::Ends;
 use crate::gatekeeper::Gatekeeper;
-use crate::pause::pause;
+use crate::rest::pause;
 use crate::worker::Assignment;
 use keyspace::Answer;
 use lane::Taken;

@@ -6,7 +6,7 @@
 //! first where all have used up their share.
 //!
 //! In reading order: `running`, `threads`, `worker`, `inbox`, `ends`, `gatekeeper`, `watch`, `outcome`,
-//! `pause`. What became of the files is `IsRun`, in `specs/Run.antt`. What one worker has done is
+//! `rest`. What became of the files is `IsRun`, in `specs/Run.antt`. What one worker has done is
 //! `HasWorked`, in `specs/Worker.antt`.
 #![tactic(auto)]
 
@@ -14,7 +14,7 @@ mod ends;
 mod gatekeeper;
 mod inbox;
 mod outcome;
-mod pause;
+mod rest;
 mod running;
 mod threads;
 mod watch;
@@ -23,7 +23,7 @@ mod worker;
 pub use ends::MostUnanswered;
 pub use gatekeeper::{AlwaysOpen, Gatekeeper, ShareKeeper, Unshared};
 pub use outcome::Outcome;
-pub use pause::pause;
+pub use rest::pause;
 pub use running::{let_through, run};
 pub use watch::Watch;
 pub use worker::{Assignment, FileEnd, Finished, Leftover, work};

@@ -16,7 +16,7 @@ ghost use Rattle.replay_workers.specs.Worker.{is_cut_short, unsent_of};
 use crate::ends::MostUnanswered;
 use crate::gatekeeper::{Gatekeeper, ShareKeeper};
 use crate::inbox::Inbox;
-use crate::pause::pause;
+use crate::rest::pause;
 use keyspace::Batch;
 use lane::Refused;
 use replay_output::{Line, Style};

@@ -3,7 +3,7 @@
 ghost use Rattle.std.specs.Prelude.{◌≡◌};
 ghost use Rattle.replay_output.specs.Filter.{all_lines};
 
-use crate::options::filter::Filter;
+use crate::options::filtering::Filter;
 use crate::options::form::Form;
 
 /// How the answers of a run are printed.

@@ -4,7 +4,7 @@ use Rattle.std.proofs.lemmas.Int.{to_z-of_z}
 use Rattle.std.proofs.lemmas.Str.Pattern.{strip_prefix_char}
 use Rattle.replay_arguments.specs.Words.{IsEnd}
 use Rattle.replay_arguments.proofs.Filters.{cut_there, made, not_cut}
-use Rattle.replay_arguments.proofs.arguments.filter.parse_versions.Goals as goal
+use Rattle.replay_arguments.proofs.arguments.filtering.parse_versions.Goals as goal
 
 pub returns-in_err-from-clause-none : goal.returns-in_err-from-clause-none
 returns-in_err-from-clause-none c = λ least below is has.

@@ -1,10 +1,10 @@
 //! Which lines of answers the arguments ask for.
 
-ghost use Rattle.std.specs.Prelude.{◌≡◌, ◌↔◌, ℤ, IfOk, IfSome, IsTrue, OnErr, Option, false, is_some};
+ghost use Rattle.std.specs.Prelude.{◌≡◌, ◌↔◌, ℤ, IfOk, IfSome, OnErr, OnOk, Option, false, is_some};
 ghost use Rattle.std.specs.Prelude.{option_map};
 ghost use Rattle.clap.specs.Words.{found_of, rows_of};
-ghost use Rattle.replay_arguments.specs.Words.{AreVersions, HasFilter, HoldsFilter, HoldsForm};
-ghost use Rattle.replay_arguments.specs.Words.{IsEnd, IsVersions, verdict_name};
+ghost use Rattle.replay_arguments.specs.Words.{AreVersions, AsksForAll, HasFilter, HoldsFilter};
+ghost use Rattle.replay_arguments.specs.Words.{HoldsForm, IsEnd, IsVersions, verdict_name};
 ghost use Rattle.keyspace.specs.declared.reply.Verdict.{Verdict as VerdictValue};
 
 use clap::ArgMatches;
@@ -15,6 +15,7 @@ use replay_output::{Filter, Form};
 /// no verdict or no range of versions, or about a filter beside a comparison.
 pub fn filter_of(matches: &ArgMatches, form: Form) -> Result<Filter, &'static str>
     ensures filter { IfOk result (HoldsFilter (rows_of (found_of matches.now))) }
+    ensures all { OnOk result (form ≡ Form.Kept → AsksForAll (rows_of (found_of matches.now))) }
     ensures err { OnErr result (HoldsForm (rows_of (found_of matches.now)) form
         → ¬ HasFilter (rows_of (found_of matches.now))) }
 {

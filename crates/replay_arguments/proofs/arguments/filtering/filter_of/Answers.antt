@@ -10,7 +10,9 @@ use Rattle.clap.proofs.WalkLemmas.{first_value-rows}
 use Rattle.replay_arguments.specs.Words.{AreVersions, is_kept}
 use Rattle.replay_arguments.proofs.Getters.{bool_text_same, is_some_mapped, text_read, text_of_bool}
 use Rattle.replay_arguments.proofs.Numbers.{Some-injective, bool_err, has_read}
-use Rattle.replay_arguments.proofs.arguments.filter.filter_of.Goals as goal
+use Rattle.replay_arguments.proofs.Filters.{none_found}
+use Rattle.replay_arguments.proofs.arguments.filtering.filter_of.Goals.{else-is_kept-via-then-is_kept+else-is_filtered, else-is_kept-via-else-is_kept}
+use Rattle.replay_arguments.proofs.arguments.filtering.filter_of.Goals as goal
 
 pub returns-in_default-clause-err : goal.returns-in_default-clause-err
 returns-in_default-clause-err c = λ holds has.
@@ -46,6 +48,25 @@ returns-then-is_filtered-clause-err c = λ holds has.
     let text = sym (is_some_mapped (λ s. s.now) c.get_str-text.result)
     ∙ ap is_some (c.get_str-text.ensures ∙ first_value-rows found (codes "versions") ∙ all.versions) in
     absurd (false≢true (sym (c.is_filtered.ensures.none.1 (quiet, name, text)) ∙ c.if-is_filtered.true))
+
+pub returns-clause-all : goal.returns-clause-all
+returns-clause-all c = λ kept.
+    let found = found_of c.args.matches.now in
+    let none : (c.in-Some.quiet ≡ false) × (is_some c.get_str-name.result ≡ false) × (is_some c.get_str-text.result ≡ false) =
+    elim c.else-is_kept.branch [
+      | else-is_kept-via-then-is_kept+else-is_filtered w ↦ w.is_filtered.ensures.none.0 w.if-is_filtered.false
+      | else-is_kept-via-else-is_kept w ↦ absurd (false≢true (sym w.if-is_kept.false ∙ c.is_kept.ensures.kept.1 kept))
+    ] in
+    let read : one_of (codes "quiet") (rows_of found) ≡ Some (bool_text c.in-Some.quiet) =
+    text_read {E = ParseBoolError} found (codes "quiet") ParsesBool bool_text c.in-Some.quiet
+    c.in-Some.ensures.none c.in-Some.ensures.value (λ text parses. text_of_bool _ text parses) in
+    record {
+      quiet = read ∙ ap (λ (on : Bool). Some (bool_text on)) none.0;
+      only = none_found _ c.get_str-name.result none.1
+          (c.get_str-name.ensures ∙ first_value-rows found (codes "only"));
+      versions = none_found _ c.get_str-text.result none.2
+          (c.get_str-text.ensures ∙ first_value-rows found (codes "versions"));
+    }
 
 pub returns-clause-filter : goal.returns-clause-filter
 returns-clause-filter c =
