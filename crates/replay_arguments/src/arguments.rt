@@ -114,7 +114,8 @@ pub fn read_words<'a>(alloc: Global, words: &'a [String]) -> Result<CommandLine<
     };
     let records = records_of(alloc, &matches, is_streamed, count)?;
     let Some(summary) = summary_of(&matches, form, is_streamed) else {
-        let message = "--summary is wanted without --check, --stream, --frames, --quiet, --only and --versions";
+        let message =
+            "--summary is wanted without --check, --stream, --frames, --quiet, --only and --versions";
         return Err(refuse(alloc, ErrorKind::ArgumentConflict, message)?);
     };
     Ok(CommandLine {

@@ -3,7 +3,7 @@ use Rattle.std.proofs.Math.Seq.{take-length}
 use Rattle.std.specs.Io.KnownBytes.{Appends}
 use Rattle.wire.proofs.callers.Given.{beginning}
 use Rattle.replay_output.proofs.callers.Results.{on_err_weaker}
-use Rattle.replay_program.proofs.check.report.write_and_flush.Goals as goal
+use Rattle.replay_program.proofs.writing.write_and_flush.Goals as goal
 
 pub returns-clause-beginning : goal.returns-clause-beginning
 returns-clause-beginning g c =
