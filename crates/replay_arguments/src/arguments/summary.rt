@@ -1,6 +1,6 @@
 //! Whether the arguments ask for a summary.
 
-ghost use Rattle.std.specs.Prelude.{◌≡◌, IfSome, is_some, true};
+ghost use Rattle.std.specs.Prelude.{◌≡◌, ◌↔◌, IfSome, IsTrue, false, is_some, true};
 ghost use Rattle.clap.specs.Words.{found_of, rows_of};
 ghost use Rattle.replay_arguments.specs.Words.{AsksForAll, HasSummary, HoldsForm, HoldsStream};
 ghost use Rattle.replay_arguments.specs.Words.{HoldsSummary, IsAlone, summary_form};
@@ -29,28 +29,31 @@ pub fn summary_of(
     if !asked {
         return Some(None);
     }
-    if is_streamed || !asks_for_all(matches)? {
-        return None;
-    }
-    summary_form(form).map(Some)
+    let all = asks_for_all(matches)?;
+    let summary = form_alone(form, is_streamed, all)?;
+    Some(Some(summary))
 }
 
 // Returns whether no option asks for some lines only.
 fn asks_for_all(matches: &ArgMatches) -> Option<bool>
-    ensures all { result ≡ Some true → AsksForAll (rows_of (found_of matches.now)) }
-    ensures some { AsksForAll (rows_of (found_of matches.now)) → result ≡ Some true }
+    ensures all { IfSome result (λ all. IsTrue all ↔ AsksForAll (rows_of (found_of matches.now))) }
+    ensures none { result ≡ None → ¬ AsksForAll (rows_of (found_of matches.now)) }
 {
     let quiet = matches.get_one("quiet")?;
-    Some(!is_filtered(quiet, matches.get_str("only"), matches.get_str("versions")))
+    let (name, text) = (matches.get_str("only"), matches.get_str("versions"));
+    Some(!is_filtered(quiet, name, text))
 }
 
-// Returns the form of the summary in place of lines of this form.
-fn summary_form(form: Form) -> Option<SummaryForm>
-    ensures form { result ≡ summary_form form }
+// Returns the form of the summary in place of lines of this form, if it is alone.
+fn form_alone(form: Form, is_streamed: bool, all: bool) -> Option<SummaryForm>
+    ensures form { IfSome result (λ summary. summary_form form ≡ Some summary) }
+    ensures alone { IfSome result (λ _. (is_streamed ≡ false) × IsTrue all) }
+    ensures none { result ≡ None → is_streamed ≡ false → IsTrue all
+        → is_some (summary_form form) ≡ false }
 {
-    match form {
-        Form::Words => Some(SummaryForm::Words),
-        Form::Json => Some(SummaryForm::Json),
-        Form::Frames | Form::Kept => None,
+    match (form, is_streamed, all) {
+        (Form::Words, false, true) => Some(SummaryForm::Words),
+        (Form::Json, false, true) => Some(SummaryForm::Json),
+        _ => None,
     }
 }

@@ -18,7 +18,7 @@ use replay_output::{
 };
 use replay_summary::{SummaryError, SummaryForm, summarize_all, summary_text};
 use std::alloc::Global;
-use wire::Sink;
+use wire::{Failed, Sink};
 
 /// Prints the summary of the answers to `out`, and flushes it. Then prints what failed to `error`, as
 /// [`print_failures`] does. `received` holds the lines of each proxy at its number, in the order in
@@ -105,7 +105,10 @@ fn print_text<W: Sink>(
         Ok(made) => made,
         Err(proxy) => return Err(PrintError::Memory(proxy)),
     };
-    write_and_flush(out, &made).map_err(|_| PrintError::Write)
+    match write_and_flush(out, &made) {
+        Ok(()) => Ok(()),
+        Err(Failed) => Err(PrintError::Write),
+    }
 }
 
 // Sorts the lines, and returns the text of their summaries. An error is the proxy whose lines could

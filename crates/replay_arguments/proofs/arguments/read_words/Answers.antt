@@ -3,7 +3,7 @@ use Rattle.std.proofs.lemmas.Grind.{common_steps}
 use Rattle.std.proofs.lemmas.List.{length-map}
 use Rattle.replay_arguments.specs.declared.arguments.refusal.Refusal.TheVariants.{Refused}
 use Rattle.clap.specs.Words.{Row, found_of, rows_of}
-use Rattle.replay_arguments.specs.Words.{HasFiles, HasNumbers, HasRecords, HasRecordsEach, HasStream}
+use Rattle.replay_arguments.specs.Words.{HasFiles, HasNumbers, HasRecords, HasRecordsEach, HasStream, HasSummary, IsAlone}
 use Rattle.replay_arguments.proofs.Refusals.{no_records_each}
 use Rattle.replay_arguments.proofs.arguments.read_words.Goals as goal
 
@@ -31,5 +31,15 @@ returns-in_err-records-clause-refused c = λ text is.
     let refused = c.records_of.ensures.refused text was c.in-Some-is_streamed.ensures.stream in
     let count : length files ≡ length names = sym (length-map files (λ (v : Bor (List ℕ)). v.now)) in
     let none = subst (λ (n : ℕ). ¬ (HasRecords n found)) count refused.1 in
-    inr (inr (inr (inr (inr (inr (inr (subst (λ (rows : List Row). ¬ (HasRecordsEach rows)) c.in_ok-matches.ensures.rows
-    (no_records_each found names c.in-Some-files_of.ensures.files refused.0 none))))))))
+    inr (inr (inr (inr (inr (inr (inr (inl (subst (λ (rows : List Row). ¬ (HasRecordsEach rows)) c.in_ok-matches.ensures.rows
+    (no_records_each found names c.in-Some-files_of.ensures.files refused.0 none)))))))))
+
+pub returns-in_default-summary_of-clause-refused : goal.returns-in_default-summary_of-clause-refused
+returns-in_default-summary_of-clause-refused c = λ text is.
+    inr (inr (inr (inr (inr (inr (inr (inr (inr (subst (λ (rows : List Row). ¬ (HasSummary rows)) c.in_ok-matches.ensures.rows
+    (c.summary_of.ensures.none c.in-Some.ensures.form c.in-Some-is_streamed.ensures.stream c.in_default-summary_of.is)))))))))
+
+pub returns-clause-alone : goal.returns-clause-alone
+returns-clause-alone c = λ some.
+    subst IsAlone c.in_ok-matches.ensures.rows
+    (c.in-Some-summary_of.ensures.alone c.in-Some.ensures.form c.in-Some-is_streamed.ensures.stream some)
