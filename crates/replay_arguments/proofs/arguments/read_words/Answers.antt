@@ -37,7 +37,7 @@ returns-in_err-records-clause-refused c = λ text is.
 pub returns-in_default-summary_of-clause-refused : goal.returns-in_default-summary_of-clause-refused
 returns-in_default-summary_of-clause-refused c = λ text is.
     inr (inr (inr (inr (inr (inr (inr (inr (inr (subst (λ (rows : List Row). ¬ (HasSummary rows)) c.in_ok-matches.ensures.rows
-    (c.summary_of.ensures.none c.in-Some.ensures.form c.in-Some-is_streamed.ensures.stream c.in_default-summary_of.is)))))))))
+    (c.summary_of.ensures.none c.in-Some.ensures.form c.in-Some-is_streamed.ensures.stream c.in_default-summary_of.is))))))))))
 
 pub returns-clause-alone : goal.returns-clause-alone
 returns-clause-alone c = λ some.
