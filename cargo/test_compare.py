@@ -118,8 +118,11 @@ class Texts(unittest.TestCase):
         self.assertEqual(reply_table(reply_of(json_rows.REPLY)), json_rows.REPLY_TABLE)
 
     def test_lines(self) -> None:
-        for line, written in (row.split(" => ") for row in json_rows.WRITTEN.split("\n")):
+        for line, batch, written in (row.split(" => ") for row in json_rows.WRITTEN.split("\n")):
             self.assertEqual(json.loads(written).keys() | {"received"}, json.loads(line).keys() | {"received"})
+            self.assertEqual(batch_line(batch_of(batch)), written)
+        for _, reply, written in (row.split(" => ") for row in json_rows.WRITTEN_REPLIES.split("\n")):
+            self.assertEqual(reply_line(reply_of(reply)), written)
         for reply in (row.split(" => ")[1] for row in json_rows.READ_REPLIES.split("\n")):
             self.assertIn("verdicts", json.loads(reply_line(reply_of(reply))))
         self.assertEqual(turned(rows.EMPTY_BATCH, "decode", False).out, (batch_line(Batch(-1, 0)) + "\n").encode())

@@ -7,7 +7,7 @@ from tests import batches_rows, json_rows, rows, shell_rows, wire_rows
 from .case import Case, Outcome, Run, Text
 from .commands import SHAPES, short_cases
 from .expecting import replay_outcome, turned
-from .lines import reply_table
+from .lines import batch_line, reply_table
 from .notation import batch_of, reply_of
 from .plain import opening
 from .reading import frames, read_batch
@@ -101,10 +101,44 @@ def json_runs() -> list[Run]:
     for line, reply in (row.split(" => ") for row in json_rows.READ_REPLIES.split("\n")):
         frame = reply_frame(reply_of(reply))
         runs.append(Run("batches", ("encode", "--replies"), line.encode(), expected=Outcome(0, frame, b"")))
+    runs += written_runs()
     for batch, form in (row.split(" => ") for row in json_rows.KEYS.split("\n")):
         line = f'{{"previous":0,"version":1,"received":-1,"transactions":[{{"snapshot":0,"report":false,"reads":[],"writes":["{form}"]}}]}}\n'
         runs.append(Run("batches", ("decode",), batch_frame(batch_of(batch)), expected=Outcome(0, line.encode(), b"")))
-    return runs + shown_runs()
+    return runs + stream_runs() + shown_runs()
+
+
+def written_runs() -> list[Run]:
+    """The rows of lines, their frames, and the lines of these."""
+    runs = []
+    for row in json_rows.WRITTEN.split("\n"):
+        line, batch, written = row.split(" => ")
+        runs += there_and_back(line, batch_frame(batch_of(batch), 2), written, ())
+    for row in json_rows.WRITTEN_REPLIES.split("\n"):
+        line, reply, written = row.split(" => ")
+        runs += there_and_back(line, reply_frame(reply_of(reply)), written, ("--replies",))
+    return runs
+
+
+def there_and_back(line: str, frame: bytes, written: str, options: tuple[str, ...]) -> tuple[Run, Run]:
+    return (
+        Run("batches", ("encode", *options), line.encode(), expected=Outcome(0, frame, b"")),
+        Run("batches", ("decode", *options), frame, expected=Outcome(0, f"{written}\n".encode(), b"")),
+    )
+
+
+def stream_runs() -> list[Run]:
+    """Two lines and their frames. Then a line that is refused after another, and a frame that is cut after another."""
+    shown, _ = json_rows.TABLE
+    batches = [batch_of(one) for one in shown]
+    lines, content = [f"{batch_line(batch)}\n".encode() for batch in batches], file_of(batches)
+    text, message = json_rows.REFUSED_THIRD
+    return [
+        Run("batches", ("encode",), b"".join(lines), expected=Outcome(0, file_of(batches, 2), b"")),
+        Run("batches", ("decode",), content, expected=Outcome(0, b"".join(lines), b"")),
+        Run("batches", ("encode",), text.encode(), expected=Outcome(1, file_of(batches[:1], 2), message.encode())),
+        Run("batches", ("decode",), content[:-1], expected=Outcome(1, lines[0], b"frame 2: 1 Short\n")),
+    ]
 
 
 def shown_runs() -> list[Run]:

@@ -72,13 +72,27 @@ READ_REPLIES = r'''{"version":0,"verdicts":[]} => 0 empty
 {"version":100,"verdicts":["committed","conflict",{"conflict":[0,2]},"tooold"]} => 100 committed conflict conflict:0,2 tooold
 {"verdicts":[{"conflict":[]},{"conflict":[1023]}],"version":9223372036854775807} => 9223372036854775807 conflict conflict:1023'''
 
-# A line, and the line that `batches decode` makes of its frame.
-WRITTEN = r'''{"version":0,"previous":-1,"transactions":[]} => {"previous":-1,"version":0,"received":-1,"transactions":[]}
-{"previous":0,"version":100,"received":-1,"transactions":[{"snapshot":0,"report":true,"reads":[["a","b"],["k","k\\x00"]],"writes":[["c","d"]]}]} => {"previous":0,"version":100,"received":-1,"transactions":[{"snapshot":0,"report":true,"reads":[["a","b"],"k"],"writes":[["c","d"]]}]}
-{"previous":0,"version":1,"transactions":[{"snapshot":0,"reads":["\\x5c\\x41\\x7F\\xFF\\x20\\x00"],"writes":[["","\\x22"]]}]} => {"previous":0,"version":1,"received":-1,"transactions":[{"snapshot":0,"report":false,"reads":["\\\\A\\x7f\\xff \\x00"],"writes":[["","\""]]}]}'''
+# A line, the batch that it spells, and the line that `batches decode` makes of its frame.
+WRITTEN = r'''{"version":0,"previous":-1,"transactions":[]} => -1>0 => {"previous":-1,"version":0,"received":-1,"transactions":[]}
+{"previous":0,"version":100,"received":-1,"transactions":[{"snapshot":0,"report":true,"reads":[["a","b"],["k","k\\x00"]],"writes":[["c","d"]]}]} => 0>100: m R[a,b) R[k] W[c,d) => {"previous":0,"version":100,"received":-1,"transactions":[{"snapshot":0,"report":true,"reads":[["a","b"],"k"],"writes":[["c","d"]]}]}
+{"previous":0,"version":1,"transactions":[{"snapshot":0,"reads":["\\x5c\\x41\\x7F\\xFF\\x20\\x00"],"writes":[["","\\x22"]]}]} => 0>1: R[\x5cA\x7f\xff\x20\x00] W[,") => {"previous":0,"version":1,"received":-1,"transactions":[{"snapshot":0,"report":false,"reads":["\\\\A\\x7f\\xff \\x00"],"writes":[["","\""]]}]}
+{"previous":0,"version":100,"received":-1,"transactions":[{"snapshot":0,"report":true,"reads":[["a","b"],"k"],"writes":[["c","d"],"\\x00\\\\"]}]} => 0>100: m R[a,b) R[k] W[c,d) W[\x00\x5c] => {"previous":0,"version":100,"received":-1,"transactions":[{"snapshot":0,"report":true,"reads":[["a","b"],"k"],"writes":[["c","d"],"\\x00\\\\"]}]}'''
+
+# The same of replies.
+WRITTEN_REPLIES = r'''{"verdicts":[ ],"version":0} => 0 empty => {"version":0,"verdicts":[]}
+{"version":100,"verdicts":["committed","conflict",{"conflict":[0,2]},{"conflict":[]},"tooold"]} => 100 committed conflict conflict:0,2 conflict tooold => {"version":100,"verdicts":["committed","conflict",{"conflict":[0,2]},"conflict","tooold"]}
+{"version":100,"verdicts":["committed","conflict",{"conflict":[0,2]},"tooold"]} => 100 committed conflict conflict:0,2 tooold => {"version":100,"verdicts":["committed","conflict",{"conflict":[0,2]},"tooold"]}'''
+
+# Lines of which the first spells `-1>0`, and what is said of the third. The second is blank, and the last needs no line feed.
+REFUSED_THIRD = (
+    '{"previous":-1,"version":0,"transactions":[]}\r\n \t\r\n'
+    '{"previous":0,"version":1,"transactions":[{"snapshot":0,"reads":["a",["b","a"]],"writes":[]}]}',
+    "line 3: transactions[0].reads[1]: begin is above end\n",
+)
 
 # A batch, and its line.
-KEYS = r'''0>1: W[tuple\x20"k"\x20~] => tuple \"k\" ~
+KEYS = r'''0>1: W[] => 
+0>1: W[tuple\x20"k"\x20~] => tuple \"k\" ~
 0>1: W[\x5c] => \\\\
 0>1: W[\x5cx41] => \\\\x41
 0>1: W[\x00\x1f\x7f\x80\xff] => \\x00\\x1f\\x7f\\x80\\xff

@@ -5,10 +5,12 @@
 //! - [`reference`]: the chain rules of that page, over the scan.
 //! - [`steps`]: the step function of that page, over a `BTreeMap`.
 //! - [`spelling`]: frames, read and written by the tables of `docs/WIRE.md`.
+//! - [`notation`]: batches and answers as the worked rows write them.
 #![forbid(unsafe_code)]
 
 pub mod cases;
 pub mod drawn;
+pub mod notation;
 pub mod plain;
 pub mod random;
 pub mod reference;

@@ -171,6 +171,8 @@ fn replies_are_spelled_by_the_tables() {
         let frame = reply_frame(&reply);
         assert_eq!(encode_reply(Global, &reply.reply()).expect("the reply is short").as_slice(), frame);
         assert_eq!(reply_decodes_by_the_tables(&frame), None);
+        let copy = reply.reply().copy(Global).expect("memory is ample");
+        assert_eq!(PlainReply::of(&copy), reply);
         1
     });
 }

@@ -6,6 +6,7 @@ use rattle_std::alloc::Global;
 use std::collections::{BTreeMap, BTreeSet};
 use tests::cases::{count, run};
 use tests::drawn::KeySpace;
+use tests::notation::batch;
 use tests::plain::{PlainBatch, PlainRange, key};
 use tests::random::Random;
 
@@ -80,6 +81,19 @@ fn fronts_and_copies_are_the_bytes() {
     }
 }
 
+/// Copies of a range, as it is and as it is borrowed, have its keys.
+#[test]
+fn copies_of_a_range_are_equal() {
+    let range = PlainRange::new("a", "b").range();
+    let borrowed = range.as_ref();
+    assert_eq!((borrowed.begin(), borrowed.end()), (&b"a"[..], &b"b"[..]));
+    for copy in [range.copy(Global), borrowed.to_range(Global)] {
+        let copy = copy.expect("memory is ample");
+        assert_eq!((&copy.begin, &copy.end), (&range.begin, &range.end));
+        assert!(copy.meets(&range) && copy.holds(b"a") && !copy.holds(b"b"));
+    }
+}
+
 #[test]
 fn ranges_hold_and_meet_as_their_keys_say() {
     run("ranges_hold_and_meet_as_their_keys_say", count(10_000_000, 100_000), |random| {
@@ -136,6 +150,48 @@ fn runs_overlap_as_ranges_meet() {
         }
         1 + (ranges.len() * ranges.len()) as u64
     });
+}
+
+/// The hashes of single keys, computed from the definition by another program. No other range has one.
+#[test]
+fn hashes_by_hand() {
+    for (key, hash) in [
+        ("", 0),
+        ("a", 0xf916_ab45),
+        ("user/000001", 0x7a68_6317),
+        ("user/000002", 0xcc8b_c6f8),
+        ("0123456789abcdefghijklmnopqrstuvwxyzABCD", 0x1489_20b3),
+        ("0123456789abcdefghijklmnopqrstuvwxyzABCE", 0xd3e1_6820),
+    ] {
+        assert_eq!(key_hash(key.as_bytes()), hash, "{key}");
+        assert_eq!(PlainRange::single(key).range().as_ref().single_hash(), Some(hash), "{key}");
+    }
+    for end in ["a", "a\0\0", "b"] {
+        assert_eq!(PlainRange::new("a", end).range().as_ref().single_hash(), None);
+    }
+    let txns = batch("0>1: R[b,d) R[m,m) R[a] W[a,c); R[user/000001]").batch().txns;
+    let reads = [(0, 0), (0, 1), (0, 2), (1, 0)];
+    let hashes = reads.map(|(txn, read)| txns.hash(txns.read_index(txn, read) as usize));
+    assert_eq!(hashes, [None, None, Some(0xf916_ab45), Some(0x7a68_6317)]);
+}
+
+/// Five ranges with five begins, and an empty one. Then a batch without ranges.
+#[test]
+fn ranks_by_hand() {
+    for (text, order, writes, runs) in [
+        (
+            "0>1: R[b,d) R[m,m) W[a,c); W[aa,y); R[c,d) W[,a)",
+            &[5, 2, 3, 0, 4][..],
+            &[5, 2, 3][..],
+            &[(3, 5), (0, 0), (1, 4), (2, 5), (4, 5), (0, 1)][..],
+        ),
+        ("0>1", &[], &[], &[]),
+    ] {
+        let txns = batch(text).batch().txns;
+        let (ranks, found) = Ranks::with_order(Global, &txns.ranges()).expect("memory is ample");
+        assert_eq!((found.as_slice(), txns.write_order()), (order, writes));
+        assert_eq!((ranks.runs(), txns.ranks().runs()), (runs, runs));
+    }
 }
 
 /// Keys of up to 38 bytes have hashes that seldom agree, whichever byte differs.

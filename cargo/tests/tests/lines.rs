@@ -84,3 +84,34 @@ fn replies_are_read_back() {
         1
     });
 }
+
+/// Returns the refusal of a line of a batch, as text, or nothing if it is read.
+fn refusal(line: &str) -> Option<String> {
+    read_batch(Global, line.as_bytes(), &mut Scratch::new(Global)).err().map(|refusal| refusal.to_string())
+}
+
+/// The program `batches` passes over empty lines, so this one is no row of `json_rows.py`.
+#[test]
+fn empty_line_is_refused() {
+    assert_eq!(refusal("").as_deref(), Some("not JSON"));
+}
+
+/// A line at the limits: transactions, ranges of one, and bytes of a single key. The end of a further range has one byte more.
+#[test]
+fn limits_of_a_line() {
+    let line = |txns: usize, ranges: usize, bytes: usize| {
+        let key = "k".repeat(bytes);
+        let ranges = vec!["\"k\""; ranges].join(",");
+        let first = format!(r#"{{"snapshot":0,"reads":[{ranges}],"writes":["{key}",["","{key}k"]]}}"#);
+        let txns = [vec![first.as_str()], vec![r#"{"snapshot":0,"reads":[],"writes":[]}"#; txns - 1]].concat().join(",");
+        format!(r#"{{"previous":0,"version":1,"transactions":[{txns}]}}"#)
+    };
+    for (txns, ranges, bytes, expected) in [
+        (4_096, 1_024, 10_000, None),
+        (4_097, 1_024, 10_000, Some("transactions: more than 4,096 items")),
+        (2, 1_025, 10_000, Some("transactions[0].reads: more than 1,024 items")),
+        (2, 1, 10_001, Some("transactions[0].writes[0]: single key is longer than 10,000 bytes")),
+    ] {
+        assert_eq!(refusal(&line(txns, ranges, bytes)).as_deref(), expected);
+    }
+}

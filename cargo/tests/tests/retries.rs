@@ -83,6 +83,31 @@ fn failed_write_is_the_last() {
     }
 }
 
+/// Once the reader has failed, `Frames` fails, though the reader has bytes now.
+#[test]
+fn failed_read_is_the_last() {
+    let frame = batch_frame(&PlainBatch::empty(-1, 0), 1);
+    let calls = Cell::new(0);
+    let fails = Failing { kind: ErrorKind::Other, failures: 1, calls: &calls };
+    let mut frames = read_frames(Global, StdSource::new(FailsFirst { fails, bytes: &frame }));
+    assert!(matches!(frames.next(), Err(WireError::Read)));
+    assert!(matches!(frames.next(), Err(WireError::Read)));
+    assert_eq!(calls.get(), 1);
+}
+
+/// A reader that gives its bytes once `fails` has failed as often as it does.
+struct FailsFirst<'a> {
+    fails: Failing<'a>,
+    bytes: &'a [u8],
+}
+
+impl Read for FailsFirst<'_> {
+    fn read(&mut self, buffer: &mut [u8]) -> IoResult<usize> {
+        self.fails.call()?;
+        self.bytes.read(buffer)
+    }
+}
+
 /// Gives at most `step` bytes in each call, and fails in this way instead of the end. Counts the calls.
 struct Steps<'a> {
     bytes: &'a [u8],

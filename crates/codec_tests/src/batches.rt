@@ -1,5 +1,4 @@
-//! Tests of `decode_batch`, `encode_batch` and `encode_batch_1`: the worked frames, and wire
-//! version 1.
+//! Tests of `decode_batch`, `encode_batch` and `encode_batch_1`: the vectors of both wire versions.
 
 use crate::rows::{Way, expect_rows};
 use std::test::Fail;
@@ -34,18 +33,7 @@ fn decoder_always_memory(rt: HostRuntime) -> Result<(), Fail> {
     expect_rows(&rt, alloc, Way::ReplyBothWays, REPLIES)
 }
 
-// Begin and end are one key; and bytes follow the frame.
-const READ: &str = "\
-0000002e 01 0000000000000000 0000000000000064 ffffffffffffffff 0001 0000000000000000 00 0000 0001 0001 62 0001 62 \
-     => 50 bytes: 0>100 received -1; W[62,62) @0
-0000001b 01 ffffffffffffffff 0000000000000000 ffffffffffffffff 0000 00 => 31 bytes: -1>0 received -1
-0000001b 01 ffffffffffffffff 0000000000000000 ffffffffffffffff 0000 ffffffffffff => 31 bytes: -1>0 received -1";
-
-#[test]
-fn frames_that_are_read(rt: HostRuntime) -> Result<(), Fail> {
-    expect_rows(&rt, rt.alloc(), Way::Batch, READ)
-}
-
+// Frames that are refused, and some like them that are read.
 const REFUSALS: &str = "\
 => 1 Short
 000000 => 1 Short
@@ -75,9 +63,41 @@ const REFUSALS: &str = "\
 0000002e 01 0000000000000000 0000000000000064 ffffffffffffffff 0001 0000000000000000 00 0000 0001 0001 61 0002 62 \
      => 10 Cut
 0000002d 01 0000000000000000 0000000000000064 ffffffffffffffff 0001 0000000000000000 00 0000 0001 0001 61 0000 \
-     => 9 Inverted";
+     => 9 Inverted
+0000002e 01 0000000000000000 0000000000000064 ffffffffffffffff 0001 0000000000000000 00 0000 0001 0001 62 0001 62 \
+     => 50 bytes: 0>100 received -1; W[62,62) @0
+0000001b 01 ffffffffffffffff 0000000000000000 ffffffffffffffff 0000 00 => 31 bytes: -1>0 received -1
+0000001b 01 ffffffffffffffff 0000000000000000 ffffffffffffffff 0000 ffffffffffff => 31 bytes: -1>0 received -1";
+
+// The same of wire version 2.
+const REFUSALS_2: &str = "\
+0000002f 03 0000000000000000 0000000000000064 ffffffffffffffff 0001 0000000000000000 00 0000 0001 02 0001 61 0001 62 \
+     => 13 Form
+00000030 03 0000000000000000 0000000000000064 ffffffffffffffff 0001 0000000000000000 00 0000 0001 00 0001 6b 0002 6b00 \
+     => 14 Spelling
+0000002f 03 0000000000000000 0000000000000064 ffffffffffffffff 0001 0000000000000000 00 0000 0001 00 0001 62 0001 61 \
+     => 9 Inverted
+0000002f 03 0000000000000000 0000000000000064 ffffffffffffffff 0001 0000000000000000 00 0000 0001 00 0001 62 0001 62 \
+     => 51 bytes: 0>100 received -1; W[62,62) @0
+0000002c 03 0000000000000000 0000000000000064 ffffffffffffffff 0001 0000000000000000 00 0000 0001 01 2711 6b \
+     => 8 KeyLength
+0000002c 03 0000000000000000 0000000000000064 ffffffffffffffff 0001 0000000000000000 00 0000 0001 01 2710 6b \
+     => 10 Cut
+00000001 03 => 10 Cut";
 
 #[test]
 fn refusals_of_decode_batch(rt: HostRuntime) -> Result<(), Fail> {
-    expect_rows(&rt, rt.alloc(), Way::Batch, REFUSALS)
+    expect_rows(&rt, rt.alloc(), Way::Batch, REFUSALS)?;
+    expect_rows(&rt, rt.alloc(), Way::Batch, REFUSALS_2)
+}
+
+const COUNTS: &str = "\
+0000001b 01 ffffffffffffffff 0000000000000000 ffffffffffffffff 1000 => 10 Cut
+0000001b 01 ffffffffffffffff 0000000000000000 ffffffffffffffff 1001 => 7 Count
+0000001b 03 ffffffffffffffff 0000000000000000 ffffffffffffffff 1000 => 10 Cut
+0000001b 03 ffffffffffffffff 0000000000000000 ffffffffffffffff 1001 => 7 Count";
+
+#[test]
+fn count_at_and_above_limit(rt: HostRuntime) -> Result<(), Fail> {
+    expect_rows(&rt, rt.alloc(), Way::Batch, COUNTS)
 }

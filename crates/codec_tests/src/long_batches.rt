@@ -1,12 +1,12 @@
-//! Tests of keys and batches that are as long as may be, and one byte longer.
+//! A key that is as long as it may be, and one byte longer.
 
 use crate::rows::expect;
-use crate::texts::{bytes_of, encoded, refused};
+use crate::texts::{bytes_of, refused};
 use keyspace::{Batch, RangeRef};
 use std::alloc::{AllocError, Global};
 use std::test::Fail;
-use test_values::{Unmade, range, txn};
-use wire::{WireError, WireVersion, decode_batch};
+use test_values::Unmade;
+use wire::decode_batch;
 
 // The digits of this head and of a key of n bytes.
 fn frame_to_key(alloc: Global, head: &str, length: usize) -> Result<Vec<u8>, Unmade> {
@@ -62,11 +62,4 @@ fn longest_key(rt: HostRuntime) -> Result<(), Fail> {
     let head = "0000273e 01 0000000000000000 0000000000000064 ffffffffffffffff 0001 \
          0000000000000000 00 0000 0001 0000 2712";
     expect(&rt, lengths_of(rt.alloc(), head, 10_002), "8 KeyLength")
-}
-
-// How many bytes such a batch is encoded as, and how many of them are read again.
-fn taken(alloc: Global, version: WireVersion, batch: &Batch) -> Result<(usize, usize), WireError> {
-    let bytes = encoded(alloc, version, batch)?;
-    let (_, used) = decode_batch(alloc, &bytes)?;
-    Ok((bytes.len(), used))
 }

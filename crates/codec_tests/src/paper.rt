@@ -1,4 +1,4 @@
-//! A writer that is interrupted, takes pieces and has no more room.
+//! A writer that takes pieces and has no more room.
 
 use std::alloc::Global;
 use std::io;
@@ -11,45 +11,28 @@ pub(crate) enum End {
     TakesNothing,
 }
 
-/// A writer that takes at most `step` bytes per call and `room` bytes in all, and counts its
-/// flushes. It is interrupted n times before each call that takes some, and before each flush.
+/// A writer that takes at most `step` bytes per call and `room` bytes in all.
 #[derive(Drop)]
 pub(crate) struct Paper {
     pub(crate) bytes: Vec<u8>,
-    pub(crate) flushes: u32,
     step: usize,
     room: usize,
     end: End,
-    pub(crate) interruptions: u32,
-    interrupted: u32,
 }
 
 impl Paper {
     pub(crate) fn new(alloc: Global, step: usize, room: usize, end: End) -> Self {
         Paper {
             bytes: Vec::new(alloc),
-            flushes: 0,
             step,
             room,
             end,
-            interruptions: 0,
-            interrupted: 0,
         }
-    }
-
-    fn interrupt(&mut self) -> io::Result<()> {
-        if self.interrupted < self.interruptions {
-            self.interrupted += 1;
-            return Err(io::Error::from(ErrorKind::Interrupted));
-        }
-        self.interrupted = 0;
-        Ok(())
     }
 }
 
 impl Write for Paper {
     fn write(&mut self, buffer: &[u8]) -> io::Result<usize> {
-        self.interrupt()?;
         let count = self.step.min(buffer.len()).min(self.room);
         if count == 0 {
             return match self.end {
@@ -65,8 +48,6 @@ impl Write for Paper {
     }
 
     fn flush(&mut self) -> io::Result<()> {
-        self.interrupt()?;
-        self.flushes = self.flushes.saturating_add(1);
         Ok(())
     }
 }

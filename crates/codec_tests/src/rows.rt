@@ -3,7 +3,6 @@
 
 use crate::frames::of_text;
 use crate::texts::{batch_at, batch_both_ways, reply_at, reply_both_ways};
-use crate::upgrades::upgraded_text;
 use std::alloc::Global;
 use std::process::Abort;
 use std::test::Fail;
@@ -24,8 +23,6 @@ pub(crate) enum Way {
     /// `Frames` reads it, at most n bytes per call, and its reader fails at the end where that is
     /// said.
     Frames(usize, bool),
-    /// `upgrade` reads it, and its writer takes at most n bytes per call.
-    Upgrade(usize),
 }
 
 fn outcome(alloc: Global, way: Way, text: &str) -> Result<String, Unmade> {
@@ -35,7 +32,6 @@ fn outcome(alloc: Global, way: Way, text: &str) -> Result<String, Unmade> {
         Way::BatchBothWays(version) => batch_both_ways(alloc, version, text),
         Way::ReplyBothWays => reply_both_ways(alloc, text),
         Way::Frames(step, fails) => of_text(alloc, text, step, fails),
-        Way::Upgrade(step) => upgraded_text(alloc, text, step),
     }
 }
 

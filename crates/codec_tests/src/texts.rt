@@ -26,8 +26,8 @@ pub(crate) const ONE_WRITE_2: &str =
     "0000002f 03 0000000000000000 0000000000000064 ffffffffffffffff 0001 \
      0000000000000000 00 0000 0001 00 0001 61 0001 62";
 
-/// The digits of a text, without its blanks.
-pub(crate) fn digits_of(alloc: Global, text: &str) -> Result<String, Unmade> {
+// The digits of a text, without its blanks.
+fn digits_of(alloc: Global, text: &str) -> Result<String, Unmade> {
     let mut digits = String::new(alloc);
     for field in text.split_whitespace() {
         digits.push_str(field)?;
@@ -81,46 +81,25 @@ pub(crate) fn reply_at(alloc: Global, text: &str) -> Result<String, Unmade> {
     }
 }
 
-/// Encodes a batch in this wire version.
-pub(crate) fn encoded(
-    alloc: Global,
-    version: WireVersion,
-    batch: &Batch,
-) -> Result<Vec<u8>, WireError> {
+// Encodes a batch in this wire version.
+fn encoded(alloc: Global, version: WireVersion, batch: &Batch) -> Result<Vec<u8>, WireError> {
     match version {
         WireVersion::One => encode_batch_1(alloc, batch),
         WireVersion::Two => encode_batch(alloc, batch),
     }
 }
 
-/// Whether the batch of these bytes is encoded in this wire version as those.
-pub(crate) fn is_again(
-    alloc: Global,
-    version: WireVersion,
-    bytes: &[u8],
-    want: &[u8],
-) -> Result<bool, WireError> {
+// Whether the batch of these bytes is encoded in this wire version as the same bytes.
+fn is_again(alloc: Global, version: WireVersion, bytes: &[u8]) -> Result<bool, WireError> {
     let (batch, _) = decode_batch(alloc, bytes)?;
     let again = encoded(alloc, version, &batch)?;
-    Ok(again.as_slice() == want)
+    Ok(again.as_slice() == bytes)
 }
 
 fn is_reply_again(alloc: Global, bytes: &[u8]) -> Result<bool, WireError> {
     let (reply, _) = decode_reply(alloc, bytes)?;
     let again = encode_reply(alloc, &reply)?;
     Ok(again.as_slice() == bytes)
-}
-
-/// Whether the batch of a text is encoded in this wire version as the bytes of another text.
-pub(crate) fn is_encoded_as(
-    alloc: Global,
-    version: WireVersion,
-    text: &str,
-    want: &str,
-) -> Result<bool, Unmade> {
-    let bytes = bytes_of(alloc, text)?;
-    let want = bytes_of(alloc, want)?;
-    Ok(is_again(alloc, version, &bytes, &want) == Ok(true))
 }
 
 // What was read, and whether it was encoded as the same bytes again.
@@ -137,7 +116,8 @@ pub(crate) fn batch_both_ways(
     version: WireVersion,
     text: &str,
 ) -> Result<String, Unmade> {
-    let is_again = is_encoded_as(alloc, version, text, text)?;
+    let bytes = bytes_of(alloc, text)?;
+    let is_again = is_again(alloc, version, &bytes) == Ok(true);
     both_ways(alloc, batch_at(alloc, text)?, is_again)
 }
 

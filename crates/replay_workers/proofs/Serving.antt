@@ -21,6 +21,7 @@ use Rattle.replay_workers.specs.Worker.{HasWorked, LeavesLane, TakesFrames}
 use Rattle.replay_workers.specs.Threads.{failure_of}
 use Rattle.replay_workers.specs.Run.{IsServed}
 use Rattle.replay_workers.proofs.callers.Ending.{none_left}
+use Rattle.replay_workers.proofs.callers.Lists.{both}
 
 -- a worker that leaves a batch and a closed lane, which was open, has sent as many batches as a lane takes
 worn_lane : (requests : PortView Batch) (batch : Batch) → LeavesLane false requests (Some batch) → requests.closed ≡ true

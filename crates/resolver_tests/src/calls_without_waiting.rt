@@ -5,7 +5,6 @@ use crate::service::Service;
 use lane::{Taken, agree, lane};
 use resolver::{Account, Turn};
 use std::alloc::Global;
-use std::process::Abort;
 use std::test::Fail;
 use test_values::Unmade;
 

@@ -43,20 +43,6 @@ impl Chained {
         }
     }
 
-    /// Resolves a batch the same way, or refuses it if it doesn't fit the limit.
-    pub fn try_resolve(&mut self, batch: &Batch) -> Result<Result<Reply, SetStop>, Unmade> {
-        if batch.version <= self.resolved {
-            return Err(Unmade::Beyond("version"));
-        }
-        match self.set.try_resolve(batch) {
-            Ok(reply) => {
-                self.resolved = batch.version;
-                Ok(Ok(reply))
-            }
-            Err(stop) => Ok(Err(stop)),
-        }
-    }
-
     /// Returns the number of boundaries.
     pub fn boundaries(&self) -> usize {
         self.set.boundaries()

@@ -243,11 +243,6 @@ const TWO_LANES_OF_ONE: &[&str] = &[
     "settle = complete",
 ];
 
-#[test]
-fn answers_over_two_lanes_of_one(rt: HostRuntime) -> Result<(), Fail> {
-    goes_through(&rt, rt.alloc(), (2, 1), TWO_LANES_OF_ONE)
-}
-
 // A refused growth stops the resolver, with what it answered before still handed out.
 #[test]
 fn resolver_stops_at_one_growth_refused(rt: HostRuntime) -> Result<(), Fail> {

@@ -1,17 +1,14 @@
 //! Tests of the conflict set and of the resolver, by their public calls alone.
 //!
-//! `set` resolves batches by a conflict set, and `set_stops` by one that is refused memory. Random
-//! batches beside a plain scan of all committed writes are tests of the Cargo edition
-//! (`cargo/tests`). `cores` plays the worked rows of `rows` over a core, `rows_over_lanes` the same
-//! over lanes of one, and `lanes` those that are of lanes alone; `serving` has those of two proxies
-//! served in one thread. `shares` has two proxies send up to their share and beyond it.
-//! `calls_without_waiting` makes each call over lanes where nothing can wait. `refusals` prints
-//! each stop and each refusal.
-//!
-//! `batches_alike` has two tests whose allocations `.ci/refused-memory` counts.
+//! `set` resolves the worked rows of a conflict set, `cores` and `gate` those of a core, and `lanes`
+//! those of lanes. `serving` calls a proved caller. `calls_without_waiting` makes each call over
+//! lanes where nothing can wait. Further rows, random batches beside a plain scan of all committed
+//! writes, and printed texts are tests of the Cargo edition (`cargo/tests`).
 //!
 //! The tests named for it, as `core_stops_at_one_growth_refused`, pass whichever one growth is
-//! refused; `.ci/refused-memory` refuses each in turn.
+//! refused; `.ci/refused-memory` refuses each in turn. Those of `rows_over_lanes` play the rows of
+//! `cores` over lanes of one. `batches_alike` has two tests whose allocations `.ci/refused-memory`
+//! counts.
 #![tactic(auto)]
 
 #[cfg(test)]
@@ -29,8 +26,6 @@ mod lanes;
 #[cfg(test)]
 mod made;
 #[cfg(test)]
-mod refusals;
-#[cfg(test)]
 mod rows;
 #[cfg(test)]
 mod rows_over_lanes;
@@ -42,5 +37,3 @@ mod serving;
 mod set;
 #[cfg(test)]
 mod set_stops;
-#[cfg(test)]
-mod shares;

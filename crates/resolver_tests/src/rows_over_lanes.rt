@@ -1,12 +1,11 @@
 //! The worked rows over lanes of one, in turns, whichever growth is refused.
 
 use crate::made::{batch_at_last, text_at_last};
-use crate::rows::{ROWS, Row, numbered, parts};
+use crate::rows::{ROWS, numbered, parts};
 use crate::service::Service;
 use lane::Taken;
 use resolver::{Account, Stop, Turn};
 use std::alloc::Global;
-use std::process::Abort;
 use std::test::Fail;
 use test_values::Unmade;
 
@@ -150,14 +149,6 @@ fn outcome<'a>(alloc: Global, row: &[&'a str]) -> Result<Result<Option<Stop>, &'
         Some(step) => Err(step),
         None => Ok(run.stop),
     })
-}
-
-#[test]
-fn rows_over_lanes_of_one(rt: HostRuntime) -> Result<(), Fail> {
-    for row in ROWS {
-        assert_eq!(rt; outcome(rt.alloc(), row)?, Ok(None));
-    }
-    Ok(())
 }
 
 // A refused growth stops the resolver, with what it answered before still handed out.

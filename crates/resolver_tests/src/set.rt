@@ -58,29 +58,6 @@ fn resolves(
 }
 
 #[test]
-fn own_and_later_writes_do_not_count(rt: HostRuntime) -> Result<(), Fail> {
-    let batches = ["-1>0: R[a,c) W[b,c); R[c,d) W[a,d); R[c,d)"];
-    let lines = "0 committed committed conflict\n";
-    let set = Chained::new(rt.alloc(), WINDOW, LIMIT);
-    resolves(&rt, rt.alloc(), set, &batches, lines)
-}
-
-// At 105 the batch writes what those read that the history refuses, too. At 106 the history alone
-// refuses them.
-#[test]
-fn refused_by_the_history_writes_nothing(rt: HostRuntime) -> Result<(), Fail> {
-    let batches = [
-        "-1>100: W[a,b)",
-        "100>105: W[a,b); R[a,b) W[x,y) @80; R[a,b) W[x,y) @95; R[x,y) @105",
-        "105>106: R[a,b) W[x,y) @80; R[a,b) W[x,y) @100; R[x,y) @106",
-    ];
-    let lines =
-        "100 committed\n105 committed tooold conflict committed\n106 tooold conflict committed\n";
-    let set = Chained::new(rt.alloc(), 10, LIMIT);
-    resolves(&rt, rt.alloc(), set, &batches, lines)
-}
-
-#[test]
 fn batch_place_skips_empty_range(rt: HostRuntime) -> Result<(), Fail> {
     let batches = ["-1>0: W[a,c) W[e,g); m R[c,e) R[b,b) R[f,h); R[c,e) R[b,b) W[b,b)"];
     let lines = "0 committed conflict:2 committed\n";
@@ -94,64 +71,6 @@ fn limit_three_stop(rt: HostRuntime) -> Result<(), Fail> {
     let lines = "0 empty\n100 committed\n2 ArenaFull\n2 ArenaFull\n";
     let set = Chained::new(rt.alloc(), WINDOW, 3);
     resolves(&rt, rt.alloc(), set, &batches, lines)
-}
-
-#[test]
-fn limit_one_stop(rt: HostRuntime) -> Result<(), Fail> {
-    let batches = ["-1>0", "0>100: W[a,b)"];
-    let set = Chained::new(rt.alloc(), WINDOW, 1);
-    resolves(&rt, rt.alloc(), set, &batches, "0 empty\n2 ArenaFull\n")
-}
-
-// Resolves the batches one after another, where one that doesn't fit the limit is refused, and
-// writes a line for each.
-fn push_tries(
-    alloc: Global,
-    set: &mut Chained,
-    lines: &mut String,
-    batches: &[&str],
-) -> Result<(), Unmade> {
-    for text in batches {
-        let line = match set.try_resolve(&batch(alloc, text)?)? {
-            Ok(reply) => show_reply(alloc, &reply)?,
-            Err(stop) => format!(in alloc; "{stop}")?,
-        };
-        lines.push_str(line.as_str())?;
-        lines.push('\n')?;
-    }
-    Ok(())
-}
-
-// The lines of batches that are tried by a set of limit 3, and then of some that it resolves.
-fn tries(alloc: Global, tried: &[&str], resolved: &[&str]) -> Result<String, Unmade> {
-    let mut set = Chained::new(alloc, WINDOW, 3)?;
-    let mut lines = String::new(alloc);
-    push_tries(alloc, &mut set, &mut lines, tried)?;
-    push_outcomes(alloc, &mut set, &mut lines, resolved)?;
-    push_tries(alloc, &mut set, &mut lines, &["9000002>90000000"])?;
-    Ok(lines)
-}
-
-// What is refused at 200 isn't remembered, and the write at 100 is. At 9,000,000 it has left the
-// window. The batch that was refused stops a set that resolves it.
-#[test]
-fn limit_three_refused(rt: HostRuntime) -> Result<(), Fail> {
-    let tried = [
-        "-1>0",
-        "0>100: W[a,b)",
-        "100>200: W[c,d)",
-        "100>200: W[a,b) W[c,d)",
-        "100>300: R[a,b) @99; R[c,d) @0; R[a,b) @100",
-        "300>9000000: W[c,d)",
-        "9000000>9000001: R[c,d) @8999999; R[a,b) @8999999",
-        "9000001>9000002: W[e,f)",
-    ];
-    let lines = "0 empty\n100 committed\n2 ArenaFull\n2 ArenaFull\n\
-300 conflict committed committed\n9000000 committed\n9000001 conflict committed\n2 ArenaFull\n\
-2 ArenaFull\n2 ArenaFull\n";
-    let found = tries(rt.alloc(), &tried, &["9000001>9000002: W[e,f)"])?;
-    assert_eq!(rt; found.as_str(), lines);
-    Ok(())
 }
 
 // A transaction that reads and writes the key of this byte.

@@ -1,10 +1,9 @@
-//! The worked rows of the arena, and what prints.
+//! A worked row of the arena.
 
 use arena::{Arena, ArenaError, MAX_LENGTH, Slot};
 use std::alloc::{AllocError, Allocator, Global};
 use std::process::Abort;
 use std::test::Fail;
-use test_values::prints;
 
 /// Makes a key of `length` bytes that differs from the others of its length.
 pub fn bytes_of(alloc: Global, number: u32, length: usize) -> Result<Vec<u8>, AllocError> {
@@ -67,31 +66,5 @@ fn place_one(rt: &impl Abort, alloc: Global) -> Result<(), Fail> {
     let slot = arena.place(1, b"small")?;
     assert!(rt; shows(&arena, slot, 1, b"small"));
     assert_eq!(rt; arena.live(), 1);
-    Ok(())
-}
-
-#[test]
-fn refusals_print_their_numbers(rt: HostRuntime) -> Result<(), Fail> {
-    for (refusal, text) in [
-        (ArenaError::Memory, "1 Memory"),
-        (ArenaError::TooLong, "2 TooLong"),
-    ] {
-        assert!(rt; prints(rt.alloc(), &refusal, text)?, "{text}");
-    }
-    Ok(())
-}
-
-fn shown(alloc: Global, arena: &Arena<u32>) -> Result<String, Fail> {
-    Ok(format!(in alloc; "{arena:?}")?)
-}
-
-#[test]
-fn an_arena_prints_its_count(rt: HostRuntime) -> Result<(), Fail> {
-    let mut arena: Arena<u32> = Arena::new(rt.alloc());
-    arena.place(1, b"key")?;
-    assert_eq!(rt; shown(rt.alloc(), &arena)?.as_str(), "Arena { live: 1 }");
-    // Of the same chunk.
-    arena.place(2, b"another")?;
-    assert_eq!(rt; shown(rt.alloc(), &arena)?.as_str(), "Arena { live: 2 }");
     Ok(())
 }

@@ -1,6 +1,6 @@
 //! An arena whose growth is refused.
 
-use crate::arena_calls::{bytes_of, shows};
+use crate::arena_calls::shows;
 use arena::{Arena, ArenaError, Slot};
 use linked_list_allocator::LocalHeap;
 use std::alloc::{AllocError, Allocator, Global};
@@ -52,6 +52,7 @@ fn replace<A: Allocator + Copy>(
 fn refuses_growth<A: Allocator + Copy>(arena: &mut Arena<u32, A>) -> bool {
     arena.reserve(&[33]) == Err(ArenaError::Memory)
         && arena.reserve(&[1, 33]) == Err(ArenaError::Memory)
+        && arena.reserve_slots(33, 300) == Err(ArenaError::Memory)
         && arena.place(1, &[0; 33]).err() == Some(ArenaError::Memory)
         && arena.place(1, b"no slot is left").err() == Some(ArenaError::Memory)
 }
@@ -89,74 +90,6 @@ fn arena_chunk_and_refusal(rt: HostRuntime) -> Result<(), Fail> {
     arena.reserve(&[1; 512])?;
     let _rest = rest_of(rt.alloc(), &heap)?;
     fill_and_replace(&rt, &mut arena, Vec::new(rt.alloc()))
-}
-
-// Places 300 keys of 33 bytes each.
-fn place_zeros<A: Allocator + Copy>(arena: &mut Arena<u32, A>) -> Result<(), ArenaError> {
-    for number in 0..300_u32 {
-        arena.place(number, &[0; 33])?;
-    }
-    Ok(())
-}
-
-#[test]
-fn arena_reserves_slots(rt: HostRuntime) -> Result<(), Fail> {
-    let heap = LocalHeap::new(rt.alloc(), 200_000)?;
-    let mut arena: Arena<u32, &LocalHeap> = Arena::new(&heap);
-    arena.reserve_slots(33, 300)?;
-    let _rest = rest_of(rt.alloc(), &heap)?;
-    arena.reserve_slots(33, 300)?;
-    place_zeros(&mut arena)?;
-    assert_eq!(rt; arena.live(), 300);
-    assert_eq!(rt; arena.reserve_slots(33, 300), Err(ArenaError::Memory));
-    Ok(())
-}
-
-// The lengths of the keys that are placed in little memory.
-const LENGTHS: [usize; 12] = [5, 40, 300, 20, 1000, 100, 16_384, 64, 8_000, 0, 3_000, 500];
-
-// Places a key of each length, and returns how many calls were refused. All that weren't are there
-// then.
-fn place_each<A: Allocator + Copy>(
-    rt: &impl Abort,
-    arena: &mut Arena<u32, A>,
-    alloc: Global,
-) -> Result<usize, AllocError> {
-    let mut records = Vec::new(alloc);
-    for (number, length) in (0..12_u32).zip(LENGTHS) {
-        let key = bytes_of(alloc, number, length)?;
-        match arena.place(number, &key) {
-            Ok(slot) => records.push((slot, number, key))?,
-            Err(refusal) => assert_eq!(rt; refusal, ArenaError::Memory),
-        }
-        assert_eq!(rt; arena.live(), records.len());
-    }
-    for (slot, number, key) in &records {
-        assert!(rt; shows(arena, *slot, *number, key));
-    }
-    Ok(12_usize.saturating_sub(records.len()))
-}
-
-// Returns how many keys are refused where there is so much memory.
-fn refused_within(rt: &impl Abort, alloc: Global, memory: usize) -> Result<usize, AllocError> {
-    let heap = LocalHeap::new(alloc, memory)?;
-    let mut arena: Arena<u32, &LocalHeap> = Arena::new(&heap);
-    let reserved = arena.reserve(&LENGTHS);
-    let refused = place_each(rt, &mut arena, alloc)?;
-    assert!(rt; refused == 0 || reserved == Err(ArenaError::Memory));
-    Ok(refused)
-}
-
-// However little memory there is, a refused call leaves the records as they were, and the next call
-// after one that succeeds.
-#[test]
-fn refused_growth_changes_nothing(rt: HostRuntime) -> Result<(), Fail> {
-    let mut refused = 0_usize;
-    for step in 0..40_usize {
-        refused = refused.saturating_add(refused_within(&rt, rt.alloc(), step * 8_000 + 16)?);
-    }
-    assert!(rt; refused > 100);
-    Ok(())
 }
 
 // Places a record, in a second try where the first is refused memory.

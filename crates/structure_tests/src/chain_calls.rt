@@ -1,34 +1,15 @@
-//! The worked rows of the gate and of the replies, and a growth of each that is refused.
+//! A growth of the gate and of the replies that is refused.
 
 use chain::{ChainError, Gate, Replies};
 use keyspace::Batch;
 use std::alloc::Global;
-use std::fmt::Write;
 use std::process::Abort;
 use std::test::Fail;
-use test_values::{Unmade, batch, batch_of, prints, reply};
+use test_values::{Unmade, batch_of, reply};
 
 // The proxy and the version of a batch that left, or -1.
 fn left(leaving: Option<(usize, Batch)>) -> (usize, i64) {
     leaving.map_or((0, -1), |held| (held.0, held.1.version))
-}
-
-// Tells the proxy and the version of what leaves at each of these versions, `2:200 none`, or of the
-// earliest arrivals.
-fn leaving(alloc: Global, gate: &mut Gate, at: &[Option<i64>]) -> Result<String, Unmade> {
-    let mut told = String::new(alloc);
-    for version in at {
-        let leaving = match version {
-            Some(version) => gate.next_for(*version),
-            None => gate.first(),
-        };
-        match left(leaving) {
-            (_, -1) => told.push_str("none ")?,
-            (proxy, version) => write!(told, "{proxy}:{version} ")?,
-        }
-    }
-    write!(told, "then {}", gate.held())?;
-    Ok(told)
 }
 
 // The version of the reply that is kept, or -1.
@@ -50,17 +31,6 @@ fn put(
         return Ok(Ok(()));
     }
     Ok(replies.put(proxy, reply))
-}
-
-#[test]
-fn refusals_print_their_numbers(rt: HostRuntime) -> Result<(), Fail> {
-    for (refusal, text) in [
-        (ChainError::Memory, "1 Memory"),
-        (ChainError::GateFull, "2 GateFull"),
-    ] {
-        assert!(rt; prints(rt.alloc(), &refusal, text)?, "{text}");
-    }
-    Ok(())
 }
 
 // Holds the batch, in a second try where the first is refused memory.

@@ -1,4 +1,4 @@
-//! The calls of the filter: bounds, cells that grow, and the hash.
+//! A growth of the filter that is refused.
 
 use filter::Filter;
 use keys::key_hash;
@@ -22,46 +22,6 @@ fn is_as_written(filter: &Filter) -> bool {
         && filter.bound(b"neither") == 150
         && filter.newest_range() == 150
         && filter.is_useful()
-}
-
-#[test]
-fn bounds_of_writes(rt: HostRuntime) -> Result<(), Fail> {
-    let filter = four_writes(rt.alloc())?;
-    assert!(rt; is_as_written(&filter));
-    Ok(())
-}
-
-#[test]
-fn useful_while_the_newest_is_a_key(rt: HostRuntime) -> Result<(), Fail> {
-    let mut filter = Filter::new(rt.alloc())?;
-    assert!(rt; !filter.is_useful());
-    filter.write_key(key_hash(b"first"), 100);
-    assert!(rt; filter.is_useful());
-    filter.write_range(100);
-    assert!(rt; !filter.is_useful());
-    Ok(())
-}
-
-// These hashes fall into one cell. Those of one mark are as many apart as there are marks.
-#[test]
-fn keys_of_one_cell(rt: HostRuntime) -> Result<(), Fail> {
-    let mut filter = Filter::new(rt.alloc())?;
-    filter.write_key(0, 100);
-    filter.write_key(1, 200);
-    filter.write_key(1, 300);
-    assert!(rt; filter.bound_at(0) == 100 && filter.bound_at(1) == 300);
-    assert!(rt; filter.bound_at(32) == 100 && filter.bound_at(33) == -1);
-    filter.write_key(2, 150);
-    assert!(rt;
-        filter.bound_at(0) == 150 && filter.bound_at(1) == 300 && filter.bound_at(2) == 150
-    );
-    assert!(rt; filter.bound_at(3) == -1 && filter.bound_at(33) == -1);
-    filter.write_key(3, 400);
-    assert!(rt;
-        filter.bound_at(0) == 300 && filter.bound_at(1) == 300 && filter.bound_at(3) == 400
-    );
-    assert!(rt; filter.bound_at(4) == -1 && filter.bound_at(0x8000_0000) == -1);
-    Ok(())
 }
 
 // Its outcome is the same whichever one growth is refused: the next try succeeds.

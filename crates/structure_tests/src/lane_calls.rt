@@ -1,11 +1,10 @@
-//! The worked rows of a lane whose two ends are in one thread, and a growth that is refused.
+//! The worked row of a lane whose two ends are in one thread, and a growth that is refused.
 ghost use Rattle.std.specs.Prelude.{◌<◌, ◌≤◌};
 ghost use Rattle.lane.specs.Lane.{SameLane};
 
-use lane::{Intake, LaneError, MAX_CAPACITY, Port, Refused, Taken, agree, lane};
+use lane::{Intake, LaneError, MAX_CAPACITY, Port, Refused, Taken, lane};
 use std::alloc::Global;
 use std::test::Fail;
-use test_values::prints;
 
 // The two ends of a lane.
 #[derive(Drop)]
@@ -27,9 +26,7 @@ impl Ends {
     // Makes the call and returns its answer.
     fn call(&mut self, alloc: Global, call: &str) -> Result<String, Fail> {
         match call {
-            "take" => taken(alloc, self.intake.take()),
-            "beside" => taken(alloc, self.intake.take_beside(&mut self.port)),
-            "agree" => Ok(format!(in alloc; "{}", agree(&mut self.port, &mut self.intake))?),
+            "take" => taken(alloc, self.intake.take_beside(&mut self.port)),
             "close" => {
                 self.port.close();
                 Ok(format!(in alloc; "closed")?)
@@ -56,8 +53,8 @@ fn sent(alloc: Global, sent: Result<(), Refused<u32>>) -> Result<String, Fail> {
     }
 }
 
-// Makes these calls of a lane of this capacity, each a word: a number is sent, and `beside` takes
-// beside the port. Tells the answers.
+// Makes these calls of a lane of this capacity, each a word: a number is sent, and `take` takes
+// beside the port. Returns the answers.
 fn answers(alloc: Global, capacity: usize, calls: &str) -> Result<String, Fail>
     requires some { 0 < capacity }
     requires limit { capacity ≤ MAX_CAPACITY }
@@ -69,15 +66,6 @@ fn answers(alloc: Global, capacity: usize, calls: &str) -> Result<String, Fail>
         answers.push(' ')?;
     }
     Ok(answers)
-}
-
-#[test]
-fn lane_of_one_beside(rt: HostRuntime) -> Result<(), Fail> {
-    let calls = "7 8 beside 8 close 9 beside beside beside";
-    let answers = answers(rt.alloc(), 1, calls)?;
-    let expected = "sent full:8 item:7 sent closed closed:9 item:8 end end ";
-    assert_eq!(rt; answers.as_str(), expected);
-    Ok(())
 }
 
 #[test]
@@ -105,10 +93,4 @@ fn one_growth_refused(rt: HostRuntime) {
     assert!(rt; first.is_ok() || again.is_ok());
     assert!(rt; carries_or_refused(first));
     assert!(rt; carries_or_refused(again));
-}
-
-#[test]
-fn refusal_prints_its_number(rt: HostRuntime) -> Result<(), Fail> {
-    assert!(rt; prints(rt.alloc(), &LaneError::Memory, "1 Memory")?);
-    Ok(())
 }

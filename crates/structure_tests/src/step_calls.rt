@@ -6,7 +6,7 @@ use std::alloc::Global;
 use std::process::Abort;
 use std::test::Fail;
 use stepmap::{MAX_LIMIT, StepError, StepMap, SweepEnd};
-use test_values::{prints, range};
+use test_values::range;
 
 // Writes the version between two keys.
 fn put(
@@ -114,14 +114,6 @@ fn limit_three_step_map(rt: HostRuntime) -> Result<(), Fail> {
     let mut written = Written::new(rt.alloc(), 3)?;
     write_and_prepare(&rt, rt.alloc(), &mut written)?;
     assert!(rt; has(written.map(), 1, ""));
-    Ok(())
-}
-
-#[test]
-fn refusals_print_their_numbers(rt: HostRuntime) -> Result<(), Fail> {
-    for (refusal, text) in [(StepError::Memory, "1 Memory"), (StepError::Full, "2 Full")] {
-        assert!(rt; prints(rt.alloc(), &refusal, text)?, "{text}");
-    }
     Ok(())
 }
 

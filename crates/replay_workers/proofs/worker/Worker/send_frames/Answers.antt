@@ -2,6 +2,7 @@ use Rattle.std.proofs.Common.{◌++◌, [], ◌∷◌, rules, sym, ap, subst, �
 use Rattle.keyspace.specs.declared.batch.Batch.{Batch}
 use Rattle.wire.specs.Frames.{frames_reader}
 use Rattle.replay_workers.specs.Worker.{TakesFrames}
+use Rattle.replay_workers.proofs.Keeping.{inbox_goes_on}
 use Rattle.replay_workers.proofs.callers.Reading.{takes_also}
 use Rattle.replay_workers.proofs.worker.Worker.send_frames.Goals as goal
 
@@ -39,3 +40,8 @@ loop-preserved g c =
         takes_also _ (g.S.Source.remaining (frames_reader c.loop.frames)) left before.sent.0 c.in-Ok-Some.batch before.sent.2 frame,
       );
     }
+
+pub returns-in-Err-send-clause-inbox : goal.returns-in-Err-send-clause-inbox
+returns-in-Err-send-clause-inbox g c =
+    inbox_goes_on c.args.self.now.inbox c.loop.self.inbox c.send.new.self.inbox c.loop.invariant.inbox
+    c.in-Err-send.ensures.inbox
