@@ -17,7 +17,6 @@ mod replay;
 mod report;
 mod stream;
 mod summary;
-mod writing;
 
 pub use check::{
     CheckReport, RepliesError, check_over, fail_to_read_replies, print_check, read_replies,

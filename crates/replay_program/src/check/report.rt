@@ -11,14 +11,13 @@ ghost use Rattle.replay_program.specs.Checked.{count_lines, differences_of, repl
 ghost use Rattle.replay_output.specs.Failures.{failure_lines, with_loss, NothingFailed};
 ghost use Rattle.replay_output.specs.Line.{answers_of};
 
-use crate::writing::write_and_flush;
 use checking::{Checked, check_all};
 use keyspace::Reply;
 use replay_output::{
     Ending, Line, PrintError, ProxyFailure, Status, note_loss, nothing_failed, print_failures,
 };
 use std::alloc::{AllocError, Global};
-use wire::{Failed, Sink};
+use wire::{Failed, Sink, write_and_flush};
 
 /// What was printed of a check, and how the program ends.
 #[derive(Debug, Drop)]

@@ -11,14 +11,13 @@ ghost use Rattle.replay_program.specs.Summarized.{TakesToSummarize, run_summary}
 ghost use Rattle.replay_summary.specs.Summary.{summary_of};
 ghost use Rattle.replay_summary.specs.Text.{text};
 
-use crate::writing::write_and_flush;
 use replay_output::{
     Ending, Line, PrintError, ProxyFailure, Report, Status, note_loss, nothing_failed,
     print_failures, sort_lines,
 };
 use replay_summary::{SummaryError, SummaryForm, summarize_all, summary_text};
 use std::alloc::Global;
-use wire::{Failed, Sink};
+use wire::{Failed, Sink, write_and_flush};
 
 /// Prints the summary of the answers to `out`, and flushes it. Then prints what failed to `error`, as
 /// [`print_failures`] does. `received` holds the lines of each proxy at its number, in the order in
