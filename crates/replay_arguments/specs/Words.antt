@@ -19,11 +19,10 @@ use Rattle.replay_output.specs.Filter.{least_version}
 use Rattle.replay_output.specs.Lines.{verdict_word}
 use Rattle.replay_output.specs.declared.options.filtering.Filter.{Filter}
 use Rattle.replay_output.specs.declared.options.form.Form.{Form}
-use Rattle.replay_output.specs.declared.options.form.Form.TheVariants.{Frames, Json, Kept}
-use Rattle.replay_output.specs.declared.options.form.Form.TheVariants as lines
+use Rattle.replay_output.specs.declared.options.form.Form.TheVariants.{Words, Frames, Json, Kept}
 use Rattle.replay_output.specs.declared.options.Options.{Options}
 use Rattle.replay_summary.specs.declared.text.SummaryForm.{SummaryForm}
-use Rattle.replay_summary.specs.declared.text.SummaryForm.TheVariants as summary
+use Rattle.replay_summary.specs.declared.text.SummaryForm.TheVariants as summaries
 use Rattle.replay_arguments.specs.declared.arguments.refusal.Refusal.{Refusal}
 use Rattle.replay_arguments.specs.declared.arguments.refusal.Refusal.TheVariants.{Memory, Refused, Shown}
 
@@ -297,8 +296,8 @@ HasRecordsEach rows = is_some (all_of (codes "replies") rows) ≡ true
 -- The summary that is found to be asked for: its form is that of the lines in whose place it is printed. Lines of frames, and
 -- replies that are kept, have no summary.
 abbrev pub summary_form : Form → Option SummaryForm
-summary_form lines.Words = Some summary.Words
-summary_form Json = Some summary.Json
+summary_form Words = Some summaries.Words
+summary_form Json = Some summaries.Json
 summary_form Frames = None
 summary_form Kept = None
 
