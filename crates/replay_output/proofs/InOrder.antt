@@ -64,10 +64,25 @@ module _ {X Y : Type 0} (tells : X → Y) (version : X → ℤ) (version_told : 
 
 not_before_lesser : (lesser version other : ℤ) → int_lt lesser version ≡ true → int_lt other version ≡ false
     → int_lt other lesser ≡ false
-not_before_lesser lesser version other below far = omega (arith, ints)
+not_before_lesser lesser version other below far =
+    elim (cases_Bool (int_lt other lesser)) [
+      | inl before ↦ absurd (never lesser version other below far before)
+      | inr behind ↦ behind
+    ]
+  where
+    never : (lesser version other : ℤ) → int_lt lesser version ≡ true → int_lt other version ≡ false
+        → int_lt other lesser ≡ true → ⊥
+    never lesser version other below far before = omega (arith, ints)
 
 not_before : (lesser version : ℤ) → int_lt lesser version ≡ true → int_lt version lesser ≡ false
-not_before lesser version below = omega (arith, ints)
+not_before lesser version below =
+    elim (cases_Bool (int_lt version lesser)) [
+      | inl before ↦ absurd (never lesser version below before)
+      | inr behind ↦ behind
+    ]
+  where
+    never : (lesser version : ℤ) → int_lt lesser version ≡ true → int_lt version lesser ≡ true → ⊥
+    never lesser version below before = omega (arith, ints)
 
 module _ {X : Type 0} (version : X → ℤ) where
   NoneBefore-lesser : (lesser least : ℤ) (xs : List X) → int_lt lesser least ≡ true → NoneBefore version least xs

@@ -8,8 +8,6 @@ use Rattle.keyspace.specs.declared.reply.Entry.{Entry}
 use Rattle.keyspace.specs.declared.reply.Verdict.{Verdict}
 use Rattle.keyspace.specs.declared.reply.Verdict.TheVariants.{Conflict, TooOld, Committed}
 use Rattle.replay_output.specs.declared.options.filtering.Filter.{Filter}
-use Rattle.replay_output.specs.declared.options.style.Style.{Style}
-use Rattle.replay_output.specs.declared.options.Options.{Options}
 
 -- the least number of 64 bits
 abbrev pub least_version : ℤ
@@ -43,15 +41,3 @@ abbrev pub is_shown : Filter → Answer → Bool
 is_shown filter answer =
     not filter.quiet && (has_verdict filter.only answer
     && (int_le filter.least (version_of_answer answer) && is_below filter.below (version_of_answer answer)))
-
--- the same filter, with which no line is shown
-abbrev pub quiet_filter : Filter → Filter
-quiet_filter filter = record filter { quiet = true }
-
--- the same style, with which no line is shown
-abbrev pub quiet_style : Style → Style
-quiet_style style = record style { filter = quiet_filter style.filter }
-
--- the same options, with which no line is shown
-abbrev pub quieted : Options → Options
-quieted options = record options { style = quiet_style options.style }

@@ -5,7 +5,7 @@ ghost use Rattle.keyspace.specs.declared.TheConstants.{WINDOW};
 ghost use Rattle.lane.specs.declared.ends.TheConstants.{MAX_CAPACITY};
 ghost use Rattle.conflict.specs.declared.conflict_set.TheConstants.{MAX_WINDOW};
 ghost use Rattle.stepmap.specs.declared.step_map.TheConstants.{MAX_LIMIT};
-ghost use Rattle.replay_output.specs.Filter.{all_lines, quieted};
+ghost use Rattle.replay_output.specs.Filter.{all_lines};
 ghost use Rattle.replay_output.specs.declared.options.form.Form.TheVariants.{Words};
 
 use conflict::MAX_WINDOW;
@@ -15,6 +15,7 @@ use stepmap::MAX_LIMIT;
 
 mod filtering;
 mod form;
+mod quieting;
 mod style;
 
 pub use filtering::Filter;
@@ -63,15 +64,6 @@ impl Options {
             limit,
             style,
         })
-    }
-
-    /// Returns the same options, with which no line of an answer is shown.
-    pub fn quieted(self) -> Self
-        ensures quieted { result ≡ quieted self }
-    {
-        let mut options = self;
-        options.style.filter.quiet = true;
-        options
     }
 }
 

@@ -30,7 +30,7 @@ use Rattle.replay_program.specs.Program.{
   Told,
 }
 use Rattle.replay_program.specs.Replayed.{HasFailed, IsReplayed, IsSummarized, Took, Written}
-use Rattle.replay_output.specs.Filter.{quieted}
+use Rattle.replay_output.specs.Quieted.{quieted}
 use Rattle.replay_output.specs.Start.{start_line}
 use Rattle.replay_summary.specs.declared.text.SummaryForm.{SummaryForm}
 use Rattle.replay_arguments.specs.Words.{AsksForText, IsMistaken, is_kept}

@@ -24,7 +24,7 @@ use Rattle.replay_program.specs.Replayed.{
   Written,
 }
 use Rattle.replay_program.specs.Replies.{IsCauseOf, IsReplyFile, replies_line}
-use Rattle.replay_output.specs.Filter.{quieted}
+use Rattle.replay_output.specs.Quieted.{quieted}
 use Rattle.replay_output.specs.Start.{start_line}
 use Rattle.replay_summary.specs.declared.text.SummaryForm.{SummaryForm}
 use Rattle.replay_arguments.specs.Words.{

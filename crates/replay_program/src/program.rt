@@ -8,7 +8,7 @@ ghost use Rattle.replay_arguments.specs.Opening.{IsFirstRefused, contents_each};
 ghost use Rattle.replay_program.specs.Program.{ChecksFiles, FailsOnFiles, FailsToCheck};
 ghost use Rattle.replay_program.specs.Program.{FailsOnStream, HasDifferences, IsDone, IsFailed};
 ghost use Rattle.replay_program.specs.Program.{FailsOnSummary, HaveWriters, StreamsFiles, Told};
-ghost use Rattle.replay_output.specs.Filter.{quieted};
+ghost use Rattle.replay_output.specs.Quieted.{quieted};
 ghost use Rattle.replay_stream.specs.Sinks.{state_by};
 ghost use Rattle.replay_program.specs.Replayed.{IsReplayed, IsSummarized, written};
 ghost use Rattle.replay_arguments.specs.Words.{IsMistaken};
