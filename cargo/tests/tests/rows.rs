@@ -37,10 +37,7 @@ fn rejected_by_the_history_writes_nothing() {
         set(10, MAX_LIMIT),
         &[
             ("-1>100: W[a,b)", "100 committed"),
-            (
-                "100>105: W[a,b); R[a,b) W[x,y) @80; R[a,b) W[x,y) @95; R[x,y) @105",
-                "105 committed tooold conflict committed",
-            ),
+            ("100>105: W[a,b); R[a,b) W[x,y) @80; R[a,b) W[x,y) @95; R[x,y) @105", "105 committed tooold conflict committed"),
             ("105>106: R[a,b) W[x,y) @80; R[a,b) W[x,y) @100; R[x,y) @106", "106 tooold conflict committed"),
         ],
     );
@@ -92,11 +89,7 @@ fn limit_three_refused() {
 type Row = &'static [&'static str];
 
 const ROWS: [Row; 7] = [
-    &[
-        "0 -1>0 -> 0 0 empty",
-        "0 0>100: W[a,b) -> 0 100 committed",
-        "0 100>200: R[a,b) @100 -> 0 200 committed",
-    ],
+    &["0 -1>0 -> 0 0 empty", "0 0>100: W[a,b) -> 0 100 committed", "0 100>200: R[a,b) @100 -> 0 200 committed"],
     &[
         "0 -1>0 -> 0 0 empty",
         "0 0>100: W[a,b) W[e,f) -> 0 100 committed",
@@ -105,13 +98,7 @@ const ROWS: [Row; 7] = [
     &["0 -1>0 -> 0 0 empty", "1 0>100 -> 1 100 empty", "0 0>100 -> 0 100 never"],
     &["0 -1>0 -> 0 0 empty", "0 100>200", "0 100>200", "0 0>100 -> 0 100 empty; 0 200 empty; 0 200 empty"],
     &["0 -1>0 -> 0 0 empty", "0 150>300", "0 100>200", "0 0>100 -> 0 100 empty; 0 200 empty; 0 300 never"],
-    &[
-        "0 -1>0 -> 0 0 empty",
-        "0 150>160",
-        "1 100>200",
-        "1 50>55",
-        "0 0>100 -> 0 100 empty; 1 55 never; 1 200 empty; 0 160 never",
-    ],
+    &["0 -1>0 -> 0 0 empty", "0 150>160", "1 100>200", "1 50>55", "0 0>100 -> 0 100 empty; 1 55 never; 1 200 empty; 0 160 never"],
     &[
         "0 -1>0 -> 0 0 empty",
         "0 0>100 -> 0 100 empty",

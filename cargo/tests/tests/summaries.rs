@@ -95,6 +95,12 @@ fn the_total_of_two_proxies() {
     assert_eq!(total(&summaries), Some(both));
 }
 
+/// A caller keeps one per answer.
+#[test]
+fn a_counted_answer_has_24_bytes() {
+    assert_eq!(size_of::<Counted>(), 24);
+}
+
 #[test]
 fn numbers_beyond_64_bits_are_refused() {
     let half = Summary { held: usize::MAX / 2 + 1, ..Summary::empty() };

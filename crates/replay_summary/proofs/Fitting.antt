@@ -1,8 +1,9 @@
 -- If the numbers of a summary fit in 64 bits, so do those of the summary of its first answers.
-use Rattle.std.specs.Prelude.{◌≡◌, ℕ, ◌+◌, ◌≤◌, ◌<◌, ◌^◌, Bool, List, [], ◌++◌, length, map, take, drop, sum_by, count_by}
+use Rattle.std.specs.Prelude.{◌≡◌, ℕ, ◌+◌, ◌≤◌, ◌<◌, ◌^◌, Bool, List, [], ◌++◌, length, take, drop, sum_by, Option, Some, None, IfNone}
 use Rattle.std.proofs.Common.{refl, sym, ap, subst, ◌∙◌, arith, length-append}
 use Rattle.std.proofs.lemmas.List.Sums.{sum_by-append, sum_by-take-le}
 use Rattle.replay_summary.specs.declared.counted.Counted.{Counted}
+use Rattle.replay_summary.specs.declared.summary.Summary.{Summary}
 use Rattle.replay_summary.specs.Summary.{
   Fits,
   first_replies,
@@ -13,6 +14,7 @@ use Rattle.replay_summary.specs.Summary.{
   says_never,
   selected,
   summary_of,
+  total_of,
   transactions_in,
   verdicts,
 }
@@ -43,3 +45,20 @@ fewer_fit cs k fits = record {
   never = below_too _ _ (sum_by-take-le _ cs k) fits.never;
   held = below_too _ _ (sum_by-take-le _ cs k) fits.held;
 }
+
+pub fewer_fit_in_total : (ss : List Summary) (k : ℕ) → Fits (total_of ss) → Fits (total_of (take k ss))
+fewer_fit_in_total ss k fits = record {
+  batches = below_too _ _ (sum_by-take-le _ ss k) fits.batches;
+  transactions = below_too _ _ (sum_by-take-le _ ss k) fits.transactions;
+  committed = below_too _ _ (sum_by-take-le _ ss k) fits.committed;
+  conflict = below_too _ _ (sum_by-take-le _ ss k) fits.conflict;
+  too_old = below_too _ _ (sum_by-take-le _ ss k) fits.too_old;
+  repeats = below_too _ _ (sum_by-take-le _ ss k) fits.repeats;
+  never = below_too _ _ (sum_by-take-le _ ss k) fits.never;
+  held = below_too _ _ (sum_by-take-le _ ss k) fits.held;
+}
+
+-- what is said if there is none
+pub if_none : {A P : Type 0} (found : Option A) → P → IfNone found P
+if_none None p = p
+if_none (Some a) p = tt

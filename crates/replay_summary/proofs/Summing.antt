@@ -1,4 +1,4 @@
--- The summary of one more answer.
+-- The summary of one more answer, and the total of one more summary.
 use Rattle.std.specs.Prelude.{◌≡◌, ℕ, ◌+◌, ℤ, Bool, true, false, not, cond, ◌&&◌, List, [], ◌∷◌, ◌++◌, length, map, filter, fold, sum_by, count_by, Option, None, Some}
 use Rattle.std.specs.List.{list_any}
 use Rattle.std.specs.Ordering.{int_eq}
@@ -10,6 +10,7 @@ use Rattle.replay_summary.specs.declared.counts.Counts.{Counts}
 use Rattle.replay_summary.specs.declared.counted.Counted.{Counted}
 use Rattle.replay_summary.specs.declared.counted.Outcome.{Outcome}
 use Rattle.replay_summary.specs.declared.counted.Outcome.TheVariants.{Replied, Never, Held}
+use Rattle.replay_summary.specs.declared.summary.Summary.{Summary}
 use Rattle.replay_summary.specs.declared.versions.Versions.{Versions}
 use Rattle.replay_summary.specs.Adding.{is_last, part, plus}
 use Rattle.replay_summary.specs.Counted.{version_of}
@@ -28,6 +29,7 @@ use Rattle.replay_summary.specs.Summary.{
   span,
   spanning,
   summary_of,
+  total_of,
   transactions_in,
   verdicts,
 }
@@ -171,3 +173,20 @@ pub summary_next : (cs : List Counted) (c : Counted) → NoneAbove version_of c.
     ≡ plus (summary_of cs) (part (is_last c.version (summary_of cs).versions) c.version c.outcome)
 summary_next cs c none =
     summary_more cs c _ (last_seen c.version (reply_versions cs) (NoneAbove-replies c.version cs none))
+
+pub total_next : (ss : List Summary) (s : Summary) → total_of (ss ++ s ∷ []) ≡ plus (total_of ss) s
+total_next ss s =
+    let versions : span (map (λ (x : Summary). x.versions) (ss ++ s ∷ [])) ≡ spanning (total_of ss).versions s.versions =
+    ap span (map-append (λ (x : Summary). x.versions) ss (s ∷ []))
+    ∙ fold-append spanning None (map (λ (x : Summary). x.versions) ss) (s.versions ∷ []) in
+    λ i. record {
+      batches = sum_by_push (λ (x : Summary). x.batches) ss s i;
+      transactions = sum_by_push (λ (x : Summary). x.transactions) ss s i;
+      committed = sum_by_push (λ (x : Summary). x.committed) ss s i;
+      conflict = sum_by_push (λ (x : Summary). x.conflict) ss s i;
+      too_old = sum_by_push (λ (x : Summary). x.too_old) ss s i;
+      repeats = sum_by_push (λ (x : Summary). x.repeats) ss s i;
+      never = sum_by_push (λ (x : Summary). x.never) ss s i;
+      held = sum_by_push (λ (x : Summary). x.held) ss s i;
+      versions = versions i;
+    }

@@ -1,5 +1,5 @@
 -- The summary of the counted answers of items.
-use Rattle.std.specs.Prelude.{◌≡◌, ℕ, ◌+◌, ◌<◌, ℤ, Bool, List, [], ◌∷◌, ◌++◌, All, Option, Some, None, IfNone, length, map, take, slice_index_or as get_or}
+use Rattle.std.specs.Prelude.{◌≡◌, ℕ, ◌+◌, ◌<◌, ℤ, Bool, List, [], ◌∷◌, ◌++◌, All, length, map, take, slice_index_or as get_or}
 use Rattle.std.proofs.Common.{refl, sym, ap, subst, ◌∙◌, arith}
 use Rattle.std.proofs.lemmas.List.{take_more, map-append, take-map, get_or-map, length-map}
 use Rattle.checking.specs.InOrder.{Rise}
@@ -50,13 +50,8 @@ next_told told xs i x c last added before rise inside is is_told is_so_far is_la
     ∙ ap (λ (b : Bool). part b (told x).version (told x).outcome) seen in
     ap (λ (s : Summary). plus s added) is_so_far ∙ ap (plus (so_far told xs i)) adds ∙ sym (summary_told told xs i x rise inside is)
 
--- the items of one of several lists rise
-pub rise_at : {X W : Type 0} (view : W → List X) (version : X → ℤ) (ws : List W) (i : ℕ) (w : W) → All (Rise version) (map view ws)
-    → i < length ws → w ≡ get_or ws i w → Rise version (view w)
-rise_at view version ws i w rise inside is =
-    subst (λ l. Rise version l) (get_or-map view ws i w (view w) inside ∙ ap view (sym is))
-    (rise i (view w) (omega (arith, length-map ws view)))
-
-pub if_none : {A : Type 0} {P : Type 0} (found : Option A) → P → IfNone found P
-if_none None p = p
-if_none (Some a) p = tt
+-- what holds of all, as they are seen, holds of one
+pub holds_at : {W Y : Type 0} (view : W → Y) (P : Y → Type 0) (ws : List W) (i : ℕ) (w : W) → All P (map view ws) → i < length ws
+    → w ≡ get_or ws i w → P (view w)
+holds_at view P ws i w all inside is =
+    subst P (get_or-map view ws i w (view w) inside ∙ ap view (sym is)) (all i (view w) (omega (arith, length-map ws view)))

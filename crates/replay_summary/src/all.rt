@@ -11,8 +11,8 @@ use crate::one::summarize;
 use crate::summary::Summary;
 use std::alloc::Global;
 
-/// Returns the summary of the answers to each proxy. Those to a proxy are sorted by version. An error
-/// is `Memory` if all numbers are within 64 bits.
+/// Returns the summary of the answers to each proxy. Those to a proxy are sorted by version. An
+/// error is `Memory` if all numbers are within 64 bits.
 pub fn summarize_all<T: HasCounted>(
     alloc: Global,
     answers: &[Vec<T>],

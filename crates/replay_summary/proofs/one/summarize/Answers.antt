@@ -4,7 +4,8 @@ use Rattle.replay_summary.specs.declared.counted.Counted.{Counted}
 use Rattle.replay_summary.specs.declared.summary.Summary.{Summary}
 use Rattle.replay_summary.specs.Adding.{is_last, part, plus}
 use Rattle.replay_summary.specs.Summary.{Fits, summary_of}
-use Rattle.replay_summary.proofs.Told.{fits_told, if_none, next_told}
+use Rattle.replay_summary.proofs.Fitting.{if_none}
+use Rattle.replay_summary.proofs.Told.{fits_told, next_told}
 use Rattle.replay_summary.proofs.one.summarize.Goals as goal
 
 pub loop-answer-preserved : goal.loop-answer-preserved
