@@ -1,5 +1,5 @@
 use Rattle.std.proofs.Common.{[], map, get_or}
-use Rattle.proved_callers.proofs.serving.serve_two.Given as goal
+use Rattle.proved_callers.proofs.serving.serve.Given as goal
 
 abbrev pub ghost-receive_all : goal.ghost-receive_all
 ghost-receive_all a =
