@@ -61,6 +61,9 @@ fn push_options(alloc: Global, text: &mut String, line: &CommandLine) -> Result<
     if line.is_streamed {
         text.push_str(" stream")?;
     }
+    if let Some(form) = line.summary {
+        text.push_str(&format!(in alloc; " summary {form:?}")?)?;
+    }
     push_names(text, &line.replies)?;
     push_names(text, &line.records)
 }
@@ -178,6 +181,14 @@ fn refused_words(rt: HostRuntime) -> Result<(), Fail> {
         "--quiet --check r f",
         "--only conflict --check r f",
         "--versions .. --check r f",
+        "--summary --summary f",
+        "--summary=yes f",
+        "--summary --check r f",
+        "--summary --stream f",
+        "--summary --frames f",
+        "--summary --quiet f",
+        "--summary --only tooold f",
+        "--summary --versions .. f",
     ] {
         refuses(&rt, given)?;
     }
@@ -222,6 +233,10 @@ fn reasons_of_refusals(rt: HostRuntime) -> Result<(), Fail> {
             "error: --replies OUT is wanted once a file\n",
         ),
         (
+            "--summary --quiet f",
+            "error: --summary is wanted without --check, --stream, --frames, --quiet, --only and --versions\n",
+        ),
+        (
             "- f -",
             "error: standard input (-) can be given only once\n",
         ),
@@ -254,6 +269,11 @@ fn words_and_options(rt: HostRuntime) -> Result<(), Fail> {
         ),
         ("a --stream b", "a b | 16 5000000 1000000 stream"),
         ("--quiet a", "a | 16 5000000 1000000 quiet"),
+        ("--summary a", "a | 16 5000000 1000000 summary Words"),
+        (
+            "a --json --summary b",
+            "a b | 16 5000000 1000000 json summary Json",
+        ),
         (
             "--only committed a --stream",
             "a | 16 5000000 1000000 only Committed stream",
@@ -329,6 +349,7 @@ fn version_and_help(rt: HostRuntime) -> Result<(), Fail> {
         "      --quiet\n          Prints no lines of answers\n",
         "      --only <VERDICT>\n          Prints only replies that have this verdict: committed, conflict or tooold\n",
         "      --versions <A..B>\n          Prints only versions from A to below B; each can be omitted\n",
+        "      --summary\n          Prints a summary in place of the answers: a line for each proxy and one for all\n",
         "      --check <REPLIES>\n          Compares with the reply frames of another resolver; once a FILE, in order\n",
         "      --stream\n          Prints each answer as it comes, in the order of each proxy\n",
         "      --replies <OUT>\n          With --stream, writes the records of answers to a file; once a FILE, in order\n",
