@@ -1,6 +1,5 @@
 -- What is printed of answers that are summarized. This project's own.
-use Rattle.std.specs.Prelude.{◌≡◌, ℕ, ◌+◌, ◌<◌, ◌⊎◌, List, length, map}
-use Rattle.checking.specs.Check.{count_at}
+use Rattle.std.specs.Prelude.{◌≡◌, ℕ, ◌+◌, ◌⊎◌, List, length, map}
 use Rattle.keyspace.specs.declared.answer.Answer.{Answer}
 use Rattle.replay_summary.specs.declared.text.SummaryForm.{SummaryForm}
 use Rattle.replay_summary.specs.Counted.{counted_of}
