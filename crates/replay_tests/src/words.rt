@@ -349,7 +349,7 @@ fn version_and_help(rt: HostRuntime) -> Result<(), Fail> {
         "      --quiet\n          Prints no lines of answers\n",
         "      --only <VERDICT>\n          Prints only replies that have this verdict: committed, conflict or tooold\n",
         "      --versions <A..B>\n          Prints only versions from A to below B; each can be omitted\n",
-        "      --summary\n          Prints a summary in place of the answers: a line for each proxy and one for all\n",
+        "      --summary\n          Prints a summary instead of the answers: one line per proxy and one for all\n",
         "      --check <REPLIES>\n          Compares with the reply frames of another resolver; once a FILE, in order\n",
         "      --stream\n          Prints each answer as it comes, in the order of each proxy\n",
         "      --replies <OUT>\n          With --stream, writes the records of answers to a file; once a FILE, in order\n",

@@ -143,7 +143,7 @@ fn summary<'a>(alloc: Global) -> Arg<'a>
     Arg::new(alloc, "summary")
         .long("summary")
         .action(ArgAction::SetTrue)
-        .help("Prints a summary in place of the answers: a line for each proxy and one for all")
+        .help("Prints a summary instead of the answers: one line per proxy and one for all")
 }
 
 fn check<'a>(alloc: Global) -> Arg<'a>
