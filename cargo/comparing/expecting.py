@@ -5,7 +5,7 @@ from collections.abc import Sequence
 from .case import Outcome
 from .lines import batch_line, batch_table, reply_line, reply_table
 from .reading import frames, read_batch, read_reply
-from .reference import ALL_LINES, WINDOW, Filter, Unspecified, checked, lines_of, resolve
+from .reference import ALL_LINES, WINDOW, Filter, Unspecified, checked, lines_of, resolve, summary_of
 from .wire import Batch
 
 
@@ -19,6 +19,7 @@ def replay_outcome(
     window: int = WINDOW,
     replies: Sequence[bytes] | None = None,
     shown: Filter = ALL_LINES,
+    is_summary: bool = False,
 ) -> Outcome | None:
     """Returns what `replay` prints for these files, or nothing if the run would meet a stop."""
     recorded, replies_faults = [], []
@@ -33,7 +34,12 @@ def replay_outcome(
         answers = resolve(batches, window)
     except Unspecified:
         return None
-    text, differences = (lines_of(answers, form, shown), 0) if replies is None else checked(answers, recorded)
+    if is_summary:
+        text, differences = summary_of(answers, form == "json"), 0
+    elif replies is None:
+        text, differences = lines_of(answers, form, shown), 0
+    else:
+        text, differences = checked(answers, recorded)
     status = 1 if any(faults) else 3 if differences else 0
     return Outcome(status, text.encode(), fault_lines(faults, "proxy").encode())
 

@@ -3,6 +3,7 @@
 It keeps all writes, and has no limit on boundaries. Of a gate that fills it says nothing.
 """
 
+import json
 from bisect import bisect_left, bisect_right
 from collections.abc import Sequence
 from dataclasses import dataclass, field
@@ -176,6 +177,43 @@ def line_of(proxy: int, answer: Answer, form: str) -> str:
 
 def lines_of(answers: Sequence[Sequence[Answer]], form: str, shown: Filter = ALL_LINES) -> str:
     return "".join(line_of(proxy, answer, form) for proxy, some in enumerate(answers) for answer in some if shown.shows(answer))
+
+
+def counts_of(answers: Sequence[Sequence[Answer]]) -> tuple[dict[str, int], tuple[int, int] | None]:
+    """Counts the answers to some proxies, of which each has them in order of versions. Returns the least and the greatest version too."""
+    first, others = [], []
+    for some in answers:
+        replies = [answer for answer in some if answer.reply is not None]
+        versions = [answer.version for answer in replies]
+        for place, answer in enumerate(replies):
+            (others if answer.version in versions[:place] else first).append(answer.reply)
+    verdicts = [entry.verdict for reply in first for entry in reply.entries]
+    words = [answer.word for some in answers for answer in some]
+    counts = {"batches": len(first), "transactions": len(verdicts)}
+    counts |= {verdict: verdicts.count(verdict) for verdict in ("committed", "conflict", "tooold")}
+    counts |= {"repeats": len(others), "never": words.count("never"), "held": words.count("held")}
+    versions = [reply.version for reply in first]
+    return counts, (min(versions), max(versions)) if versions else None
+
+
+def summary_words(name: str, answers: Sequence[Sequence[Answer]]) -> str:
+    counts, ends = counts_of(answers)
+    versions = "none" if ends is None else f"{ends[0]} to {ends[1]}"
+    return f"{name}: {', '.join(f'{word} {count}' for word, count in counts.items())}, versions {versions}\n"
+
+
+def summary_members(answers: Sequence[Sequence[Answer]]) -> dict[str, object]:
+    counts, ends = counts_of(answers)
+    return counts | {"versions": None if ends is None else {"first": ends[0], "last": ends[1]}}
+
+
+def summary_of(answers: Sequence[Sequence[Answer]], is_json: bool) -> str:
+    """Returns the text that `--summary` prints."""
+    if is_json:
+        proxies = [{"proxy": proxy} | summary_members([some]) for proxy, some in enumerate(answers)]
+        return json.dumps({"proxies": proxies} | summary_members(answers), separators=(",", ":")) + "\n"
+    lines = [summary_words(f"proxy {proxy}", [some]) for proxy, some in enumerate(answers)]
+    return "".join(lines) + summary_words("all", answers)
 
 
 def differences_of(expected: Reply, found: Reply) -> list[str]:

@@ -71,12 +71,16 @@ def names_of(files: Sequence[bytes]) -> dict[str, bytes]:
 
 def draw_run(chance: Random, files: Sequence[bytes], window: int | None, is_known: bool = True) -> Run:
     """A run in one of the forms, with what the rules say of it if they are to be asked."""
-    form = chance.choice(FORMS)
-    chosen, shown = draw_filter(chance)
+    form, is_summary = chance.choice(FORMS), chance.random() < 0.1
+    if is_summary:
+        form = "words" if form == "frames" else form
+        chosen, shown = ["--summary"], ALL_LINES
+    else:
+        chosen, shown = draw_filter(chance)
     flags = chosen if form == "words" else [*chosen, f"--{form}"]
     options, names = draw_options(chance, window), list(names_of(files))
     args = chance.choice(([*flags, *options, *names], [*options, *names, *flags], [*names, *flags, *options]))
-    expected = replay_outcome(files, form, window or WINDOW, shown=shown) if is_known else None
+    expected = replay_outcome(files, form, window or WINDOW, shown=shown, is_summary=is_summary) if is_known else None
     return Run("replay", tuple(args), expected=expected)
 
 

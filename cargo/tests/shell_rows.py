@@ -19,6 +19,7 @@ BATCHES: dict[str, Parts] = {
     "late": (*(f"{version - 1}>{version}" for version in range(20, 36)), "-1>0"),
     "empty": (),
     "overtaken": ("-1>0", "150>300", "100>200: W[a,b)", "0>100"),
+    "again": ("-1>0", "0>100: W[a,b)", "0>100: W[a,b)", "-1>0", "0>100: W[a,b)"),
     "--frames": (FIRST_RUN,),
     "n\u00e4me of words": (FIRST_RUN,),
 }
@@ -227,7 +228,59 @@ ARGUMENTS = (
     ShellRow(("--stream", "--replies", "-", "empty", "--replies=/dev/stderr", "third"), "1 300 held\n", HELD_RECORD),
 )
 
-ROWS = ANSWERS + FAILURES + CHECKS + STREAMS + RECORDS + FILTERS + ARGUMENTS
+def counted(name: str, counts: tuple[int, ...], versions: str) -> str:
+    """The line of a summary."""
+    words = ("batches", "transactions", "committed", "conflict", "tooold", "repeats", "never", "held")
+    return f"{name}: {', '.join(f'{word} {count}' for word, count in zip(words, counts, strict=True))}, versions {versions}\n"
+
+
+def alone(*counts: int, versions: str) -> str:
+    """The summary of a run of one proxy."""
+    return counted("proxy 0", counts, versions) + counted("all", counts, versions)
+
+
+# A summary in place of lines.
+TWO_COUNTED = (
+    counted("proxy 0", (2, 1, 1, 0, 0, 0, 0, 0), "0 to 100")
+    + counted("proxy 1", (1, 1, 0, 1, 0, 0, 0, 0), "200 to 200")
+    + counted("all", (3, 2, 1, 1, 0, 0, 0, 0), "0 to 200")
+)
+NOTHING = alone(0, 0, 0, 0, 0, 0, 0, 0, versions="none")
+SUMMARIES = (
+    ShellRow(("--summary", "first"), alone(2, 1, 1, 0, 0, 0, 0, 0, versions="0 to 100")),
+    ShellRow(("first", "--summary", "second"), TWO_COUNTED),
+    ShellRow(
+        ("--summary", "conflict", "--window=1", "--capacity", "1"),
+        alone(3, 3, 2, 0, 1, 0, 0, 0, versions="0 to 101"),
+    ),
+    ShellRow(("--summary", "again"), alone(2, 1, 1, 0, 0, 3, 0, 0, versions="0 to 100")),
+    ShellRow(("--summary", "overtaken"), alone(3, 1, 1, 0, 0, 0, 1, 0, versions="0 to 200")),
+    ShellRow(
+        ("--summary", "second", "third"),
+        counted("proxy 0", (0, 0, 0, 0, 0, 0, 0, 1), "none")
+        + counted("proxy 1", (0, 0, 0, 0, 0, 0, 0, 1), "none")
+        + counted("all", (0, 0, 0, 0, 0, 0, 0, 2), "none"),
+    ),
+    ShellRow(("--summary", "empty"), NOTHING),
+    ShellRow(("--summary", "-"), alone(2, 1, 1, 0, 0, 0, 0, 0, versions="0 to 100"), stdin="first"),
+    ShellRow(
+        ("--json", "--summary", "first", "empty"),
+        '{"proxies":[{"proxy":0,"batches":2,"transactions":1,"committed":1,"conflict":0,"tooold":0,"repeats":0,"never":0,'
+        '"held":0,"versions":{"first":0,"last":100}},{"proxy":1,"batches":0,"transactions":0,"committed":0,"conflict":0,'
+        '"tooold":0,"repeats":0,"never":0,"held":0,"versions":null}],"batches":2,"transactions":1,"committed":1,'
+        '"conflict":0,"tooold":0,"repeats":0,"never":0,"held":0,"versions":{"first":0,"last":100}}\n',
+    ),
+    ShellRow(("--summary", "cut"), alone(1, 0, 0, 0, 0, 0, 0, 0, versions="0 to 0"), SHORT, 1),
+    ShellRow(
+        ("--summary", "writes", "--limit", "3"),
+        alone(2, 1, 1, 0, 0, 0, 0, 0, versions="0 to 100"),
+        "replay: stop 3 ArenaFull\n",
+        1,
+    ),
+    ShellRow(("--summary", "first", "none"), "", "replay: proxy 1: cannot open\n", 1),
+)
+
+ROWS = ANSWERS + FAILURES + CHECKS + STREAMS + RECORDS + FILTERS + ARGUMENTS + SUMMARIES
 
 # Refused with status 2 and a text of `clap` on standard error. Nothing is on standard output.
 REFUSED: tuple[tuple[str | bytes, ...], ...] = (
@@ -314,6 +367,18 @@ REFUSED: tuple[tuple[str | bytes, ...], ...] = (
     ("--versions", "..", "--check", "same", "first"),
     ("--quiet", "--json", "--frames", "first"),
     ("--quiet", "--replies", "out", "first"),
+    ("--summary",),
+    ("--summary", "--summary", "first"),
+    ("--summary=yes", "first"),
+    ("--summary", "--check", "same", "first"),
+    ("--summary", "--stream", "first"),
+    ("--summary", "--stream", "--replies", "out", "first"),
+    ("--summary", "--replies", "out", "first"),
+    ("--summary", "--frames", "first"),
+    ("--summary", "--frames", "--json", "first"),
+    ("--summary", "--quiet", "first"),
+    ("--summary", "--only", "committed", "first"),
+    ("--summary", "--versions", "..", "first"),
     (b"\xff",),
     ("first", b"sec\xc3ond"),
     ("--help", b"\xff"),

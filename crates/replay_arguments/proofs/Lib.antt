@@ -2,4 +2,5 @@ pub mod Numbers
 pub mod Getters
 pub mod Filters
 pub mod Refusals
+pub mod Summaries
 pub mod Openings

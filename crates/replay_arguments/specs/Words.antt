@@ -19,8 +19,10 @@ use Rattle.replay_output.specs.Filter.{least_version}
 use Rattle.replay_output.specs.Lines.{verdict_word}
 use Rattle.replay_output.specs.declared.options.filtering.Filter.{Filter}
 use Rattle.replay_output.specs.declared.options.form.Form.{Form}
-use Rattle.replay_output.specs.declared.options.form.Form.TheVariants.{Frames, Json, Kept}
+use Rattle.replay_output.specs.declared.options.form.Form.TheVariants.{Words, Frames, Json, Kept}
 use Rattle.replay_output.specs.declared.options.Options.{Options}
+use Rattle.replay_summary.specs.declared.text.SummaryForm.{SummaryForm}
+use Rattle.replay_summary.specs.declared.text.SummaryForm.TheVariants as summaries
 use Rattle.replay_arguments.specs.declared.arguments.refusal.Refusal.{Refusal}
 use Rattle.replay_arguments.specs.declared.arguments.refusal.Refusal.TheVariants.{Memory, Refused, Shown}
 
@@ -59,6 +61,9 @@ only_rule = record (new_rule (codes "only")) { long = Some (codes "only"); value
 abbrev pub versions_rule : Rule
 versions_rule = record (new_rule (codes "versions")) { long = Some (codes "versions"); value_names = 1 }
 
+abbrev pub summary_rule : Rule
+summary_rule = record (new_rule (codes "summary")) { long = Some (codes "summary"); action = Some SetTrue }
+
 -- an option `--check REPLIES`, any number of times
 abbrev pub check_rule : Rule
 check_rule = record (new_rule (codes "check")) {
@@ -85,14 +90,14 @@ file_rule = record (new_rule (codes "FILE")) { action = Some Append; required = 
 abbrev pub plain_app : App
 plain_app = new_app (codes "replay")
 
--- `replay [--capacity N] [--window N] [--limit N] [--frames] [--json] [--quiet] [--only VERDICT] [--versions A..B] [--check REPLIES]..
--- [--stream] [--replies OUT].. FILE..`, with `--help` and `--version`
+-- `replay [--capacity N] [--window N] [--limit N] [--frames] [--json] [--quiet] [--only VERDICT] [--versions A..B] [--summary]
+-- [--check REPLIES].. [--stream] [--replies OUT].. FILE..`, with `--help` and `--version`
 unfoldable pub replay_app : App
 replay_app =
     with_rule (with_rule (with_rule (with_rule (with_rule (with_rule (with_rule (with_rule (with_rule (with_rule (with_rule (with_rule
-    (record plain_app { top = record plain_app.top { has_version = true } })
+    (with_rule (record plain_app { top = record plain_app.top { has_version = true } })
     capacity_rule) window_rule) limit_rule) frames_rule) json_rule) quiet_rule) only_rule) versions_rule)
-    check_rule) stream_rule) replies_rule) file_rule
+    summary_rule) check_rule) stream_rule) replies_rule) file_rule
 
 abbrev pub is_frames : Form → Bool
 is_frames Frames = true
@@ -288,13 +293,36 @@ abbrev pub HasRecordsEach : List Row → Type 0
 HasRecordsEach rows = is_some (all_of (codes "replies") rows) ≡ true
     → IfSome (all_of (codes "FILE") rows) (λ names. HasRecords (length names) rows)
 
+-- The summary that is found to be asked for: its form is that of the lines in whose place it is printed. Lines of frames, and
+-- replies that are kept, have no summary.
+abbrev pub summary_form : Form → Option SummaryForm
+summary_form Words = Some summaries.Words
+summary_form Json = Some summaries.Json
+summary_form Frames = None
+summary_form Kept = None
+
+abbrev pub HoldsSummary : List Row → Form → Option SummaryForm → Type 0
+HoldsSummary rows form None = one_of (codes "summary") rows ≡ Some (bool_text false)
+HoldsSummary rows form (Some summary) = (one_of (codes "summary") rows ≡ Some (bool_text true)) × (summary_form form ≡ Some summary)
+
+-- nothing is found beside a summary that says what to print in place of it
+pub record IsAlone (rows : List Row) : Type 0 where
+  pub frames : one_of (codes "frames") rows ≡ Some (bool_text false)
+  pub check : is_some (all_of (codes "check") rows) ≡ false
+  pub stream : HoldsStream rows false
+  pub all : AsksForAll rows
+
+-- a summary is found to be asked for or not, and if it is, nothing else to print
+abbrev pub HasSummary : List Row → Type 0
+HasSummary rows = (asked : Bool) × (one_of (codes "summary") rows ≡ Some (bool_text asked)) × (asked ≡ true → IsAlone rows)
+
 -- the arguments that are found are of no use: two forms, a filter that is none or beside a comparison, a number out of its range, no files
--- or too many, other than one file of replies a file, standard input twice, answers that are to be compared as they come, or other than
--- one file for records a file
+-- or too many, other than one file of replies a file, standard input twice, answers that are to be compared as they come, other than one
+-- file for records a file, or a summary beside another option that says what to print
 abbrev pub IsOfNoUse : List Row → Type 0
 IsOfNoUse rows = (¬ HasForm rows)
     ⊎ ((¬ HasNumbers rows) ⊎ ((¬ HasFiles rows) ⊎ ((¬ HasRepliesEach rows) ⊎ ((¬ HasInputOnce rows)
-    ⊎ ((¬ HasStream rows) ⊎ ((¬ HasRecordsEach rows) ⊎ (¬ HasFilter rows)))))))
+    ⊎ ((¬ HasStream rows) ⊎ ((¬ HasRecordsEach rows) ⊎ ((¬ HasFilter rows) ⊎ (¬ HasSummary rows))))))))
 
 -- The words are mistaken: `clap` finds a mistake, or else the arguments that it finds are of no use.
 abbrev pub IsMistaken : List (List ℕ) → Type 0

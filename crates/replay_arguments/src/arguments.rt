@@ -8,15 +8,18 @@ ghost use Rattle.replay_arguments.specs.Words.{HasInputOnce, HasNumbers, HasRepl
 ghost use Rattle.replay_arguments.specs.Words.{HoldsNumbers};
 ghost use Rattle.replay_arguments.specs.Words.{HoldsOptions, IsFormOf, IsMistaken, IsRefusalBy};
 ghost use Rattle.replay_arguments.specs.Words.{IsRefusalOf, IsTaken, faults_of, rows_of_words};
-ghost use Rattle.replay_arguments.specs.Words.{HasRecords, HasStream, HoldsStream, named};
+ghost use Rattle.replay_arguments.specs.Words.{HasRecords, HasStream, HoldsStream, HoldsSummary};
+ghost use Rattle.replay_arguments.specs.Words.{IsAlone, named};
 ghost use Rattle.clap.specs.declared.error.kind.ErrorKind.{ErrorKind};
 ghost use Rattle.replay_output.specs.declared.options.form.Form.{Form as FormValue};
 
 use crate::arguments::filtering::filter_of;
 use crate::arguments::input::has_input_once;
+use crate::arguments::summary::summary_of;
 use clap::ArgMatches;
 use clap::error::ErrorKind;
 use replay_output::{Form, Options, Style};
+use replay_summary::SummaryForm;
 use resolver::MAX_PROXIES;
 use std::alloc::{AllocError, Global};
 
@@ -24,6 +27,7 @@ mod command;
 mod filtering;
 mod input;
 mod refusal;
+mod summary;
 
 pub use refusal::Refusal;
 
@@ -41,6 +45,8 @@ pub struct CommandLine<'a> {
     /// The names of the files for records of answers, one per file if they are requested, and
     /// otherwise none.
     pub records: Vec<&'a str>,
+    /// The form of the summary that is printed in place of answers, if one is requested.
+    pub summary: Option<SummaryForm>,
     pub options: Options,
 }
 
@@ -69,6 +75,10 @@ pub fn read_words<'a>(alloc: Global, words: &'a [String]) -> Result<CommandLine<
         ≡ named (all_of (codes "replies") (rows_of_words (map string_bytes words.entry.now)))) }
     ensures records_each { IfOk result (λ line. (vec_len line.records ≡ 0)
         ⊎ ((line.is_streamed ≡ true) × (vec_len line.records ≡ vec_len line.files))) }
+    ensures summary { IfOk result (λ line. HoldsSummary
+        (rows_of_words (map string_bytes words.entry.now)) line.options.style.form line.summary) }
+    ensures alone { IfOk result (λ line. is_some line.summary ≡ true
+        → IsAlone (rows_of_words (map string_bytes words.entry.now))) }
     ensures taken { OnOk result (IsTaken (map string_bytes words.entry.now)) }
     ensures shown { (text : _) → result ≡ Err (Refusal.Shown text)
         → AsksForText (map string_bytes words.entry.now) }
@@ -103,11 +113,17 @@ pub fn read_words<'a>(alloc: Global, words: &'a [String]) -> Result<CommandLine<
         return Err(refuse(alloc, ErrorKind::ArgumentConflict, message)?);
     };
     let records = records_of(alloc, &matches, is_streamed, count)?;
+    let Some(summary) = summary_of(&matches, form, is_streamed) else {
+        let message =
+            "--summary is wanted without --check, --stream, --frames, --quiet, --only and --versions";
+        return Err(refuse(alloc, ErrorKind::ArgumentConflict, message)?);
+    };
     Ok(CommandLine {
         files: Vec::from_slice(alloc, files)?,
         replies,
         is_streamed,
         records,
+        summary,
         options,
     })
 }

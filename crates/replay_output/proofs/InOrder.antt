@@ -1,10 +1,11 @@
--- Putting items in order keeps what holds of each, and commutes with what they tell of.
-use Rattle.std.specs.Prelude.{◌≡◌, ℤ, int_lt, List, [], ◌∷◌, map, fold}
+-- Putting items in order keeps what holds of each, and commutes with what they tell of; they are in order then.
+use Rattle.std.specs.Prelude.{◌≡◌, ℤ, int_lt, true, false, List, [], ◌∷◌, map, fold}
 use Rattle.std.specs.List.{All}
 use Rattle.std.proofs.Common.{refl, sym, ap, ◌∙◌, subst, inl, inr, arith}
 use Rattle.std.proofs.lemmas.Bool.{cond-true, cond-false, cases_Bool}
 use Rattle.std.proofs.lemmas.List.Elements.{All-cons, All-head, All-tail}
-use Rattle.checking.specs.InOrder.{put_in_order, in_order_by}
+use Rattle.std.proofs.lemmas.Int.{ints}
+use Rattle.checking.specs.InOrder.{put_in_order, in_order_by, NoneBefore, Rise}
 
 module _ {X : Type 0} (P : X → Type 0) (version : X → ℤ) where
   All-put : (xs : List X) (x : X) → P x → All P xs → All P (put_in_order version xs x)
@@ -60,3 +61,61 @@ module _ {X Y : Type 0} (tells : X → Y) (version : X → ℤ) (version_told : 
   pub map-in_order : (received : List X) → All Agrees received
       → map tells (in_order_by version received) ≡ in_order_by version_told (map tells received)
   map-in_order received all = map-put_all [] received (λ k d inside. absurd (omega arith)) all
+
+not_before_lesser : (lesser version other : ℤ) → int_lt lesser version ≡ true → int_lt other version ≡ false
+    → int_lt other lesser ≡ false
+not_before_lesser lesser version other below far =
+    elim (cases_Bool (int_lt other lesser)) [
+      | inl before ↦ absurd (never lesser version other below far before)
+      | inr behind ↦ behind
+    ]
+  where
+    never : (lesser version other : ℤ) → int_lt lesser version ≡ true → int_lt other version ≡ false
+        → int_lt other lesser ≡ true → ⊥
+    never lesser version other below far before = omega (arith, ints)
+
+not_before : (lesser version : ℤ) → int_lt lesser version ≡ true → int_lt version lesser ≡ false
+not_before lesser version below =
+    elim (cases_Bool (int_lt version lesser)) [
+      | inl before ↦ absurd (never lesser version below before)
+      | inr behind ↦ behind
+    ]
+  where
+    never : (lesser version : ℤ) → int_lt lesser version ≡ true → int_lt version lesser ≡ true → ⊥
+    never lesser version below before = omega (arith, ints)
+
+module _ {X : Type 0} (version : X → ℤ) where
+  NoneBefore-lesser : (lesser least : ℤ) (xs : List X) → int_lt lesser least ≡ true → NoneBefore version least xs
+      → NoneBefore version lesser xs
+  NoneBefore-lesser lesser least [] below none = tt
+  NoneBefore-lesser lesser least (x ∷ xs) below none =
+      (not_before_lesser lesser least (version x) below none.0, NoneBefore-lesser lesser least xs below none.1)
+
+  NoneBefore-put : (least : ℤ) (xs : List X) (x : X) → int_lt (version x) least ≡ false → NoneBefore version least xs
+      → NoneBefore version least (put_in_order version xs x)
+  NoneBefore-put least [] x far none = (far, tt)
+  NoneBefore-put least (y ∷ ys) x far none =
+      elim (cases_Bool (int_lt (version x) (version y))) [
+        | inl before ↦ subst (NoneBefore version least) (sym (cond-true _ _ _ before)) (far, none)
+        | inr behind ↦ subst (NoneBefore version least) (sym (cond-false _ _ _ behind))
+            (none.0, NoneBefore-put least ys x far none.1)
+      ]
+
+  Rise-put : (xs : List X) (x : X) → Rise version xs → Rise version (put_in_order version xs x)
+  Rise-put [] x rise = (tt, tt)
+  Rise-put (y ∷ ys) x rise =
+      elim (cases_Bool (int_lt (version x) (version y))) [
+        | inl before ↦ subst (Rise version) (sym (cond-true _ _ _ before)) (
+          (not_before (version x) (version y) before, NoneBefore-lesser (version x) (version y) ys before rise.0),
+          rise,
+        )
+        | inr behind ↦ subst (Rise version) (sym (cond-false _ _ _ behind))
+            (NoneBefore-put (version y) ys x behind rise.0, Rise-put ys x rise.1)
+      ]
+
+  Rise-put_all : (start received : List X) → Rise version start → Rise version (fold (put_in_order version) start received)
+  Rise-put_all start [] rise = rise
+  Rise-put_all start (x ∷ received) rise = Rise-put_all (put_in_order version start x) received (Rise-put start x rise)
+
+  pub Rise-in_order : (received : List X) → Rise version (in_order_by version received)
+  Rise-in_order received = Rise-put_all [] received tt

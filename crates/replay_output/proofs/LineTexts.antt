@@ -1,15 +1,29 @@
 -- The text of lines in order is that of their answers.
 use Rattle.std.specs.Prelude.{◌≡◌, ℕ, zero, suc, ◌+◌, List, [], ◌∷◌, ◌++◌, map, Some, slice_get}
 use Rattle.std.specs.List.{All, flat_map, enumerate_from}
-use Rattle.std.proofs.Common.{refl, ap, ◌∙◌, subst, arith}
+use Rattle.std.proofs.Common.{refl, ap, ◌∙◌, subst, arith, get_or}
 use Rattle.std.proofs.lemmas.List.Elements.{All-head, All-tail}
+use Rattle.keyspace.specs.declared.answer.Answer.{Answer}
+use Rattle.keyspace.specs.declared.answer.Answer.TheVariants as answer
 use Rattle.keyspace.specs.Answer.{version_of_answer}
+use Rattle.replay_summary.specs.declared.counted.Counted.{Counted}
+use Rattle.replay_summary.specs.Counted.{counted_of}
 use Rattle.replay_output.specs.declared.options.style.Style.{Style}
 use Rattle.replay_output.specs.declared.line.Line.{Line}
 use Rattle.replay_output.specs.Line.{answer_of, answers_of, version_of_line, IsLineOf, AreLines, text_of, texts}
 use Rattle.checking.specs.InOrder.{in_order_by}
 use Rattle.replay_output.specs.Lines.{line, in_order, lines_of_proxy, lines}
 use Rattle.replay_output.proofs.InOrder.{All-in_order, map-in_order}
+
+-- a line is sorted by the version of its answer
+version_counted : (answer : Answer) → (counted_of answer).version ≡ version_of_answer answer
+version_counted (answer.Reply reply) = refl
+version_counted (answer.Never version) = refl
+version_counted (answer.Held version) = refl
+
+pub sorted_by : (style : Style) (proxy : ℕ) (l : Line) → IsLineOf style proxy l
+    → version_of_line l ≡ version_of_answer (answer_of l)
+sorted_by style proxy l is = ap (λ (c : Counted). c.version) is.counted ∙ version_counted (answer_of l)
 
 text_of_lines : (style : Style) (proxy : ℕ) (ls : List Line) → All (IsLineOf style proxy) ls
     → text_of ls ≡ flat_map (line style proxy) (answers_of ls)
@@ -26,7 +40,7 @@ text_in_order style proxy ls all =
     let sorted = in_order_by version_of_line ls in
     text_of_lines style proxy sorted (All-in_order (IsLineOf style proxy) version_of_line ls all)
     ∙ ap (flat_map (line style proxy))
-    (map-in_order answer_of version_of_line version_of_answer ls (λ k d inside. (all k d inside).sorted_by))
+    (map-in_order answer_of version_of_line version_of_answer ls (λ k d inside. sorted_by style proxy (get_or ls k d) (all k d inside)))
 
 -- the lines at each number are those of answers to the proxy of that number from n on
 abbrev AreLinesFrom : Style → ℕ → List (List Line) → Type 0

@@ -1,5 +1,6 @@
 -- In reading order.
 pub mod Filter
+pub mod Quieted
 pub mod Lines
 pub mod Packed
 pub mod Line

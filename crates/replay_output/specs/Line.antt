@@ -4,8 +4,9 @@ use Rattle.std.specs.List.{All, flat_map}
 use Rattle.keyspace.specs.declared.answer.Answer.{Answer}
 use Rattle.keyspace.specs.declared.answer.Answer.TheVariants as answer
 use Rattle.keyspace.specs.declared.reply.Reply.{Reply}
-use Rattle.keyspace.specs.Answer.{version_of_answer}
 use Rattle.checking.specs.Check.{count_at}
+use Rattle.replay_summary.specs.declared.counted.Counted.{Counted}
+use Rattle.replay_summary.specs.Counted.{counted_of}
 use Rattle.replay_output.specs.declared.options.style.Style.{Style}
 use Rattle.replay_output.specs.declared.options.form.Form.{Form}
 use Rattle.replay_output.specs.declared.options.form.Form.TheVariants.{Words, Frames, Json, Kept}
@@ -19,9 +20,13 @@ answer_of l = l.answer.value
 abbrev pub answers_of : List Line → List Answer
 answers_of ls = map answer_of ls
 
+-- its answer's version and numbers of verdicts
+abbrev pub counted_of_line : Line → Counted
+counted_of_line l = l.counted
+
 -- the version that it is sorted by
 abbrev pub version_of_line : Line → ℤ
-version_of_line l = l.version
+version_of_line l = l.counted.version
 
 -- what is kept of an answer
 abbrev pub kept_of : Form → Answer → Option Reply
@@ -36,7 +41,7 @@ kept_of Json answer = None
 pub record IsLineOf (style : Style) (proxy : ℕ) (l : Line) : Type 0 where
   -- empty if the line isn't shown
   pub text : l.text ≡ line style proxy (answer_of l)
-  pub sorted_by : l.version ≡ version_of_answer (answer_of l)
+  pub counted : l.counted ≡ counted_of (answer_of l)
   -- the reply itself, if it is kept
   pub kept : l.reply ≡ kept_of style.form (answer_of l)
 

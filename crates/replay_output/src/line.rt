@@ -3,7 +3,8 @@
 ghost use Rattle.std.specs.Prelude.{◌≡◌, ◌++◌, IfSome, OnOk, codes, false};
 ghost use Rattle.replay_output.specs.Lines.{conflict_word, entry_word, formed_line, frame_word};
 ghost use Rattle.replay_output.specs.Lines.{line, outcome, plain_line, words};
-ghost use Rattle.replay_output.specs.Line.{IsLineOf, answer_of, kept_of, version_of_line};
+ghost use Rattle.replay_output.specs.Line.{IsLineOf, answer_of, counted_of_line, kept_of};
+ghost use Rattle.replay_output.specs.Line.{version_of_line};
 
 use crate::options::{Form, Style};
 use crate::version::version_of;
@@ -11,6 +12,7 @@ use checking::Versioned;
 use json::print_json;
 use keyspace::{Answer, Entry, Reply, Verdict};
 use packed::Word;
+use replay_summary::{Counted, HasCounted};
 use std::alloc::Global;
 use std::io;
 use std::io::Write;
@@ -27,8 +29,8 @@ pub use packed::PackedText;
 pub struct Line {
     /// The answer of the line. It has no bytes.
     pub answer: Snapshot<Answer>,
-    /// The version that lines are sorted by.
-    pub version: i64,
+    /// The answer's version, by which lines are sorted, and the numbers of its verdicts.
+    pub counted: Counted,
     /// The text, its newline included. Empty if the line isn't shown, or replies are kept.
     pub text: PackedText,
     /// The reply, where replies are kept.
@@ -48,7 +50,7 @@ impl Line {
         let text = text_of(alloc, style, proxy, &answer)?;
         Some(Line {
             answer: Snapshot::of(&answer),
-            version: version_of(&answer),
+            counted: Counted::of(&answer),
             text,
             reply: kept_of(style.form, answer),
         })
@@ -59,7 +61,15 @@ impl Versioned for Line {
     ghost version_told = { version_of_line };
 
     fn version(&self) -> i64 {
-        self.version
+        self.counted.version
+    }
+}
+
+impl HasCounted for Line {
+    ghost counted_told = { counted_of_line };
+
+    fn counted(&self) -> Counted {
+        self.counted
     }
 }
 

@@ -15,6 +15,7 @@ use stepmap::MAX_LIMIT;
 
 mod filtering;
 mod form;
+mod quieting;
 mod style;
 
 pub use filtering::Filter;

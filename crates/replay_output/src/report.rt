@@ -16,7 +16,7 @@ use wire::{Failed, Sink};
 
 mod lines;
 
-pub use lines::{PrintError, print_answers};
+pub use lines::{PrintError, print_answers, sort_lines};
 
 /// What was printed, and how the program ends.
 #[derive(Debug, Drop)]

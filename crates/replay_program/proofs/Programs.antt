@@ -17,9 +17,11 @@ use Rattle.replay_program.specs.Program.{
   AsksToCheck,
   AsksToReplay,
   AsksToStream,
+  AsksToSummarize,
   ChecksFiles,
   FailsOnFiles,
   FailsOnStream,
+  FailsOnSummary,
   FailsToCheck,
   HasDifferences,
   IsDone,
@@ -27,8 +29,10 @@ use Rattle.replay_program.specs.Program.{
   StreamsFiles,
   Told,
 }
-use Rattle.replay_program.specs.Replayed.{HasFailed, IsReplayed, Took, Written}
+use Rattle.replay_program.specs.Replayed.{HasFailed, IsReplayed, IsSummarized, Took, Written}
+use Rattle.replay_output.specs.Quieted.{quieted}
 use Rattle.replay_output.specs.Start.{start_line}
+use Rattle.replay_summary.specs.declared.text.SummaryForm.{SummaryForm}
 use Rattle.replay_arguments.specs.Words.{AsksForText, IsMistaken, is_kept}
 use Rattle.replay_stream.specs.declared.recorder.Recorder.{Recorder}
 use Rattle.replay_stream.specs.Sinks.{SinkState}
@@ -58,6 +62,15 @@ module _ (has_opened cannot_open : List ℕ → Type 0) (contents : List ℕ →
   fails_on_files options names (opening.CannotOpen proxy) first nothing told =
       inl (record { proxy = proxy; first = first proxy refl; nothing_printed = nothing; told = told })
   fails_on_files options names opening.Memory first nothing told =
+      inr (inl (record { cause = start.Memory; nothing_printed = nothing; told = told }))
+
+  pub fails_on_summary : (form : SummaryForm) (options : Options) (names : List (List ℕ)) (cause : OpeningError)
+      → ((proxy : ℕ) → cause ≡ opening.CannotOpen proxy → IsFirstRefused has_opened cannot_open names proxy)
+      → out.after ≡ out.before → Told error (opening_line cause)
+      → FailsOnSummary form has_opened cannot_open contents options names out error
+  fails_on_summary form options names (opening.CannotOpen proxy) first nothing told =
+      inl (record { proxy = proxy; first = first proxy refl; nothing_printed = nothing; told = told })
+  fails_on_summary form options names opening.Memory first nothing told =
       inr (inl (record { cause = start.Memory; nothing_printed = nothing; told = told }))
 
   pub fails_to_open : (options : Options) (names replies : List (List ℕ)) (cause : OpeningError)
@@ -200,10 +213,28 @@ module _ (has_opened cannot_open : List ℕ → Type 0) (contents : List ℕ →
         → status ≢ Usage → status ≢ Differs → Ends
     ends_streamed options names records asked done quiet failed ends same = record {
       done = λ is.
-          inr (inr (inr (record { options = options; names = names; records = records; asked = asked; streamed = done is })));
+          inr (inr (inr (inl (record { options = options; names = names; records = records; asked = asked; streamed = done is }))));
       quiet = quiet;
       failed = λ is.
-          inr (inr (inr (inr (record { options = options; names = names; records = records; asked = asked; failed = failed is }))));
+          inr (inr (inr (inr (inl (record { options = options; names = names; records = records; asked = asked; failed = failed is })))));
+      mistaken = λ is. absurd (ends is);
+      nothing = λ is. absurd (ends is);
+      usage = λ is. absurd (ends is);
+      differs = λ is. absurd (same is);
+      quiet_too = λ is. absurd (same is);
+    }
+
+    pub ends_summarized : (form : SummaryForm) (options : Options) (names : List (List ℕ)) → AsksToSummarize words form options names
+        → (status ≡ Done → IsSummarized form (quieted options) (contents_each contents names) out.before out.after)
+        → (status ≡ Done → Keeps error.before error.after)
+        → (status ≡ Failed → FailsOnSummary form has_opened cannot_open contents options names out error)
+        → status ≢ Usage → status ≢ Differs → Ends
+    ends_summarized form options names asked done quiet failed ends same = record {
+      done = λ is.
+          inr (inr (inr (inr (record { form = form; options = options; names = names; asked = asked; summarized = done is }))));
+      quiet = quiet;
+      failed = λ is.
+          inr (inr (inr (inr (inr (record { form = form; options = options; names = names; asked = asked; failed = failed is })))));
       mistaken = λ is. absurd (ends is);
       nothing = λ is. absurd (ends is);
       usage = λ is. absurd (ends is);

@@ -1,5 +1,6 @@
 -- In reading order.
 pub mod Checked
+pub mod Summarized
 pub mod Replies
 pub mod Replayed
 pub mod Streamed

@@ -11,10 +11,34 @@ use Rattle.replay_program.specs.declared.check.replies.RepliesError.{RepliesErro
 use Rattle.replay_output.specs.declared.start.StartError.TheVariants as start
 use Rattle.replay_arguments.specs.Opening.{IsFirstRefused, contents_each, creating_line, opening_line}
 use Rattle.replay_program.specs.Checked.{TakesToCompare, check_lines}
-use Rattle.replay_program.specs.Replayed.{DidNotStart, FailsToPrint, FailsToReplay, HasFailed, IsChecked, IsReplayed, Took, Written}
+use Rattle.replay_program.specs.Replayed.{
+  DidNotStart,
+  FailsToPrint,
+  FailsToReplay,
+  FailsToSummarize,
+  HasFailed,
+  IsChecked,
+  IsReplayed,
+  IsSummarized,
+  Took,
+  Written,
+}
 use Rattle.replay_program.specs.Replies.{IsCauseOf, IsReplyFile, replies_line}
+use Rattle.replay_output.specs.Quieted.{quieted}
 use Rattle.replay_output.specs.Start.{start_line}
-use Rattle.replay_arguments.specs.Words.{AsksForText, HasInputOnce, HoldsOptions, HoldsStream, IsTaken, is_kept, named, rows_of_words}
+use Rattle.replay_summary.specs.declared.text.SummaryForm.{SummaryForm}
+use Rattle.replay_arguments.specs.Words.{
+  AsksForText,
+  HasInputOnce,
+  HoldsOptions,
+  HoldsStream,
+  HoldsSummary,
+  IsAlone,
+  IsTaken,
+  is_kept,
+  named,
+  rows_of_words,
+}
 use Rattle.replay_stream.specs.declared.recorder.Recorder.{Recorder}
 use Rattle.replay_stream.specs.Sinks.{SinkState}
 use Rattle.replay_program.specs.Streamed.{IsStreamDone, StreamedAndFailed}
@@ -46,6 +70,13 @@ FailsOnFiles has_opened cannot_open contents options names out error =
     DidNotOpen has_opened cannot_open names out error
     ⊎ FailsToReplay options (contents_each contents names) out error
 
+-- the files of these names were not summarized, or something failed
+abbrev pub FailsOnSummary : SummaryForm → (List ℕ → Type 0) → (List ℕ → Type 0) → (List ℕ → Option (List ℕ)) → Options
+    → List (List ℕ) → Written → Written → Type 0
+FailsOnSummary form has_opened cannot_open contents options names out error =
+    DidNotOpen has_opened cannot_open names out error
+    ⊎ FailsToSummarize form (quieted options) (contents_each contents names) out error
+
 -- the replies that were read of the files of these names
 abbrev pub AreRecorded : (List ℕ → Option (List ℕ)) → List (List ℕ) → List (List Reply) → Type 0
 AreRecorded contents names recorded = AllZip IsReplyFile (contents_each contents names) recorded
@@ -75,6 +106,19 @@ pub record AsksToReplay (words : List (List ℕ)) (options : Options) (names : L
   pub input : HasInputOnce (rows_of_words words)
   pub plain : is_kept options.style.form ≡ false
   pub at_the_end : HoldsStream (rows_of_words words) false
+  pub no_summary : HoldsSummary (rows_of_words words) options.style.form None
+
+-- the words are taken, and ask for a summary, in this form, of a replay of the files of these names with these options
+pub record AsksToSummarize (words : List (List ℕ)) (form : SummaryForm) (options : Options) (names : List (List ℕ)) :
+    Type 0 where
+  pub taken : IsTaken words
+  pub holds_options : HoldsOptions (rows_of_words words) options
+  pub holds_names : all_of (codes "FILE") (rows_of_words words) ≡ Some names
+  pub least : 1 ≤ length names
+  pub most : length names ≤ MAX_PROXIES
+  pub input : HasInputOnce (rows_of_words words)
+  pub holds_summary : HoldsSummary (rows_of_words words) options.style.form (Some form)
+  pub alone : IsAlone (rows_of_words words)
 
 -- the words are taken, and ask that the answers to the files of these names are printed as they come, and recorded in files of these
 -- names, if there are any
@@ -88,6 +132,7 @@ pub record AsksToStream (words : List (List ℕ)) (options : Options) (names rec
   pub input : HasInputOnce (rows_of_words words)
   pub plain : is_kept options.style.form ≡ false
   pub as_they_come : HoldsStream (rows_of_words words) true
+  pub no_summary : HoldsSummary (rows_of_words words) options.style.form None
   pub records_each : (length records ≡ 0) ⊎ (length records ≡ length names)
 
 -- the words are taken, and ask for a check of the files of these names beside those of replies
@@ -102,6 +147,7 @@ pub record AsksToCheck (words : List (List ℕ)) (options : Options) (names repl
   pub as_many : length replies ≡ length names
   pub kept : options.style.form ≡ Kept
   pub at_the_end : HoldsStream (rows_of_words words) false
+  pub no_summary : HoldsSummary (rows_of_words words) options.style.form None
 
 -- the message about arguments that aren't text
 abbrev pub not_text : List ℕ
@@ -121,6 +167,14 @@ pub record HasReplayed (contents : List ℕ → Option (List ℕ)) (words : List
   pub names : List (List ℕ)
   pub asked : AsksToReplay words options names
   pub replayed : IsReplayed options (contents_each contents names) out.before out.after
+
+-- All that the words ask for was read, resolved and summarized. The options are those of the words, with which no line is shown.
+pub record HasSummarized (contents : List ℕ → Option (List ℕ)) (words : List (List ℕ)) (out : Written) : Type 0 where
+  pub form : SummaryForm
+  pub options : Options
+  pub names : List (List ℕ)
+  pub asked : AsksToSummarize words form options names
+  pub summarized : IsSummarized form (quieted options) (contents_each contents names) out.before out.after
 
 -- the files of these names were resolved and compared with those of replies, and the number of differences is as said
 pub record ChecksFiles (So_many : ℕ → Type 0) (contents : List ℕ → Option (List ℕ)) (options : Options)
@@ -205,7 +259,8 @@ abbrev pub IsDone : {W : Type 0} → (W → SinkState) → (List ℕ → Option 
 IsDone state_of contents begun words recorders out =
     HasShown words out
     ⊎ (HasReplayed contents words out
-    ⊎ (HasChecked (λ count. count ≡ 0) contents words out ⊎ HasStreamed state_of contents begun words recorders out))
+    ⊎ (HasChecked (λ count. count ≡ 0) contents words out
+    ⊎ (HasStreamed state_of contents begun words recorders out ⊎ HasSummarized contents words out)))
 
 -- what the words ask for failed on the files
 pub record HasFailedOnFiles (has_opened cannot_open : List ℕ → Type 0) (contents : List ℕ → Option (List ℕ))
@@ -236,6 +291,15 @@ pub record HasFailedToStream {W : Type 0} (state_of : W → SinkState) (has_open
   pub failed :
       FailsOnStream state_of has_opened cannot_open contents has_created cannot_create begun options names records recorders out error
 
+-- what the words ask to be summarized failed
+pub record HasFailedToSummarize (has_opened cannot_open : List ℕ → Type 0) (contents : List ℕ → Option (List ℕ))
+    (words : List (List ℕ)) (out error : Written) : Type 0 where
+  pub form : SummaryForm
+  pub options : Options
+  pub names : List (List ℕ)
+  pub asked : AsksToSummarize words form options names
+  pub failed : FailsOnSummary form has_opened cannot_open contents options names out error
+
 -- help or the version was asked for, and standard output failed
 abbrev pub HasNotShown : List (List ℕ) → Written → Type 0
 HasNotShown words out = AsksForText words × HasFailed out
@@ -252,4 +316,5 @@ IsFailed state_of has_opened cannot_open contents has_created cannot_create begu
     HasNoMemory out error
     ⊎ (HasNotShown words out ⊎ (HasFailedOnFiles has_opened cannot_open contents words out error
     ⊎ (HasFailedToCheck has_opened cannot_open contents words out error
-    ⊎ HasFailedToStream state_of has_opened cannot_open contents has_created cannot_create begun words recorders out error)))
+    ⊎ (HasFailedToStream state_of has_opened cannot_open contents has_created cannot_create begun words recorders out error
+    ⊎ HasFailedToSummarize has_opened cannot_open contents words out error))))

@@ -3,7 +3,8 @@
 //!
 //! [`run`] is the program `replay` over any words, files and streams, and [`run_in`] takes the
 //! words from an environment. Both are in `program`. `replay` does all that follows the opening of
-//! the files if the answers are printed, and `check` if they are compared.
+//! the files if the answers are printed, `check` if they are compared, and `summary` if they are
+//! summarized.
 //!
 //! What is printed is defined by `IsReplayed`, in `specs/Replayed.antt`, and how the program ends
 //! in `specs/Program.antt`. The public names of the crates below, which the program is made of, are
@@ -15,11 +16,12 @@ mod program;
 mod replay;
 mod report;
 mod stream;
+mod summary;
 
 pub use check::{
     CheckReport, RepliesError, check_over, fail_to_read_replies, print_check, read_replies,
 };
-pub use program::{check_files, replay_files, run, run_in, stream_files};
+pub use program::{check_files, replay_files, run, run_in, stream_files, summarize_files};
 pub use replay::replay_over;
 pub use replay_arguments::{
     CommandLine, FileError, Files, OpeningError, Refusal, STANDARD_INPUT, create_files,
@@ -30,8 +32,10 @@ pub use replay_output::{
     StartError, Status, Style, fail_to_start, print_answers, print_report, write_record,
 };
 pub use replay_stream::Recorder;
+pub use replay_summary::SummaryForm;
 pub use replay_workers::{
     AlwaysOpen, Assignment, Finished, Gatekeeper, MostUnanswered, ShareKeeper, Unshared, work,
 };
 pub use report::RunReport;
 pub use stream::stream_over;
+pub use summary::{print_summary, summarize_over};

@@ -7,21 +7,24 @@ ghost use Rattle.resolver.specs.declared.resolver_core.TheConstants.{MAX_PROXIES
 ghost use Rattle.replay_arguments.specs.Opening.{IsFirstRefused, contents_each};
 ghost use Rattle.replay_program.specs.Program.{ChecksFiles, FailsOnFiles, FailsToCheck};
 ghost use Rattle.replay_program.specs.Program.{FailsOnStream, HasDifferences, IsDone, IsFailed};
-ghost use Rattle.replay_program.specs.Program.{HaveWriters, StreamsFiles, Told};
+ghost use Rattle.replay_program.specs.Program.{FailsOnSummary, HaveWriters, StreamsFiles, Told};
+ghost use Rattle.replay_output.specs.Quieted.{quieted};
 ghost use Rattle.replay_stream.specs.Sinks.{state_by};
-ghost use Rattle.replay_program.specs.Replayed.{IsReplayed, written};
+ghost use Rattle.replay_program.specs.Replayed.{IsReplayed, IsSummarized, written};
 ghost use Rattle.replay_arguments.specs.Words.{IsMistaken};
 
 use crate::check::{check_over, fail_to_read_replies, read_replies};
 use crate::replay::replay_over;
 use crate::report::RunReport;
 use crate::stream::stream_over;
+use crate::summary::summarize_over;
 use flow::WaitingRoom;
 use replay_arguments::{
     CommandLine, Files, OpeningError, create_files, fail_to_create, fail_to_open, open_files,
     read_words,
 };
 use replay_output::{Form, StartError, Status, fail_to_start};
+use replay_summary::SummaryForm;
 use std::alloc::{AllocError, Global};
 use std::sync::{Arc, Wait};
 use std::thread::Threads;
@@ -33,7 +36,7 @@ pub use environment::run_in;
 
 /// Runs the program on the words of its command line, of which the first is the program's name.
 /// Help is printed to `out`, and why words are refused to `error`; else the files are replayed, as
-/// [`replay_files`], [`check_files`] or [`stream_files`] does.
+/// [`replay_files`], [`check_files`], [`stream_files`] or [`summarize_files`] does.
 pub fn run<R: Threads + Wait + Copy + Send + 'static, F: Files, O: Sink, E: Sink>(
     rt: &R,
     alloc: Global,
@@ -72,10 +75,16 @@ pub fn run<R: Threads + Wait + Copy + Send + 'static, F: Files, O: Sink, E: Sink
             check_files(rt, alloc, files, &line, out, error),
         ),
         Ok(line) if line.is_streamed => stream_files(rt, alloc, files, &line, out, error),
-        Ok(line) => RunReport::without_recorders(
-            alloc,
-            replay_files(rt, alloc, files, &line, out, error),
-        ),
+        Ok(line) => match line.summary {
+            Some(form) => RunReport::without_recorders(
+                alloc,
+                summarize_files(rt, alloc, files, &line, form, out, error),
+            ),
+            None => RunReport::without_recorders(
+                alloc,
+                replay_files(rt, alloc, files, &line, out, error),
+            ),
+        },
         Err(refusal) => RunReport::without_recorders(alloc, refusal.end(out, error)),
     }
 }
@@ -230,6 +239,44 @@ pub fn stream_files<R: Threads + Wait + Copy + Send + 'static, F: Files, O: Sink
         out,
         error,
     )
+}
+
+/// Opens the files of a command line, replays them and prints their summary in this form, as
+/// [`summarize_over`] does. If a file can't be opened, nothing is printed to `out`, and the first such
+/// file is reported to `error`.
+pub fn summarize_files<R: Threads + Wait + Copy + Send + 'static, F: Files, O: Sink, E: Sink>(
+    rt: &R,
+    alloc: Global,
+    files: &F,
+    line: &CommandLine,
+    form: SummaryForm,
+    out: &mut O,
+    error: &mut E,
+) -> Status
+    requires least_files { 1 ≤ vec_len line.now.files }
+    requires most_files { vec_len line.now.files ≤ MAX_PROXIES }
+    ensures done { result ≡ Status.Done → IsSummarized form (quieted line.now.options)
+        (contents_each (F.contents files.now) (map (λ name. name.now) line.now.files.items))
+        (O.given out.old) (O.given out.new) }
+    ensures quiet { result ≡ Status.Done → Keeps (E.given error.old) (E.given error.new) }
+    ensures failed { result ≡ Status.Failed
+        → FailsOnSummary form (F.has_opened files.now) (F.cannot_open files.now)
+        (F.contents files.now) line.now.options (map (λ name. name.now) line.now.files.items)
+        (written (O.given out.old) (O.given out.new) (O.failures out.old) (O.failures out.new))
+        (written (E.given error.old) (E.given error.new) (E.failures error.old)
+        (E.failures error.new)) }
+    ensures ends { result ≢ Status.Usage }
+    ensures same { result ≢ Status.Differs }
+{
+    let readers = match open_files(alloc, files, &line.files) {
+        Ok(readers) => readers,
+        Err(cause) => return fail_to_open(error, cause),
+    };
+    let Ok(gatekeeper) = gatekeeper(alloc, &readers) else {
+        return fail_to_start(error, StartError::Memory);
+    };
+    let options = line.options.quieted();
+    summarize_over(rt, alloc, readers, options, form, &gatekeeper, out, error)
 }
 
 // Opens the files for records, and returns the writer of each proxy, if there is one.

@@ -5,7 +5,7 @@ ghost use Rattle.clap.specs.Words.{app_of, rule_of};
 ghost use Rattle.replay_arguments.specs.Words.{capacity_rule, check_rule, file_rule, frames_rule};
 ghost use Rattle.replay_arguments.specs.Words.{json_rule, limit_rule, number_rule, only_rule};
 ghost use Rattle.replay_arguments.specs.Words.{quiet_rule, replay_app, replies_rule, stream_rule};
-ghost use Rattle.replay_arguments.specs.Words.{versions_rule, window_rule};
+ghost use Rattle.replay_arguments.specs.Words.{summary_rule, versions_rule, window_rule};
 
 use clap::builder::ValueParser;
 use clap::{Arg, ArgAction, Command};
@@ -37,6 +37,7 @@ pub fn command<'a>(alloc: Global) -> Result<Command<'a>, AllocError>
         .arg(quiet(alloc))?
         .arg(only(alloc))?
         .arg(versions(alloc))?
+        .arg(summary(alloc))?
         .arg(check(alloc))?
         .arg(stream(alloc))?
         .arg(replies(alloc))?
@@ -133,6 +134,16 @@ fn versions<'a>(alloc: Global) -> Arg<'a>
         .long("versions")
         .value_name("A..B")
         .help("Prints only versions from A to below B; each can be omitted")
+}
+
+fn summary<'a>(alloc: Global) -> Arg<'a>
+    ensures rule { rule_of result ≡ summary_rule }
+    ensures local { result.global ≡ false }
+{
+    Arg::new(alloc, "summary")
+        .long("summary")
+        .action(ArgAction::SetTrue)
+        .help("Prints a summary instead of the answers: one line per proxy and one for all")
 }
 
 fn check<'a>(alloc: Global) -> Arg<'a>

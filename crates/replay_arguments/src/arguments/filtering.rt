@@ -40,8 +40,8 @@ pub fn filter_of(matches: &ArgMatches, form: Form) -> Result<Filter, &'static st
     })
 }
 
-// Returns whether some of these options is given.
-fn is_filtered(quiet: bool, name: Option<&str>, text: Option<&str>) -> bool
+/// Returns whether some of these options is given.
+pub fn is_filtered(quiet: bool, name: Option<&str>, text: Option<&str>) -> bool
     ensures none { result ≡ false ↔ ((quiet ≡ false) × (is_some name.entry ≡ false)
         × (is_some text.entry ≡ false)) }
 {

@@ -3,7 +3,7 @@
 
 ghost use Rattle.std.specs.Prelude.{◌≡◌, ◌≢◌, ◌↔◌, ◌<◌, ◌≤◌, ◌+◌, ◌⊎◌, ℕ, map, take, length};
 ghost use Rattle.std.specs.Prelude.{vec_items, vec_len, IfErr, IfOk, IfSome, IsErr, IsOk, IsOkAnd};
-ghost use Rattle.std.specs.Prelude.{IsTrue, OnErr, OnOk};
+ghost use Rattle.std.specs.Prelude.{IsTrue, OnOk};
 ghost use Rattle.std.specs.Io.KnownBytes.{Appends, Keeps};
 ghost use Rattle.checking.specs.Check.{count_at};
 ghost use Rattle.replay_program.specs.Checked.{KeepReplies, TakesToCompare, check_lines};
@@ -17,7 +17,7 @@ use replay_output::{
     Ending, Line, PrintError, ProxyFailure, Status, note_loss, nothing_failed, print_failures,
 };
 use std::alloc::{AllocError, Global};
-use wire::{Failed, Sink, write_all};
+use wire::{Failed, Sink, write_and_flush};
 
 /// What was printed of a check, and how the program ends.
 #[derive(Debug, Drop)]
@@ -152,17 +152,6 @@ fn print_differences<W: Sink>(
         Ok(()) => Ok(checked.differences),
         Err(Failed) => Err(PrintError::Write),
     }
-}
-
-fn write_and_flush<W: Sink>(out: &mut W, text: &[u8]) -> Result<(), Failed>
-    ensures whole { OnOk result (Appends (W.given out.old) (W.given out.new) text.now) }
-    ensures beginning { OnErr result (IfSome (W.given out.new) (λ _.
-        (n : ℕ) × Appends (W.given out.old) (W.given out.new) (take n text.now))) }
-    ensures ok { OnOk result (W.failures out.new ≡ W.failures out.old) }
-    ensures failed { OnErr result (W.failures out.old < W.failures out.new) }
-{
-    write_all(out, text)?;
-    out.flush()
 }
 
 // Compares the replies that were kept with those that were recorded. An error is the proxy for

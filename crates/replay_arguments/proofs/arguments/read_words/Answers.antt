@@ -13,6 +13,8 @@ use Rattle.replay_arguments.specs.Words.{
   HasReplies,
   HasRepliesEach,
   HasStream,
+  HasSummary,
+  IsAlone,
   is_kept,
 }
 use Rattle.replay_arguments.proofs.Refusals.{no_records_each, not_each}
@@ -45,10 +47,20 @@ returns-in_err-records-clause-refused c = λ text is.
     inr (inr (inr (inr (inr (inr (inr (inl (subst (λ (rows : List Row). ¬ (HasRecordsEach rows)) c.in_ok-matches.ensures.rows
     (no_records_each found names c.in-Some-files_of.ensures.files refused.0 none)))))))))
 
+pub returns-in_default-summary_of-clause-refused : goal.returns-in_default-summary_of-clause-refused
+returns-in_default-summary_of-clause-refused c = λ text is.
+    inr (inr (inr (inr (inr (inr (inr (inr (inr (subst (λ (rows : List Row). ¬ (HasSummary rows)) c.in_ok-matches.ensures.rows
+    (c.summary_of.ensures.none c.in-Some.ensures.form c.in-Some-is_streamed.ensures.stream c.in_default-summary_of.is))))))))))
+
+pub returns-clause-alone : goal.returns-clause-alone
+returns-clause-alone c = λ some.
+    subst IsAlone c.in_ok-matches.ensures.rows
+    (c.in-Some-summary_of.ensures.alone c.in-Some.ensures.form c.in-Some-is_streamed.ensures.stream some)
+
 pub returns-in-Err-clause-refused : goal.returns-in-Err-clause-refused
 returns-in-Err-clause-refused c = λ text is.
-    inr (inr (inr (inr (inr (inr (inr (inr (subst (λ (rows : List Row). ¬ (HasFilter rows)) c.in_ok-matches.ensures.rows
-    (c.in-Err.ensures.err c.in-Some.ensures.form)))))))))
+    inr (inr (inr (inr (inr (inr (inr (inr (inl (subst (λ (rows : List Row). ¬ (HasFilter rows)) c.in_ok-matches.ensures.rows
+    (c.in-Err.ensures.err c.in-Some.ensures.form))))))))))
 
 pub returns-then-not-has_input_once-clause-refused : goal.returns-then-not-has_input_once-clause-refused
 returns-then-not-has_input_once-clause-refused c = λ text is.

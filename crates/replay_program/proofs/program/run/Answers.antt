@@ -1,12 +1,14 @@
 use Rattle.std.proofs.Common.{◌≡◌, ◌∙◌, List, ℕ, Err, ap, inl, inr, map, subst, sym, arith, rules}
-use Rattle.std.specs.Prelude.{◌⊎◌, true, false, string_bytes, vec_len, IsTrue}
+use Rattle.std.specs.Prelude.{◌⊎◌, true, false, is_some, string_bytes, vec_len, IsTrue}
 use Rattle.stepmap.proofs.callers.Booleans.{is_false}
 use Rattle.std.proofs.lemmas.List.{length-map}
 use Rattle.replay_arguments.specs.Words.{HoldsStream, rows_of_words}
 use Rattle.replay_program.specs.Replayed.{written}
+use Rattle.replay_arguments.specs.Words.{HoldsSummary}
+use Rattle.replay_arguments.proofs.Summaries.{no_summary, not_beside_check, not_beside_stream}
 use Rattle.replay_output.specs.declared.status.Status.{Status}
 use Rattle.replay_stream.specs.Sinks.{state_by}
-use Rattle.replay_program.proofs.Programs.{Ends, ends_by, ends_checked, ends_replayed, ends_streamed, not_kept, not_streamed}
+use Rattle.replay_program.proofs.Programs.{Ends, ends_by, ends_checked, ends_replayed, ends_streamed, ends_summarized, not_kept, not_streamed}
 use Rattle.replay_program.proofs.program.run.Goals as goal
 
 pub returns-in-Err : goal.returns-in-Err
@@ -67,6 +69,8 @@ returns-in-Ok g c =
       at_the_end =
           subst (HoldsStream (rows_of_words words)) (not_streamed line.is_streamed (λ on. c.in-Ok.ensures.plain on kept))
           c.in-Ok.ensures.streamed;
+      no_summary = no_summary (rows_of_words words) line.options.style.form line.summary c.in-Ok.ensures.summary
+          (λ some. not_beside_check (rows_of_words words) replies (c.in-Ok.ensures.replies kept) (c.in-Ok.ensures.alone some));
     })
     checked.done checked.differs checked.quiet checked.failed checked.ends in
     let ends = subst (λ (s : Status). Ends (g.F.Files.has_opened files) (g.F.Files.cannot_open files) (g.F.Files.contents files) out error
@@ -124,6 +128,9 @@ returns-in-Ok-2 g c =
         ))
       ];
       plain = not_kept line.options.style.form (λ is. no (c.is_kept.ensures.kept.1 is));
+      no_summary = no_summary (rows_of_words words) line.options.style.form line.summary c.in-Ok.ensures.summary (λ some.
+          not_beside_stream (rows_of_words words) (subst (HoldsStream (rows_of_words words)) on c.in-Ok.ensures.streamed)
+          (c.in-Ok.ensures.alone some));
     })
     streamed.done streamed.quiet streamed.failed streamed.ends streamed.same in
     record {
@@ -137,11 +144,52 @@ returns-in-Ok-2 g c =
       quiet_too = ends.quiet_too;
     }
 
-pub returns-in-Ok-3 : goal.returns-in-Ok-3
-returns-in-Ok-3 g c =
+pub returns-in-Some : goal.returns-in-Some
+returns-in-Some g c =
     let files = c.args.files.now in
     let state = state_by g.F.Writer.Sink.given g.F.Writer.Sink.failures in
-    let recorders = c.without_recorders-in-Ok-3.result.recorders.items in
+    let recorders = c.without_recorders-in-Some.result.recorders.items in
+    let words : List (List ℕ) = map string_bytes c.args.words.now in
+    let line = c.in-Ok.line in
+    let names : List (List ℕ) = map (λ name. name.now) line.files.items in
+    let out = written (g.O.Sink.given c.args.out.now) (g.O.Sink.given c.summarize_files.new.out)
+    (g.O.Sink.failures c.args.out.now) (g.O.Sink.failures c.summarize_files.new.out) in
+    let error = written (g.E.Sink.given c.args.error.now) (g.E.Sink.given c.summarize_files.new.error)
+    (g.E.Sink.failures c.args.error.now) (g.E.Sink.failures c.summarize_files.new.error) in
+    let summarized = c.summarize_files.ensures in
+    let form = c.in-Some.form in
+    let ends_by_status = ends_summarized (g.F.Files.has_opened files) (g.F.Files.cannot_open files) (g.F.Files.contents files) out error
+    state (g.F.Files.has_created files) (g.F.Files.cannot_create files) (g.F.Files.begun files) recorders words c.summarize_files.result form line.options names
+    (record {
+      taken = c.in-Ok.ensures.taken;
+      holds_options = c.in-Ok.ensures.options;
+      holds_names = c.in-Ok.ensures.files;
+      least = omega (arith, c.in-Ok.ensures.least, length-map line.files.items (λ name. name.now));
+      most = omega (arith, c.in-Ok.ensures.most, length-map line.files.items (λ name. name.now));
+      input = c.in-Ok.ensures.input;
+      holds_summary = subst (HoldsSummary (rows_of_words words) line.options.style.form) c.in-Some.is c.in-Ok.ensures.summary;
+      alone = c.in-Ok.ensures.alone (ap is_some c.in-Some.is);
+    })
+    summarized.done summarized.quiet summarized.failed summarized.ends summarized.same in
+    let ends = subst (λ (s : Status). Ends (g.F.Files.has_opened files) (g.F.Files.cannot_open files) (g.F.Files.contents files) out error
+    state (g.F.Files.has_created files) (g.F.Files.cannot_create files) (g.F.Files.begun files) recorders words s)
+    (sym c.without_recorders-in-Some.ensures.status) ends_by_status in
+    record {
+      done = ends.done;
+      quiet = ends.quiet;
+      failed = ends.failed;
+      mistaken = ends.mistaken;
+      nothing = ends.nothing;
+      usage = ends.usage;
+      differs = ends.differs;
+      quiet_too = ends.quiet_too;
+    }
+
+pub returns-in-None : goal.returns-in-None
+returns-in-None g c =
+    let files = c.args.files.now in
+    let state = state_by g.F.Writer.Sink.given g.F.Writer.Sink.failures in
+    let recorders = c.without_recorders-in-None.result.recorders.items in
     let words : List (List ℕ) = map string_bytes c.args.words.now in
     let line = c.in-Ok.line in
     let names : List (List ℕ) = map (λ name. name.now) line.files.items in
@@ -163,11 +211,12 @@ returns-in-Ok-3 g c =
       input = c.in-Ok.ensures.input;
       at_the_end = subst (HoldsStream (rows_of_words words)) off c.in-Ok.ensures.streamed;
       plain = not_kept line.options.style.form (λ is. no (c.is_kept.ensures.kept.1 is));
+      no_summary = subst (HoldsSummary (rows_of_words words) line.options.style.form) c.in-None.is c.in-Ok.ensures.summary;
     })
     replayed.done replayed.quiet replayed.failed replayed.ends replayed.same in
     let ends = subst (λ (s : Status). Ends (g.F.Files.has_opened files) (g.F.Files.cannot_open files) (g.F.Files.contents files) out error
     state (g.F.Files.has_created files) (g.F.Files.cannot_create files) (g.F.Files.begun files) recorders words s)
-    (sym c.without_recorders-in-Ok-3.ensures.status) ends_by_status in
+    (sym c.without_recorders-in-None.ensures.status) ends_by_status in
     record {
       done = ends.done;
       quiet = ends.quiet;
