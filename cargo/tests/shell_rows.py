@@ -392,6 +392,10 @@ REASONS: tuple[tuple[tuple[str | bytes, ...], str], ...] = (
     (("--only", "never", "first"), "error: --only is committed, conflict or tooold\n"),
     (("--versions", "5", "first"), "error: --versions is A..B with integers of 64 bits, of which each can be omitted\n"),
     (("--quiet", "--check", "same", "first"), "error: --quiet, --only and --versions are wanted without --check\n"),
+    (
+        ("--summary", "--quiet", "first"),
+        "error: --summary is wanted without --check, --stream, --frames, --quiet, --only and --versions\n",
+    ),
     (("--replies", "out", "first"), "error: --replies OUT is wanted with --stream\n"),
     (("--stream", "--replies", "out", "first", "second"), "error: --replies OUT is wanted once a file\n"),
     (("-", "first", "-"), "error: standard input (-) can be given only once\n"),

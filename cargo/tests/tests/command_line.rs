@@ -29,9 +29,10 @@ fn options_text(line: &CommandLine) -> String {
         Form::Kept => " check",
     };
     let streamed = if line.is_streamed { " stream" } else { "" };
+    let summary = line.summary.map_or(String::new(), |form| format!(" summary {form:?}"));
     let names = line.replies.iter().chain(line.records.iter());
     let names: String = names.map(|name| format!(" {name}")).collect();
-    format!(" {capacity} {window} {limit}{form}{}{streamed}{names}", filter_text(&style.filter))
+    format!(" {capacity} {window} {limit}{form}{}{streamed}{summary}{names}", filter_text(&style.filter))
 }
 
 fn filter_text(filter: &Filter) -> String {
@@ -111,6 +112,14 @@ fn refused_words() {
         "--quiet --check r f",
         "--only conflict --check r f",
         "--versions .. --check r f",
+        "--summary --summary f",
+        "--summary=yes f",
+        "--summary --check r f",
+        "--summary --stream f",
+        "--summary --frames f",
+        "--summary --quiet f",
+        "--summary --only tooold f",
+        "--summary --versions .. f",
     ] {
         refuses(given);
     }
@@ -127,6 +136,10 @@ fn reasons_of_refusals() {
         ("--only never f", "error: --only is committed, conflict or tooold\n"),
         ("--versions 5 f", "error: --versions is A..B with integers of 64 bits, of which each can be omitted\n"),
         ("--quiet --check r f", "error: --quiet, --only and --versions are wanted without --check\n"),
+        (
+            "--summary --quiet f",
+            "error: --summary is wanted without --check, --stream, --frames, --quiet, --only and --versions\n",
+        ),
         ("--replies r f", "error: --replies OUT is wanted with --stream\n"),
         ("--stream --replies r f g", "error: --replies OUT is wanted once a file\n"),
         ("- f -", "error: standard input (-) can be given only once\n"),
@@ -157,6 +170,8 @@ fn words_and_options() {
         ("--only=tooold --versions=-9223372036854775807.. a", "a | 16 5000000 1000000 only TooOld from -9223372036854775807"),
         ("--versions ..9223372036854775807 --frames a", "a | 16 5000000 1000000 frames below 9223372036854775807"),
         ("--versions .. a", "a | 16 5000000 1000000"),
+        ("--summary a", "a | 16 5000000 1000000 summary Words"),
+        ("a --json --summary b", "a b | 16 5000000 1000000 json summary Json"),
         ("--replies r a --stream --json", "a | 16 5000000 1000000 json stream r"),
         ("--stream --replies - a --replies=s b", "a b | 16 5000000 1000000 stream - s"),
         ("--capacity=1024 --window 1099511627776 --limit 16777216 a", "a | 1024 1099511627776 16777216"),
