@@ -9,6 +9,7 @@ pub mod Processing
 pub mod Releasing
 pub mod Finishing
 pub mod Standing
+pub mod Observing
 pub mod AtIndex
 pub mod Handed
 pub mod NewCore
