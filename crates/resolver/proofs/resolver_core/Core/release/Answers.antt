@@ -22,7 +22,7 @@ use Rattle.resolver.proofs.Releasing.{
 }
 use Rattle.resolver.proofs.resolver_core.Core.release.Given.{Over}
 use Rattle.resolver.proofs.resolver_core.Core.release.Goals as goal
-use Rattle.resolver.proofs.resolver_core.Core.release.Goals.{In-Some}
+use Rattle.resolver.proofs.resolver_core.Core.release.Goals.{In-Some, In_default}
 
 module _ (g : Over) (c : In-Some g) where
   -- the core before
@@ -144,7 +144,7 @@ returns-in_err-answer-clause-seen_between g c =
     (g.O.Observer.has_seen c.answer.new.observer) (c.in_err-answer.ensures.unseen (now g d state given are).processed))
 
 -- none is due at the end
-module _ (g : Over) (c : goal.In_default g) where
+module _ (g : Over) (c : In_default g) where
   abbrev last : CoreState
   last = core_of c.self.inside.set c.self.inside.version c.self.inside.gate c.self.inside.replies c.self.inside.owed
       c.self.inside.stop
