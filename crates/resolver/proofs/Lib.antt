@@ -17,6 +17,7 @@ pub mod OpenedCore
 pub mod FromVersion
 pub mod ReadingFrom
 pub mod Logged
+pub mod SeenSteps
 pub mod OnlyFrom
 pub mod Resolving
 pub mod HandedOut

@@ -3,7 +3,7 @@ use Rattle.std.specs.Prelude.{◌≡◌, ◌≢◌, ℕ, ℤ, ◌+◌, ◌<◌, 
 use Rattle.keyspace.specs.Run.{Step, run}
 use Rattle.chain.specs.declared.gate.TheConstants.{MAX_HELD}
 use Rattle.resolver.specs.declared.stop.Stop.{Stop}
-use Rattle.resolver.specs.declared.stop.Stop.TheVariants as stop
+use Rattle.resolver.specs.declared.stop.Stop.TheVariants.{GateFull, ArenaFull}
 use Rattle.resolver.specs.declared.turn.Turn.{Turn}
 use Rattle.resolver.specs.declared.turn.Turn.TheVariants as turn
 use Rattle.resolver.specs.Owed.{owed_to, owed_count}
@@ -39,14 +39,14 @@ pub record Turns (result : Result Turn Stop) (old new : ResolverState) : Type 0 
       ↔ (IsOk result × (all_ended new.lanes ≡ true) × (owed_count new.core.owed ≡ 0))
   -- when each stop comes
   pub gate_full :
-      old.core.stop ≡ None → result ≡ Err stop.GateFull
+      old.core.stop ≡ None → result ≡ Err GateFull
       → (proxy : ℕ) × (took : TakesFrom proxy old new) × (old.core.version <ℤ took.batch.previous)
       × (length old.core.held ≡ MAX_HELD)
   pub beyond_share :
-      old.core.stop ≡ None → result ≡ Err stop.GateFull → (version : ℤ) → IsResolvingFrom version old
+      old.core.stop ≡ None → result ≡ Err GateFull → (version : ℤ) → IsResolvingFrom version old
       → (proxy : ℕ) × (proxy < length new.lanes) × HasMoreUnanswered (share_of (length new.lanes)) proxy new
   pub arena_full :
-      old.core.stop ≡ None → result ≡ Err stop.ArenaFull → (version : ℤ) (log : List Step)
+      old.core.stop ≡ None → result ≡ Err ArenaFull → (version : ℤ) (log : List Step)
       → StandsOverFrom version old log
       → (proxy : ℕ) × (took : TakesFrom proxy old new)
       × StopsAtLimit old.core.set.map.limit old.core.set.window proxy took.batch

@@ -21,7 +21,9 @@ ghost use Rattle.resolver.specs.Lanes.{ComesBefore, IsFull, TakesNone, AreSameLi
 ghost use Rattle.resolver.specs.Resolver.{ResolverState, StandsOverFrom, IsResolvingFrom};
 ghost use Rattle.resolver.specs.Resolver.{TakesFrom, Finishes, TakesNoStep, StepsBy, IfNotTaken};
 ghost use Rattle.resolver.specs.Resolver.{IsThrough, SameBut, AreClients, SameClients};
+ghost use Rattle.resolver.specs.Observed.{Observes, ObservesStep};
 ghost use Rattle.resolver.specs.Share.{share_of, HasMoreUnanswered};
+ghost use Rattle.resolver.specs.Turns.{Turns};
 ghost use Rattle.resolver.specs.Settled.{SettledFrom, IsComplete};
 
 use crate::all_lanes;
@@ -31,6 +33,7 @@ use crate::resolver_core::Core;
 use crate::stop::Stop;
 use crate::turn::{Account, Turn};
 use keyspace::laws;
+use observer::{Observer, Unobserved};
 use std::marker::Model;
 
 /// The resolver over lanes: takes the batches of its clients, and sends them the answers of the
@@ -159,7 +162,25 @@ impl Resolver {
         ensures lanes { Each (λ _ l m. LanesGoOn l m) self.old.lanes self.new.lanes }
         ensures goes_on { GoesOn self.old.core self.new.core }
     {
-        let stepped = self.step();
+        self.turn_observed(&mut Unobserved)
+    }
+
+    /// Takes a turn as [`turn`](Self::turn) does, and shows the observer each batch that is
+    /// processed, as [`Core::admit_observed`] does. If the observer is refused memory, the resolver
+    /// stops with `Memory`.
+    pub fn turn_observed<O: Observer>(&mut self, observer: &mut O) -> Result<Turn, Stop>
+        ensures turns { Turns result self.old self.new }
+        // What the observer has seen follows the log, whichever step was added to it.
+        ensures sees_taken { (proxy : ℕ) (took : TakesFrom proxy self.old self.new)
+            → Observes (O.has_seen observer.old) (O.has_seen observer.new) self.old self.new
+            (Take proxy took.batch ∷ []) }
+        ensures sees_finish { Finishes self.old self.new
+            → Observes (O.has_seen observer.old) (O.has_seen observer.new) self.old self.new
+            (Finish ∷ []) }
+        ensures sees_nothing { TakesNoStep self.old self.new
+            → Observes (O.has_seen observer.old) (O.has_seen observer.new) self.old self.new [] }
+    {
+        let stepped = self.step(observer);
         self.hand_out();
         self.close();
         Ok(match stepped? {
@@ -220,8 +241,8 @@ impl Resolver {
     }
 
     // Takes a batch of the next proxy that has one and admits it, and returns the proxy; or
-    // finishes the core, once all have ended.
-    fn step(&mut self) -> Result<Option<usize>, Stop>
+    // finishes the core, once all have ended. The observer sees each batch that is processed.
+    fn step<O: Observer>(&mut self, observer: &mut O) -> Result<Option<usize>, Stop>
         ensures took { (proxy : ℕ) → result ≡ Ok (Some proxy) → TakesFrom proxy self.old self.new }
         ensures still_open { (proxy : ℕ) → result ≡ Ok (Some proxy)
             → all_ended self.new.lanes ≡ false }
@@ -254,6 +275,8 @@ impl Resolver {
         ensures lanes { Each (λ _ l m. LanesGoOn l m) self.old.lanes self.new.lanes }
         ensures goes_on { GoesOn self.old.core self.new.core }
         ensures open { OnOk result (self.old.core.stop ≡ None) }
+        ensures sees { ObservesStep (O.has_seen observer.old) (O.has_seen observer.new) self.old
+            self.new }
     {
         if let Some(stop) = self.core.stop() {
             return Err(stop);
@@ -261,7 +284,7 @@ impl Resolver {
         match all_lanes::take_from(&mut self.all_lanes, self.next) {
             Some((proxy, batch)) => {
                 self.next = proxy + 1;
-                self.core.admit(proxy, batch)?;
+                self.core.admit_observed(observer, proxy, batch)?;
                 Ok(Some(proxy))
             }
             None => {

@@ -171,12 +171,15 @@ impl Core {
     }
 
     /// Takes a batch as [`admit`](Self::admit) does, and shows the observer each batch that is
-    /// processed: this one, or those held before that follow it too, in the order of processing.
+    /// processed: this one if its turn has come, and the held ones that follow, in that order.
     ///
-    /// The observer sees a batch once it is judged and its reply is kept, and before the answer is
-    /// owed. It sees no repeat. If it is refused memory, the core stops with `Memory`. After an
-    /// error it has seen all batches that were processed before this call, and of those that this
-    /// one was to process a prefix. If a stop was met before, it sees nothing.
+    /// The observer sees a batch once its reply is kept, and before its answer is owed. It sees no
+    /// batch that is held, and no repeat. If the observer is refused memory, the core stops with
+    /// `Memory`, and that batch gets no answer. An error says that it has seen a prefix of the
+    /// batches that this call was to process. After a stop it sees nothing.
+    ///
+    /// No observer is shown the opening batch of a core that starts at a version
+    /// ([`new_at`](Self::new_at)), which counts as processed in `seen`.
     pub fn admit_observed<O: Observer>(
         &mut self,
         observer: &mut O,
