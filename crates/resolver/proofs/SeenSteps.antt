@@ -1,5 +1,5 @@
 -- What an observer has seen, as a resolver over lanes takes a step. The lanes show which.
-use Rattle.std.proofs.Common.{◌≡◌, ℕ, ◌==◌, cond, true, false, List, [], ◌∷◌, ◌++◌, length, length-append, append-nil, refl, sym, ap, subst, ◌∙◌, inl, inr, arith}
+use Rattle.std.proofs.Common.{◌≡◌, ℕ, ◌==◌, cond, Bool, true, false, List, [], ◌∷◌, ◌++◌, length, length-append, append-nil, refl, sym, ap, subst, ◌∙◌, inl, inr, arith}
 use Rattle.std.specs.Prelude.{ℤ}
 use Rattle.std.proofs.lemmas.Bool.{cases_Bool, eqb-true, eq-eqb, true≢false}
 use Rattle.std.proofs.lemmas.List.{same_from_push}
@@ -30,7 +30,7 @@ not_same proxy batch old new one same =
 same_one : (p : ℕ) (b : Batch) (q : ℕ) (d : Batch) (old new : List Lanes) → TakesOne p b old new → TakesOne q d old new
     → (p ≡ q) × (b ≡ d)
 same_one p b q d old new one other =
-    let taken = λ own. cond own (taken_from old p ++ d ∷ []) (taken_from old p) in
+    let taken : Bool → List Batch = λ own. cond own (taken_from old p ++ d ∷ []) (taken_from old p) in
     elim (cases_Bool (q == p)) [
       | inl own ↦
           let both = sym (one_more p b old new one) ∙ other p ∙ ap taken own in

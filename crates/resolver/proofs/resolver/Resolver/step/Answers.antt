@@ -453,6 +453,9 @@ returns-in_ok-admit_observed-in-Some-take_from-clause-still_open g c = λ proxy 
     c.in-Some-take_from.batch (admitted_found g c) c.self.invariant (admitted_running g c) c.admit_observed.ensures.admits.goes_on refl
     refl refl
 
+pub returns-in-Some-clause-sees : goal.returns-in-Some-clause-sees
+returns-in-Some-clause-sees g c = step_unchanged (g.O.Observer.has_seen c.args.observer.now) c.args.self.now
+
 pub returns-in_err-admit_observed-in-Some-take_from-clause-sees :
     goal.returns-in_err-admit_observed-in-Some-take_from-clause-sees
 returns-in_err-admit_observed-in-Some-take_from-clause-sees g c =

@@ -29,7 +29,7 @@ returns-in_err-proxy-clause-turns g c =
     let met = stop_met_on h k step.stop_met in
     let stopped : IsSome old.core.stop → TakesNoStep old new =
     λ some. stopped_on h k old.core.stop c.step-stepped.result some c.step-stepped.ensures.stopped in
-    let is_met = λ stop. same_stop c.from_residual.result c.in_err-proxy.field-0.0 stop c.from_residual.ensures.1 in
+    let is_met = λ (met : Stop). same_stop c.from_residual.result c.in_err-proxy.field-0.0 met c.from_residual.ensures.1 in
     let gate_full : old.core.stop ≡ None → c.from_residual.result ≡ Err stop.GateFull
     → (proxy : ℕ) × (took : TakesFrom proxy old new) × (old.core.version <ℤ took.batch.previous)
     × (length old.core.held ≡ MAX_HELD) =
