@@ -1,6 +1,7 @@
 use Rattle.std.proofs.Common.{
   rules,
   ◌≡◌,
+  ℕ,
   ◌++◌,
   List,
   [],
@@ -18,7 +19,7 @@ use Rattle.std.proofs.Common.{
   ◌∙◌,
   arith,
 }
-use Rattle.std.specs.Prelude.{◌<ℤ◌}
+use Rattle.std.specs.Prelude.{ℤ, ◌<ℤ◌, ◌≤ℤ◌}
 use Rattle.std.proofs.lemmas.Int.{to_z-of_z, ints}
 use Rattle.keyspace.specs.declared.answer.Answer.TheVariants as told
 use Rattle.keyspace.specs.declared.reply.Reply.{Reply}
@@ -100,7 +101,17 @@ module _ (g : Over) (c : In-Ok g) where
       let old = c.self.invariant.remembers in
       (old.0 ++ writes_of c.args.batch c.in-Ok.reply, remembers old.0 old.1)
 
-  -- it is the reply of the reference resolver
+  -- no reply is kept of a version above the batch's, once its own is kept
+  past : (now : ℤ) → now ≡ c.args.batch.version → (received : ℤ) (proxy : ℕ) (v : ℤ) (reply : Reply)
+      → kept_also c.args.proxy received c.in-Ok.reply (reply_of c.self.inside.replies) proxy v ≡ Some reply → v ≤ℤ now
+  past now is received proxy v reply kept =
+      let later = later in
+      let same = same in
+      let known = kept_also_past c.args.proxy received c.in-Ok.reply (reply_of c.self.inside.replies) proxy v
+      (λ old was. let past = c.self.invariant.past proxy v old was in omega (arith, ints, past, later, same)) reply kept in
+      omega (arith, ints, known, same, is)
+
+  -- the reply is that of the reference resolver
   judged : (state : State) (given : Given) → IsIn state given before
       → c.in-Ok.reply ≡ judge c.args.self.now.set.window (writes state.processed) c.args.batch
   judged state given was =
@@ -128,33 +139,20 @@ pub invariant_of-self-in_err-see : goal.invariant_of-self-in_err-see
 invariant_of-self-in_err-see g c =
     let d = (goal.at.invariant_of-self-in_err-see g c).In-Ok in
     let version = to_z-of_z w64 c.args.batch.version (fits g d) in
-    let later = later g d in
-    let same = same g d in
     IsCore-later (before g d) _ c.self.invariant c.in-Ok.ensures.goes_on.1 (c.in-Ok.ensures.resolved ∙ sym version)
-    (remembers_some g d) refl
-    (ap length c.in_ok-reserve.ensures.same)
-    (λ proxy v reply is.
-    let past = kept_also_past c.args.proxy _ c.in-Ok.reply (reply_of c.self.inside.replies) proxy v
-    (λ old was. let past = c.self.invariant.past proxy v old was in omega (arith, ints, past, later, same))
-    reply (sym (c.in_ok-keep.ensures.ok proxy v) ∙ is) in
-    omega (arith, ints, past, same, version))
+    (remembers_some g d) refl (ap length c.in_ok-reserve.ensures.same)
+    (λ proxy v reply is. past g d _ version _ proxy v reply (sym (c.in_ok-keep.ensures.ok proxy v) ∙ is))
 
 pub invariant_of-self-2 : goal.invariant_of-self-2
 invariant_of-self-2 g c =
     let d = (goal.at.invariant_of-self-2 g c).In-Ok in
     let version = to_z-of_z w64 c.args.batch.version (fits g d) in
-    let later = later g d in
-    let same = same g d in
     IsCore-later (before g d) _ c.self.invariant c.in-Ok.ensures.goes_on.1 (c.in-Ok.ensures.resolved ∙ sym version)
     (remembers_some g d) refl
     (ap length c.push.ensures.answers
     ∙ length-owed_also c.args.proxy (told.Reply c.in-Ok.reply) c.reserve.new.self.answers
     ∙ ap length c.in_ok-reserve.ensures.same)
-    (λ proxy v reply is.
-    let past = kept_also_past c.args.proxy _ c.in-Ok.reply (reply_of c.self.inside.replies) proxy v
-    (λ old was. let past = c.self.invariant.past proxy v old was in omega (arith, ints, past, later, same))
-    reply (sym (c.in_ok-keep.ensures.ok proxy v) ∙ is) in
-    omega (arith, ints, past, same, version))
+    (λ proxy v reply is. past g d _ version _ proxy v reply (sym (c.in_ok-keep.ensures.ok proxy v) ∙ is))
 
 pub returns-clause-ok : goal.returns-clause-ok
 returns-clause-ok g c = λ state given are.
