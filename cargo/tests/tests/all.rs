@@ -12,6 +12,7 @@ mod lane;
 mod limits;
 mod lines;
 mod records;
+mod replay_explanations;
 mod resolver;
 mod retries;
 mod rows;

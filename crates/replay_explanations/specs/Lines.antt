@@ -1,5 +1,5 @@
 -- The lines under an answer, which explain why transactions were rejected. This project's own.
-use Rattle.std.specs.Prelude.{ℕ, ◌+◌, ◌-◌, ◌^◌, ◌==◌, ◌&&◌, ℤ, if◌then◌else◌, min, List, [], ◌∷◌, ◌++◌, codes, flat_map, length, Option, None, Some, slice_get}
+use Rattle.std.specs.Prelude.{ℕ, zero, suc, ◌+◌, ◌-◌, ◌^◌, ◌==◌, ◌&&◌, ℤ, if◌then◌else◌, min, List, [], ◌∷◌, ◌++◌, codes, flat_map, length, Option, None, Some, slice_get}
 use Rattle.std.specs.Fmt.{decimal, signed_decimal}
 use Rattle.std.specs.Ordering.{int_eq}
 use Rattle.keys.specs.declared.range.Range.{Range}
@@ -56,7 +56,7 @@ read_line version j i (Some range) ws = conflict_line version j i range (newest 
 
 -- the indices from one number on, so many
 abbrev pub indices_from : ℕ → ℕ → List ℕ
-indices_from first 0 = []
+indices_from first zero = []
 indices_from first (suc n) = first ∷ indices_from (first + 1) n
 
 -- the read ranges of a conflicting transaction that are asked about: those of its report if it has one, otherwise all

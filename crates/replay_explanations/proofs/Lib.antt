@@ -1,0 +1,6 @@
+pub mod Indices
+pub mod Asked
+pub mod Keys
+pub mod Same
+pub mod Seen
+pub mod HasLine
