@@ -1,5 +1,5 @@
 -- Each transaction that is rejected as a conflict has a line.
-use Rattle.std.proofs.Common.{◌≡◌, ◌≢◌, ℕ, zero, suc, ◌+◌, ◌<◌, List, [], ◌∷◌, ◌++◌, length, Option, Some, None, slice_get, refl, sym, ap, subst, ◌∙◌, inl, inr, ◌⊎◌, arith}
+use Rattle.std.proofs.Common.{◌≡◌, ◌≢◌, ℕ, zero, suc, ◌+◌, ◌-◌, ◌^◌, ◌<◌, min, List, [], ◌∷◌, ◌++◌, length, Option, Some, None, slice_get, refl, sym, ap, subst, ◌∙◌, inl, inr, ◌⊎◌, arith}
 use Rattle.std.specs.Prelude.{ℤ, Contains, IsTrue}
 use Rattle.std.specs.List.{flat_map}
 use Rattle.std.proofs.lemmas.Option.{slice_get_within}
@@ -51,9 +51,10 @@ line_of_range : (version : ℤ) (j i : ℕ) (o : Option Range) (all : List Writt
 line_of_range version j i None all snapshot some e = some refl
 line_of_range version j i (Some range) all snapshot some e =
     let ws = explaining_range all version j snapshot (Some range) in
+    let others = min (length ws - 1) (2 ^ 64 - 1) in
     let last = some_newest ws some in
-    line_of_write version j i range last.0 _
-    (ap (λ (o : Option Written). conflict_line version j i range o _) (sym last.1) ∙ e)
+    line_of_write version j i range last.0 others
+    (ap (λ (o : Option Written). conflict_line version j i range o others) (sym last.1) ∙ e)
 
 read_within : (version : ℤ) (j i : ℕ) (reads : List Range) (all : List Written) (snapshot : ℤ)
     → explaining_range all version j snapshot (slice_get reads i) ≢ [] → i < length reads

@@ -1,3 +1,4 @@
+pub mod Appends
 pub mod Indices
 pub mod Asked
 pub mod Keys

@@ -26,10 +26,10 @@ through_test : (a b c : ℤ) → a ≤ℤ b → int_lt c b ≡ false → a ≤�
 through_test a b c h e = grind (arith, ints)
 
 at_most_unless : (a b c : ℤ) → a ≤ℤ b → (c <ℤ b → ⊥) → a ≤ℤ c
-at_most_unless a b c h no = go (int_lt c b) refl
+at_most_unless a b c h never = go (int_lt c b) refl
   where
     go : (test : Bool) → int_lt c b ≡ test → a ≤ℤ c
-    go true e = absurd (no (below_from_test c b e))
+    go true e = absurd (never (below_from_test c b e))
     go false e = through_test a b c h e
 
 lines_same : (window : ℤ) (ps qs : List Processed) (b : Batch) (first : ℕ) (ts : List Txn) (es : List Entry)

@@ -141,7 +141,7 @@ explained_more window before (q ∷ ps) p proxy version all = go (is_batch q pro
 pub has_seen_no_more : (e f : ExplainerState) (ps : List Processed) → f.has_failed ≡ true → f.texts ≡ e.texts
     → f.history.window ≡ e.history.window → HasExplained e ps → HasExplained f ps
 has_seen_no_more e f ps failed texts window seen = record {
-  follows = λ open chain. absurd (let both : true ≡ false = sym failed ∙ open in cc);
+  follows = λ working chain. absurd (let both : true ≡ false = sym failed ∙ working in cc);
   texts = λ chain proxy version.
       ap (λ x. text_of x proxy version) texts
       ∙ seen.texts (subst (λ (w : ℤ). IsChain w ps) window chain) proxy version
@@ -198,6 +198,6 @@ module _ (e f : ExplainerState) (p : Processed) (text : List ℕ)
   -- one more batch is explained
   pub has_seen_more : (ps : List Processed) → HasExplained e ps → HasExplained f (ps ++ p ∷ [])
   has_seen_more ps seen = record {
-    follows = λ open chain. follows_more ps seen chain;
+    follows = λ working chain. follows_more ps seen chain;
     texts = λ chain. texts_more ps seen chain;
   }
