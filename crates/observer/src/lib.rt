@@ -12,7 +12,6 @@ ghost use Rattle.keyspace.specs.Processed.{Processed};
 
 use keyspace::{Batch, Reply};
 use std::alloc::AllocError;
-
 pub use unobserved::Unobserved;
 
 /// Sees each batch that is processed, in order.

@@ -1,5 +1,5 @@
 -- Texts to which one piece after the other is appended.
-use Rattle.std.proofs.Common.{◌≡◌, ℕ, List, [], ◌∷◌, ◌++◌, codes, sym, ap, ◌∙◌, append_assoc}
+use Rattle.std.proofs.Common.{◌≡◌, ℕ, List, ◌++◌, codes, sym, ap, ◌∙◌, append_assoc}
 use Rattle.std.specs.Prelude.{ℤ, decimal}
 use Rattle.std.specs.Fmt.{signed_decimal}
 use Rattle.keyspace.specs.declared.txn.Txn.{Txn}
@@ -10,10 +10,21 @@ use Rattle.keyspace.specs.Judged.{edge}
 use Rattle.keyspace.specs.Processed.{Processed}
 use Rattle.replay_explanations.specs.Lines.{txn_lines}
 
--- a piece, and then others
-pub then : (now next last xs ys : List ℕ) → next ≡ now ++ xs → last ≡ next ++ ys → last ≡ now ++ (xs ++ ys)
-then now next last xs ys first second =
-    second ∙ ap (λ (zs : List ℕ). zs ++ ys) first ∙ append_assoc now xs ys
+-- two pieces
+pub joined : (start now next xs ys : List ℕ) → now ≡ start ++ xs → next ≡ now ++ ys → next ≡ start ++ (xs ++ ys)
+joined start now next xs ys first second =
+    second ∙ ap (λ (zs : List ℕ). zs ++ ys) first ∙ append_assoc start xs ys
+
+pub six_pieces : (o p q r s t u a b c d e f : List ℕ) → p ≡ o ++ a → q ≡ p ++ b → r ≡ q ++ c → s ≡ r ++ d → t ≡ s ++ e
+    → u ≡ t ++ f → u ≡ o ++ (a ++ b ++ c ++ d ++ e ++ f)
+six_pieces o p q r s t u a b c d e f first second third fourth fifth sixth =
+    joined o t u (a ++ b ++ c ++ d ++ e) f
+    (joined o s t (a ++ b ++ c ++ d) e
+    (joined o r s (a ++ b ++ c) d (joined o q r (a ++ b) c (joined o p q a b first second) third) fourth) fifth) sixth
+
+-- the same pieces after another one
+pub six_after : (o a b c d e f : List ℕ) → o ++ (a ++ b ++ c ++ d ++ e ++ f) ≡ o ++ a ++ b ++ c ++ d ++ e ++ f
+six_after o a b c d e f = simp append_assoc
 
 -- a piece that is another one
 pub as_piece : (now next xs ys : List ℕ) → next ≡ now ++ xs → xs ≡ ys → next ≡ now ++ ys

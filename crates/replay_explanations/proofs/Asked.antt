@@ -1,5 +1,5 @@
 -- What the lines of a read range, of a transaction and of a batch are, by what a search finds.
-use Rattle.std.proofs.Common.{◌≡◌, ℕ, zero, suc, ◌+◌, ◌-◌, ◌^◌, ◌<◌, ◌≤◌, min, List, [], ◌∷◌, ◌++◌, length, take, Option, Some, None, slice_get, refl, sym, ap, ◌∙◌, arith, append-nil, append_assoc, length-append}
+use Rattle.std.proofs.Common.{◌≡◌, ℕ, zero, suc, ◌+◌, ◌-◌, ◌^◌, ◌≤◌, min, List, [], ◌∷◌, ◌++◌, length, take, Option, Some, None, slice_get, refl, sym, ap, ◌∙◌, arith, append-nil, append_assoc, length-append}
 use Rattle.std.specs.Prelude.{ℤ}
 use Rattle.std.specs.List.{flat_map}
 use Rattle.std.proofs.lemmas.Option.{same_Some, slice_get_past}
@@ -7,11 +7,9 @@ use Rattle.keys.specs.declared.range.Range.{Range}
 use Rattle.keyspace.specs.declared.txn.Txn.{Txn}
 use Rattle.keyspace.specs.declared.batch.Batch.{Batch}
 use Rattle.keyspace.specs.declared.reply.Entry.{Entry}
-use Rattle.keyspace.specs.declared.reply.Verdict.{Verdict}
-use Rattle.keyspace.specs.declared.reply.Verdict.TheVariants.{Conflict, TooOld, Committed}
 use Rattle.keyspace.specs.Processed.{Processed}
 use Rattle.explanations.specs.Written.{Written}
-use Rattle.explanations.specs.Explains.{explaining, explaining_newest, explaining_of, newest_of}
+use Rattle.explanations.specs.Explains.{explaining_newest, explaining_of, newest_of}
 use Rattle.explanations.specs.Found.{IsExplained}
 use Rattle.replay_explanations.specs.Lines.{asked_about, conflict_line, conflict_lines, lines_from, newest, read_line, txn_lines}
 

@@ -1,11 +1,10 @@
 -- Each transaction that is rejected as a conflict has a line.
-use Rattle.std.proofs.Common.{◌≡◌, ◌≢◌, ℕ, zero, suc, ◌+◌, ◌-◌, ◌^◌, ◌<◌, min, List, [], ◌∷◌, ◌++◌, length, Option, Some, None, slice_get, refl, sym, ap, subst, ◌∙◌, inl, inr, ◌⊎◌, arith}
-use Rattle.std.specs.Prelude.{ℤ, Contains, IsTrue}
+use Rattle.std.proofs.Common.{◌≡◌, ◌≢◌, ℕ, zero, suc, ◌-◌, ◌^◌, ◌<◌, min, List, [], ◌∷◌, ◌++◌, length, Option, Some, None, slice_get, refl, sym, ap, subst, ◌∙◌, inl, inr, ◌⊎◌, arith}
+use Rattle.std.specs.Prelude.{ℤ, Contains}
 use Rattle.std.specs.List.{flat_map}
 use Rattle.std.proofs.lemmas.Option.{slice_get_within}
 use Rattle.keys.specs.declared.range.Range.{Range}
 use Rattle.keyspace.specs.declared.txn.Txn.{Txn}
-use Rattle.keyspace.specs.declared.batch.Batch.{Batch}
 use Rattle.keyspace.specs.declared.reply.Entry.{Entry}
 use Rattle.keyspace.specs.declared.reply.Verdict.TheVariants.{Conflict}
 use Rattle.keyspace.specs.Processed.{Processed}
@@ -15,7 +14,7 @@ use Rattle.keyspace.specs.Judged.{IsHit, MeetsEarlier, IsReported, HasReport}
 use Rattle.explanations.specs.Written.{Written, all_written}
 use Rattle.explanations.specs.Explains.{explaining, explaining_range, explaining_txn}
 use Rattle.explanations.proofs.callers.Chains.{explained_if_in_conflict, each_conflict_explained}
-use Rattle.replay_explanations.specs.Lines.{asked_about, conflict_line, conflict_lines, indices_from, newest, read_line}
+use Rattle.replay_explanations.specs.Lines.{conflict_line, conflict_lines, indices_from, newest, read_line}
 use Rattle.replay_explanations.proofs.Indices.{index_at}
 
 first_empty : (xs ys : List ℕ) → xs ++ ys ≡ [] → xs ≡ []

@@ -1,6 +1,6 @@
 -- What an explainer holds, from the batches that it saw before to one more.
 use Rattle.std.proofs.Common.{◌≡◌, ℕ, Bool, true, false, ◌&&◌, ◌==◌, cond, List, [], ◌∷◌, ◌++◌, Some, None, Option, refl, sym, ap, subst, ◌∙◌, arith, append_assoc, append-nil}
-use Rattle.std.specs.Prelude.{ℤ, ◌≤ℤ◌, ◌<ℤ◌, ◌-ℤ◌, pos, All, IfSome, int_lt}
+use Rattle.std.specs.Prelude.{ℤ, ◌≤ℤ◌, ◌<ℤ◌, ◌-ℤ◌, pos, All, IfSome, OnErr, Result, Ok, Err, int_lt}
 use Rattle.std.specs.Int.{int_max}
 use Rattle.std.specs.Ordering.{int_eq}
 use Rattle.std.proofs.lemmas.Int.{ints}
@@ -16,7 +16,7 @@ use Rattle.explanations.specs.Explains.{newest_of}
 use Rattle.explanations.specs.History.{HistoryState, Keeps}
 use Rattle.explanations.proofs.callers.Chains.{Precedes, versions_below, newest_of-more}
 use Rattle.replay_explanations.specs.Lines.{explanation, explanation_at, explanation_from}
-use Rattle.replay_explanations.specs.Explainer.{ExplainerState, FollowsChain, HasExplained, text_of}
+use Rattle.replay_explanations.specs.Explainer.{ExplainerState, FollowsChain, HasExplained, Texts, text_of}
 use Rattle.replay_explanations.proofs.Same.{same_explanation}
 
 -- the batches before the last are a chain too
@@ -121,21 +121,46 @@ explained_more : (window : ℤ) (before ps : List Processed) (p : Processed) (pr
     ≡ cond (is_batch p proxy version) (explanation window ((before ++ ps) ++ p ∷ []) p) (explanation_from window before ps proxy version)
 explained_more window before [] p proxy version all =
     ap (λ (qs : List Processed). cond (is_batch p proxy version) (explanation window (qs ++ p ∷ []) p) []) (sym (append-nil before))
-explained_more window before (q ∷ ps) p proxy version all = go (is_batch q proxy version) refl
+explained_more window before (q ∷ ps) p proxy version all =
+    go (is_batch q proxy version) refl (explained_more window (before ++ q ∷ []) ps p proxy version (All-tail (Precedes p) q ps all))
   where
     go : (b : Bool) → is_batch q proxy version ≡ b
+        → explanation_from window (before ++ q ∷ []) (ps ++ p ∷ []) proxy version
+        ≡ cond (is_batch p proxy version) (explanation window (((before ++ q ∷ []) ++ ps) ++ p ∷ []) p)
+        (explanation_from window (before ++ q ∷ []) ps proxy version)
         → cond b (explanation window (before ++ q ∷ []) q) (explanation_from window (before ++ q ∷ []) (ps ++ p ∷ []) proxy version)
         ≡ cond (is_batch p proxy version) (explanation window ((before ++ (q ∷ ps)) ++ p ∷ []) p)
         (cond b (explanation window (before ++ q ∷ []) q) (explanation_from window (before ++ q ∷ []) ps proxy version))
-    go true is =
+    go true is rest =
         let other : is_batch p proxy version ≡ false =
         false_unless (is_batch p proxy version) (λ own.
         apart p q version (All-head (Precedes p) q ps all) (has_version q proxy version is) (has_version p proxy version own)) in
         ap (λ b. cond b (explanation window ((before ++ (q ∷ ps)) ++ p ∷ []) p) (explanation window (before ++ q ∷ []) q)) (sym other)
-    go false is =
-        explained_more window (before ++ q ∷ []) ps p proxy version (All-tail (Precedes p) q ps all)
+    go false is rest =
+        rest
         ∙ ap (λ (qs : List Processed). cond (is_batch p proxy version) (explanation window (qs ++ p ∷ []) p)
         (explanation_from window (before ++ q ∷ []) ps proxy version)) (append_assoc before (q ∷ []) ps)
+
+-- the parts of a processed batch
+pub same_processed : (p q : Processed) → p.proxy ≡ q.proxy → p.batch ≡ q.batch → p.reply ≡ q.reply → p ≡ q
+same_processed p q proxy batch reply = λ i. record { proxy = proxy i; batch = batch i; reply = reply i }
+
+-- the texts before, and the version of the batch
+pub put_same : (old before new : Texts) (proxy : ℕ) (given version : ℤ) (text : List ℕ) → old ≡ before → given ≡ version
+    → (text_of old proxy given ≡ [] → (q : ℕ) (v : ℤ)
+    → text_of new q v ≡ cond ((proxy == q) && int_eq given v) text (text_of old q v))
+    → text_of before proxy version ≡ [] → (q : ℕ) (v : ℤ)
+    → text_of new q v ≡ cond ((proxy == q) && int_eq version v) text (text_of before q v)
+put_same old before new proxy given version text same_texts same_version put =
+    subst (λ (texts : Texts). text_of texts proxy version ≡ [] → (q : ℕ) (v : ℤ)
+    → text_of new q v ≡ cond ((proxy == q) && int_eq version v) text (text_of texts q v)) same_texts
+    (subst (λ (z : ℤ). text_of old proxy z ≡ [] → (q : ℕ) (v : ℤ)
+    → text_of new q v ≡ cond ((proxy == q) && int_eq z v) text (text_of old q v)) same_version put)
+
+-- what holds after an error
+pub on_err : {A E : Type 0} (r : Result A E) (P : Type 0) → P → OnErr r P
+on_err (Ok x) P p = tt
+on_err (Err e) P p = p
 
 -- memory was refused
 pub has_seen_no_more : (e f : ExplainerState) (ps : List Processed) → f.has_failed ≡ true → f.texts ≡ e.texts
@@ -155,7 +180,7 @@ module _ (e f : ExplainerState) (p : Processed) (text : List ℕ)
     (newest : newest_of f.history.kept ≡ Some p.batch)
     (text_is : text ≡ explanation f.history.window f.history.kept p)
     (put : text_of e.texts p.proxy p.batch.version ≡ [] → (proxy : ℕ) (version : ℤ)
-        → text_of f.texts proxy version ≡ cond (is_batch p proxy version) text (text_of e.texts proxy version)) where
+    → text_of f.texts proxy version ≡ cond (is_batch p proxy version) text (text_of e.texts proxy version)) where
   module _ (ps : List Processed) (seen : HasExplained e ps) (chain : IsChain f.history.window (ps ++ p ∷ [])) where
     old_chain : IsChain e.history.window (ps ++ p ∷ [])
     old_chain = subst (λ (w : ℤ). IsChain w (ps ++ p ∷ [])) same_window chain

@@ -57,6 +57,13 @@ impl Explainer {
         }
     }
 
+    /// Returns how far back a transaction may read, in versions, as [`new`](Self::new) was given it.
+    pub fn window(&self) -> i64
+        ensures window { result ≡ self.now.history.window }
+    {
+        self.history.window()
+    }
+
     /// Returns the lines of the batch that this proxy sent with this version, each with its line
     /// feed. They are empty if no transaction was rejected, or if no such batch was seen.
     pub fn explanation(&self, proxy: usize, version: i64) -> &[u8]

@@ -40,8 +40,8 @@ pub(crate) fn put_too_old_line(
     oldest: i64,
 ) -> Result<(), AllocError>
     ensures text { OnOk result (out.new.items ≡ out.old.items
-        ++ codes "  txn " ++ decimal txn ++ codes " too old: snapshot " ++ signed_decimal snapshot
-        ++ codes ", oldest readable version " ++ signed_decimal oldest ++ codes "\n") }
+        ++ (codes "  txn " ++ decimal txn ++ codes " too old: snapshot " ++ signed_decimal snapshot
+        ++ codes ", oldest readable version " ++ signed_decimal oldest ++ codes "\n")) }
 {
     put_begin(out, txn)?;
     out.extend_from_slice(b" too old: snapshot ")?;
@@ -73,13 +73,23 @@ fn put_write(out: &mut Vec<u8>, version: i64, write: &WrittenRef<'_>) -> Result<
     ensures text { OnOk result (out.new.items ≡ out.old.items ++ write_form version write.now) }
 {
     put_range(out, &write.range)?;
+    put_source(out, write)?;
+    put_origin(out, version, write)
+}
+
+// Appends which transaction wrote it.
+fn put_source(out: &mut Vec<u8>, write: &WrittenRef<'_>) -> Result<(), AllocError>
+    ensures text { OnOk result (out.new.items ≡ out.old.items
+        ++ (codes " of proxy " ++ decimal write.now.proxy
+        ++ codes ", version " ++ signed_decimal write.now.version
+        ++ codes ", txn " ++ decimal write.now.txn)) }
+{
     out.extend_from_slice(b" of proxy ")?;
     put_number(out, write.proxy)?;
     out.extend_from_slice(b", version ")?;
     put_version(out, write.version)?;
     out.extend_from_slice(b", txn ")?;
-    put_number(out, write.txn)?;
-    put_origin(out, version, write)
+    put_number(out, write.txn)
 }
 
 fn put_origin(out: &mut Vec<u8>, version: i64, write: &WrittenRef<'_>) -> Result<(), AllocError>

@@ -1,4 +1,4 @@
-use Rattle.std.proofs.Common.{FitsSigned, w64, rules}
+use Rattle.std.proofs.Common.{w64}
 use Rattle.std.proofs.lemmas.Int.{to_z-of_z}
 use Rattle.replay_explanations.proofs.Keys.{text_put}
 use Rattle.replay_explanations.proofs.texts.TextStore.put.Goals as goal
