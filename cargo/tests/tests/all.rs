@@ -16,6 +16,7 @@ mod limits;
 mod lines;
 mod program;
 mod records;
+mod replay_explanations;
 mod reports;
 mod resolver;
 mod retries;
