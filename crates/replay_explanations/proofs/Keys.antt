@@ -1,5 +1,5 @@
 -- What is kept at each key: in a `BTreeMap`, and in the finite map of its entries.
-use Rattle.std.proofs.Common.{◌≡◌, ℕ, ℤ, Bool, true, false, cond, ◌&&◌, ◌==◌, List, [], ◌∷◌, Option, Some, refl, sym, ap, subst, ◌∙◌}
+use Rattle.std.proofs.Common.{◌≡◌, ℕ, ℤ, Bool, true, false, cond, ◌&&◌, ◌==◌, List, [], ◌∷◌, Option, Some, refl, sym, ap, ◌∙◌}
 use Rattle.std.specs.Ordering.{nat_cmp, int_cmp, int_eq}
 use Rattle.std.specs.Cmp.{IsTotalOrder, eq_by_cmp_equiv, nat_cmp_total, int_cmp_total}
 use Rattle.std.specs.BTreeMap as tree
@@ -10,7 +10,6 @@ use Rattle.std.proofs.lemmas.Bool.Decides.{Decides-and, Decides-eqb, Decides-int
 use Rattle.std.proofs.lemmas.Cmp.{on_total, then_total}
 use Rattle.std.proofs.lemmas.Map.Lookups.{CmpEqualImpliesEq, exact_pairs, exact_unsigned, exact_signed}
 use Rattle.std.proofs.lemmas.Map.Views.{tells_apart}
-use Rattle.keys.proofs.callers.Booleans.{and_left, and_right}
 use Rattle.replay_explanations.specs.Explainer.{Texts, key_cmp, text_of, text_or_none}
 
 -- keys that compare alike are one
@@ -64,20 +63,6 @@ text_put m n before proxy given version put text is same same_text updated p v =
     ∙ ap (λ (x : List ℕ). cond ((proxy == p) && int_eq version v) x (text_or_none (tree.get key_cmp m (p, v)))) same_text
     ∙ ap (λ (o : Option (List ℕ)). cond ((proxy == p) && int_eq version v) text (text_or_none o)) (sym (get-map_of m (p, v)))
     ∙ ap (λ (texts : Texts). cond ((proxy == p) && int_eq version v) text (text_of texts p v)) is
-
--- an empty text needs no place
-pub none_put : (texts : Texts) (proxy : ℕ) (version : ℤ) (text : List ℕ) → text ≡ [] → text_of texts proxy version ≡ []
-    → (p : ℕ) (v : ℤ)
-    → text_of texts p v ≡ cond ((proxy == p) && int_eq version v) text (text_of texts p v)
-none_put texts proxy version text none absent p v = go ((proxy == p) && int_eq version v) refl
-  where
-    go : (b : Bool) → ((proxy == p) && int_eq version v) ≡ b → text_of texts p v ≡ cond b text (text_of texts p v)
-    go true e =
-        let same_proxy : proxy ≡ p = (Decides-eqb proxy p).0 (and_left (proxy == p) (int_eq version v) e) in
-        let same_version : version ≡ v = (Decides-int_eq version v).0 (and_right (proxy == p) (int_eq version v) e) in
-        subst (λ (x : ℕ). text_of texts x v ≡ text) same_proxy
-        (subst (λ (z : ℤ). text_of texts proxy z ≡ text) same_version (absent ∙ sym none))
-    go false e = refl
 
 -- what a look-up finds
 pub text_found : (m : BTreeMap (ℕ × ℤ) (List ℕ)) (texts : Texts) (proxy : ℕ) (given version : ℤ) (o : Option (List ℕ))

@@ -1,6 +1,6 @@
 pub mod Appends
 pub mod Indices
-pub mod Asked
+pub mod Found
 pub mod Keys
 pub mod Same
 pub mod Seen

@@ -1,7 +1,7 @@
 use Rattle.std.proofs.Common.{◌≡◌, ◌<◌, Some, length, slice_get, refl, arith}
 use Rattle.std.proofs.lemmas.Option.{slice_get_read}
 use Rattle.keys.proofs.callers.Lists.{some_at}
-use Rattle.replay_explanations.proofs.Asked.{lines_next}
+use Rattle.replay_explanations.proofs.Found.{lines_next}
 use Rattle.replay_explanations.proofs.batch_lines.put_lines.Goals as goal
 
 pub loop-txn-preserved : goal.loop-txn-preserved

@@ -4,7 +4,7 @@ use Rattle.std.proofs.lemmas.Result.{on_ok_weaker}
 use Rattle.explanations.specs.Explains.{explaining_newest}
 use Rattle.replay_explanations.specs.Lines.{conflict_line, read_line}
 use Rattle.replay_explanations.proofs.Appends.{as_piece}
-use Rattle.replay_explanations.proofs.Asked.{explained}
+use Rattle.replay_explanations.proofs.Found.{explained}
 use Rattle.replay_explanations.proofs.batch_lines.put_read_line.Goals as goal
 
 pub returns-in-Some : goal.returns-in-Some
