@@ -17,7 +17,7 @@ line_fields_send : AllSend (shape Line.the_type).fields
 line_fields_send = (
   search (sendable, crosses) depth 20,
   (
-    search sendable,
+    search (sendable, crosses) depth 20,
     (
       search (sendable, crosses) depth 20,
       (search (sendable, crosses, reply.the_send, option.the_field_send) depth 20, tt),
