@@ -5,7 +5,9 @@ use Rattle.std.specs.Prelude.{negsuc, map, true, Option, None, IfSome, slice_get
 use Rattle.std.specs.List.{All, AllZip}
 use Rattle.resolver.specs.declared.client.Client.{Client}
 use Rattle.resolver.specs.declared.stop.Stop.{Stop}
-use Rattle.resolver.specs.Resolver.{AreClients, SameClients}
+use Rattle.keyspace.specs.Run.{Step}
+use Rattle.resolver.specs.Observed.{HasSeen}
+use Rattle.resolver.specs.Resolver.{AreClients, SameClients, StandsOver}
 use Rattle.resolver.specs.Settled.{Settled}
 use Rattle.resolver.specs.Share.{share_of}
 use Rattle.resolver.proofs.callers.Lists.{written_back}
@@ -15,10 +17,10 @@ use Rattle.replay_workers.specs.Threads.{given_each, HasWorkedOn, IsOutcomeOf}
 use Rattle.replay_workers.specs.Run.{HasCapacity}
 use Rattle.replay_workers.specs.Stops.{IsStopOf}
 use Rattle.replay_workers.proofs.callers.SameLanes.{clients_go_on}
-use Rattle.replay_workers.proofs.callers.Stopping.{accounted_new}
+use Rattle.replay_workers.proofs.callers.Stopping.{accounted_new, observed_new}
 use Rattle.replay_workers.proofs.Working.{capacities, capacities_stay, clients_back, clients_ended, started_count}
-use Rattle.replay_workers.proofs.Runs.{is_run}
-use Rattle.replay_workers.proofs.running.run.Goals as goal
+use Rattle.replay_workers.proofs.Runs.{is_run, is_run_log}
+use Rattle.replay_workers.proofs.running.run_observed.Goals as goal
 
 -- nothing was handed back yet
 nothing_back : (outcome : Outcome) → outcome.clients.items ≡ [] → outcome.lines.items ≡ [] → outcome.failures.items ≡ []
@@ -72,8 +74,6 @@ returns g c =
     let same : length readers ≡ length clients = omega (arith, c.in_ok-resolver.ensures.proxies, c.len-proxies.ensures) in
     let handed = subst (λ given. AllZip (HasWorkedOn g.S.Source.remaining) given worked.0) c.in_ok-workers.ensures.given worked.1 in
     let resolver = c.turn_to_end.new.resolver in
-    let told = c.turn_to_end.ensures.accounted
-    (accounted_new c.in_ok-resolver.resolver c.in_ok-resolver.ensures.stands c.in_ok-resolver.ensures.no_stop) in
     let account = c.settle-account.result in
     let back = map (λ (f : Finished). f.client) worked.0 in
     let kept : to_z w64 (of_z w64 c.args.options.window) ≡ c.args.options.window =
@@ -81,10 +81,10 @@ returns g c =
     let window_is = c.turn_to_end.ensures.goes_on.window ∙ c.in_ok-resolver.ensures.window ∙ kept in
     let limit_is = c.turn_to_end.ensures.goes_on.limit ∙ c.in_ok-resolver.ensures.limit in
     let handed_back = c.as_mut_slice.ensures.value ∙ worked.2.clients in
-    let windowed = subst (λ (window : ℤ). Settled window told.log resolver.lanes c.as_mut_slice.result.now account) window_is
-    (c.settle-account.ensures.settled (negsuc 0) told.log told.stands) in
-    let settled = subst (λ (back : List Client). Settled c.args.options.window told.log resolver.lanes back account)
-    handed_back windowed in
+    let settled : (log : List Step) → StandsOver resolver log → Settled c.args.options.window log resolver.lanes back account =
+    λ log stands. subst (λ (back : List Client). Settled c.args.options.window log resolver.lanes back account) handed_back
+    (subst (λ (window : ℤ). Settled window log resolver.lanes c.as_mut_slice.result.now account) window_is
+    (c.settle-account.ensures.settled (negsuc 0) log stands)) in
     let outcome = c.join_all-outcome.result in
     let now = c.settle-account.new.clients in
     let same_clients = subst (λ (l : List Client). SameClients l now) c.as_mut_slice.ensures.value
@@ -99,13 +99,32 @@ returns g c =
           c.settle-account.ensures.ended proxy client at
           (all_ended proxy client (ap (λ (l : List Client). slice_get l proxy) (sym handed_back) ∙ at));
     }) in
-    let met = subst (λ (limit : ℕ). IfSome account.stop (IsStopOf limit c.args.options.window told.log)) limit_is
-    (subst (λ (window : ℤ). IfSome account.stop (IsStopOf resolver.core.set.map.limit window told.log)) window_is
-    (subst (λ (stop : Option Stop). IfSome stop (IsStopOf resolver.core.set.map.limit resolver.core.set.window told.log))
-    (sym c.settle-account.ensures.stop) told.met)) in
+    let met : (log : List Step) → IfSome resolver.core.stop (IsStopOf resolver.core.set.map.limit resolver.core.set.window log)
+    → IfSome account.stop (IsStopOf c.args.options.limit c.args.options.window log) = λ log is.
+    subst (λ (limit : ℕ). IfSome account.stop (IsStopOf limit c.args.options.window log)) limit_is
+    (subst (λ (window : ℤ). IfSome account.stop (IsStopOf resolver.core.set.map.limit window log)) window_is
+    (subst (λ (stop : Option Stop). IfSome stop (IsStopOf resolver.core.set.map.limit resolver.core.set.window log))
+    (sym c.settle-account.ensures.stop) is)) in
+    let told = c.turn_to_end.ensures.accounted
+    (accounted_new c.in_ok-resolver.resolver c.in_ok-resolver.ensures.stands c.in_ok-resolver.ensures.no_stop) in
     record {
-      run = is_run g.S.Source.remaining c.args.options share readers clients worked.0 c.join_all-outcome.result told.log resolver.lanes
-          account same c.in_ok-resolver.ensures.new_clients handed worked.2 settled whole met;
+      run = is_run g.S.Source.remaining c.args.options share readers clients worked.0 outcome told.log resolver.lanes
+          account same c.in_ok-resolver.ensures.new_clients handed worked.2 (settled told.log told.stands) whole (met told.log told.met);
+      observed = λ first.
+          let Seen = g.O.Observer.has_seen c.turn_to_end.new.observer in
+          let saw = c.turn_to_end.ensures.observed (observed_new (g.O.Observer.has_seen c.args.observer.now)
+          c.in_ok-resolver.resolver c.in_ok-resolver.ensures.stands c.in_ok-resolver.ensures.no_stop first) in
+          let log_is = is_run_log g.S.Source.remaining c.args.options share readers clients worked.0 outcome saw.log resolver.lanes
+          account same c.in_ok-resolver.ensures.new_clients handed worked.2 (settled saw.log saw.stands) whole (met saw.log saw.met) in
+          record {
+            run = is_run g.S.Source.remaining c.args.options share readers clients worked.0 outcome saw.log resolver.lanes
+                account same c.in_ok-resolver.ensures.new_clients handed worked.2 (settled saw.log saw.stands) whole
+                (met saw.log saw.met);
+            seen = subst (λ (log : List Step). HasSeen Seen account.stop c.args.options.window log) (sym log_is)
+                (subst (λ (window : ℤ). HasSeen Seen account.stop window saw.log) window_is
+                (subst (λ (stop : Option Stop). HasSeen Seen stop resolver.core.set.window saw.log)
+                (sym c.settle-account.ensures.stop) saw.seen));
+          };
       capacity = subst (All (HasCapacity c.args.options.capacity))
           (sym (written_back outcome.clients.len now outcome.clients.items same_clients.count outcome.clients.ok.0))
           (capacities_stay c.args.options.capacity outcome.clients.items now same_clients
