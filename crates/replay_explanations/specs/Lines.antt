@@ -54,7 +54,7 @@ abbrev pub read_line : ℤ → ℕ → ℕ → Option Range → List Written →
 read_line version j i None ws = []
 read_line version j i (Some range) ws = conflict_line version j i range (newest ws) (min (length ws - 1) (2 ^ 64 - 1))
 
--- the indices from one number on, so many
+-- the n indices from the first one on
 abbrev pub indices_from : ℕ → ℕ → List ℕ
 indices_from first zero = []
 indices_from first (suc n) = first ∷ indices_from (first + 1) n
