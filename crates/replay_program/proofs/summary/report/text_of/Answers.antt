@@ -8,9 +8,11 @@ use Rattle.replay_summary.specs.Summary.{summary_of}
 use Rattle.replay_summary.specs.Text.{text}
 use Rattle.replay_program.proofs.summary.report.text_of.Goals as goal
 
-pub text_of_sorted-requires-rise : goal.text_of_sorted-requires-rise
-text_of_sorted-requires-rise c =
-    subst (All (Rise version_of_line)) (sym c.in_ok-sort_lines.ensures.ok) (lines_rise (map vec_items c.args.received.now))
+pub text_of_sorted-requires : goal.text_of_sorted-requires
+text_of_sorted-requires c = record {
+  rise =
+      subst (All (Rise version_of_line)) (sym c.in_ok-sort_lines.ensures.ok) (lines_rise (map vec_items c.args.received.now));
+}
 
 pub returns-in-Ok-clause-text : goal.returns-in-Ok-clause-text
 returns-in-Ok-clause-text c = λ style are.
