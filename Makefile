@@ -181,7 +181,7 @@ figures-test:
 manual-page:
 	.ci/manual-page
 
-# After `make test` or `make replay`, runs the program on words that it refuses, and on paths that have no frames.
+# After `make test` or `make replay`, runs the program on words that it refuses, on paths that have no frames, and for its help.
 program-runs:
 	.ci/program-runs
 

@@ -6,8 +6,8 @@
 //
 // A transaction reads two of KEYS keys and writes two, or READS and WRITES of them, of 16 bytes each. All ways judge the same chain,
 // each by its own set, in turn; of ROUNDS rounds the fastest counts. It prints the microseconds per transaction of each, and the
-// quotients by that of frames; and of frames the part for writing them, decoding them and reading the replies, without which there
-// would be no less to do by values.
+// quotients by that of frames; and the parts: of frames writing, decoding and reading the reply, and of a batch that is used again
+// adding, and the rest without adding, which is the least that a batch without a frame can take. Many short rounds are less disturbed.
 //     cc -O2 -Iinclude bench/judging.c out/quick/libarchcaraway.a -o judging
 #include <inttypes.h>
 #include <stdio.h>
@@ -52,10 +52,21 @@ static void draw(Drawn *drawn, uint64_t *state) {
     }
 }
 
-// The seconds of the parts that only frames have.
-static double writing, decoding, reading;
+// The seconds of parts: of one round, and the least of all rounds.
+typedef struct {
+    double writing, decoding, reading, adding, judging;
+} Parts;
 
-static void by_frame(archcaraway_set *set, archcaraway_writer *writer, uint8_t *buffer, const Drawn *drawn, uint8_t *verdicts) {
+static Parts part, least = {1e9, 1e9, 1e9, 1e9, 1e9};
+
+static void take_less(double *all, double one) {
+    if (one < *all) *all = one;
+}
+
+// A profile shows each way apart, so none is inlined.
+#define WAY __attribute__((noinline)) static void
+
+WAY by_frame(archcaraway_set *set, archcaraway_writer *writer, uint8_t *buffer, const Drawn *drawn, uint8_t *verdicts) {
     archcaraway_reply reply;
     archcaraway_entry entry;
     size_t length, i = 0;
@@ -69,12 +80,12 @@ static void by_frame(archcaraway_set *set, archcaraway_writer *writer, uint8_t *
     }
     demand(archcaraway_batch_end(writer) == 0, "a frame");
     double written = now();
-    writing += written - start;
+    part.writing += written - start;
     demand(archcaraway_set_resolve(set, writer->bytes, writer->length, buffer, ARCHCARAWAY_MAX_REPLY, &length) == 0, "a reply");
     double resolved = now();
     demand(archcaraway_reply_read(&reply, buffer, length) == 0, "a reply that is read");
     while (archcaraway_reply_next(&reply, &entry)) verdicts[i++] = (uint8_t)entry.verdict;
-    reading += now() - resolved;
+    part.reading += now() - resolved;
 }
 
 // Points to the drawn keys.
@@ -91,17 +102,21 @@ static void borrow(archcaraway_range *ranges, archcaraway_txn *txns, const Drawn
     }
 }
 
-static void by_value(archcaraway_set *set, archcaraway_range *ranges, archcaraway_txn *txns, const Drawn *drawn, uint8_t *verdicts) {
+WAY by_value(archcaraway_set *set, archcaraway_range *ranges, archcaraway_txn *txns, const Drawn *drawn, uint8_t *verdicts) {
     borrow(ranges, txns, drawn);
     demand(archcaraway_set_judge(set, drawn->version, txns, drawn->count, verdicts, NULL) == 0, "verdicts");
 }
 
-static void by_batch(archcaraway_set *set, archcaraway_batch *batch, archcaraway_range *ranges, archcaraway_txn *txns,
-                     const Drawn *drawn, uint8_t *verdicts) {
+WAY by_batch(archcaraway_set *set, archcaraway_batch *batch, archcaraway_range *ranges, archcaraway_txn *txns, const Drawn *drawn,
+             uint8_t *verdicts) {
+    double start = now();
     borrow(ranges, txns, drawn);
     archcaraway_batch_clear(batch);
     for (size_t t = 0; t < drawn->count; t++) demand(archcaraway_batch_add(batch, &txns[t]) == 0, "a transaction");
+    double added = now();
+    part.adding += added - start;
     demand(archcaraway_set_judge_batch(set, drawn->version, batch, verdicts, drawn->count) == 0, "verdicts");
+    part.judging += now() - added;
 }
 
 int main(int words, char **word) {
@@ -127,6 +142,7 @@ int main(int words, char **word) {
         demand(archcaraway_set_new(ARCHCARAWAY_WINDOW, ARCHCARAWAY_LIMIT, &c) == 0, "a set");
         demand(archcaraway_batch_new(&batch) == 0, "a batch");
         drawn.version = 0;
+        part = (Parts){0, 0, 0, 0, 0};
         for (size_t i = 0; i < batches; i++) {
             draw(&drawn, &state);
             double start = now();
@@ -137,7 +153,7 @@ int main(int words, char **word) {
             demand(archcaraway_set_resolve(&a, writer.bytes, writer.length, buffer, ARCHCARAWAY_MAX_REPLY, &none) ==
                        ARCHCARAWAY_VERSION_LATE, "a late frame");
             double decoded = now();
-            decoding += decoded - middle;
+            part.decoding += decoded - middle;
             by_value(&b, ranges, txns, &drawn, two);
             double judged = now();
             by_batch(&c, &batch, ranges, txns, &drawn, three);
@@ -147,9 +163,9 @@ int main(int words, char **word) {
             again += end - judged;
             demand(memcmp(one, two, count) == 0 && memcmp(one, three, count) == 0, "the same verdicts");
         }
-        if (frames < least_frames) least_frames = frames;
-        if (values < least_values) least_values = values;
-        if (again < least_again) least_again = again;
+        take_less(&least_frames, frames), take_less(&least_values, values), take_less(&least_again, again);
+        take_less(&least.writing, part.writing), take_less(&least.decoding, part.decoding);
+        take_less(&least.reading, part.reading), take_less(&least.adding, part.adding), take_less(&least.judging, part.judging);
         archcaraway_writer_free(&writer);
         archcaraway_set_free(&a);
         archcaraway_set_free(&b);
@@ -161,9 +177,10 @@ int main(int words, char **word) {
            "quotient %.2f\n",
            count, each * least_frames, each * least_values, least_values / least_frames, each * least_again,
            least_again / least_frames);
-    const double part = each / rounds;
-    printf("of frames, on average: %.3f us for writing, %.3f for decoding and ranking, %.3f for reading replies\n",
-           part * writing, part * decoding, part * reading);
+    printf("of frames: %.3f us for writing, %.3f for decoding and ranking, %.3f for reading replies\n", each * least.writing,
+           each * least.decoding, each * least.reading);
+    printf("of a batch that is used again: %.3f us for adding; %.3f without, quotient %.2f\n", each * least.adding,
+           each * least.judging, least.judging / least_frames);
     free(buffer), free(one), free(two), free(three), free(ranges), free(txns), free(drawn.keys);
     return 0;
 }

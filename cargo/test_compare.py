@@ -13,7 +13,7 @@ from comparing.lines import batch_line, batch_table, reply_line, reply_table
 from comparing.notation import batch_of, reply_of
 from comparing.reading import frames, read_batch, read_reply
 from comparing.reference import Answer, Resolver, Unspecified, resolve
-from comparing.running import differs, fixed
+from comparing.running import differs, fixed, is_silent
 from comparing.wire import Batch, Range, batch_frame, file_of, reply_frame, single
 from comparing.worked import batches_file, example_cases
 from tests import json_rows, rows, wire_rows
@@ -152,6 +152,9 @@ class Comparing(unittest.TestCase):
         self.assertFalse(differs(self.run_of(), refused))
         self.assertTrue(differs(self.run_of("workload"), refused))
         self.assertTrue(differs(self.run_of(), refused | {"other": Outcome(2, b"", b"")}))
+        self.assertTrue(differs(self.run_of(), refused | {"other": Outcome(2, b"", b"warning: b\n")}))
+        self.assertFalse(is_silent(replace(self.run_of(), says=b"error: "), refused))
+        self.assertTrue(is_silent(replace(self.run_of(), says=b"error: a\n"), refused))
         help_texts = {"one": Outcome(0, b"help\n", b""), "other": Outcome(0, b"other help\n", b"")}
         self.assertFalse(differs(self.run_of(text=Text.OF_CLAP), help_texts))
         self.assertTrue(differs(self.run_of(), help_texts))

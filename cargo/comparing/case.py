@@ -8,7 +8,7 @@ class Text(Enum):
     """How the text of a run is compared."""
 
     EXACT = "exact"
-    # Help, and what `clap` says of a wrong command line: only which of the two streams is empty is compared.
+    # Help, and what `clap` says of a wrong command line: which of the two streams is empty is compared, and whether it is an error.
     OF_CLAP = "of clap"
 
 
@@ -33,6 +33,8 @@ class Run:
     is_full: bool = False
     # What is known beforehand, by a worked row or by the rules.
     expected: Outcome | None = None
+    # A part of standard error.
+    says: bytes = b""
 
 
 @dataclass(frozen=True)

@@ -55,10 +55,17 @@ def is_of_clap(run: Run, outcome: Outcome) -> bool:
     return run.text is Text.OF_CLAP or (outcome.status == 2 and run.program in CLAP_SPEAKS)
 
 
+def kind_of(run: Run, text: bytes) -> bytes:
+    """Returns what is compared of a text of `clap`. `batches` without arguments prints its help to standard error."""
+    if run.program == "replay" and text.startswith(b"error: "):
+        return b"error"
+    return b"text" if text else b""
+
+
 def fixed(run: Run, outcome: Outcome) -> Outcome:
     """Returns what the documents fix of an outcome."""
     if is_of_clap(run, outcome):
-        return Outcome(outcome.status, b"text" if outcome.out else b"", b"text" if outcome.err else b"")
+        return Outcome(outcome.status, kind_of(run, outcome.out), kind_of(run, outcome.err))
     if b"replay: stop " in outcome.err:
         # After a stop the schedule decides whether a worker still reads its file up to a fault.
         return Outcome(outcome.status, outcome.out, FAULT.sub(b"", outcome.err))
@@ -67,6 +74,11 @@ def fixed(run: Run, outcome: Outcome) -> Outcome:
 
 def differs(run: Run, outcomes: dict[str, Outcome]) -> bool:
     return len({fixed(run, outcome) for outcome in outcomes.values()}) > 1
+
+
+def is_silent(run: Run, outcomes: dict[str, Outcome]) -> bool:
+    """Whether a side doesn't say what it must."""
+    return any(run.says not in outcome.err for outcome in outcomes.values())
 
 
 def write_files(case: Case, folder: Path) -> None:
@@ -87,9 +99,10 @@ def compared(case: Case, sides: dict[str, Programs], room: Path) -> list[Differe
         write_files(case, folder)
         for run in case.runs:
             outcomes = {side: played(programs, run, folder) for side, programs in sides.items()}
+            silent = is_silent(run, outcomes)
             if run.expected is not None:
                 outcomes["expected"] = run.expected
-            if differs(run, outcomes):
+            if silent or differs(run, outcomes):
                 found.append(Difference(run, outcomes))
                 if found[-1].is_endless():
                     break

@@ -61,7 +61,9 @@ def shell_cases() -> list[Case]:
         )
         for row in shell_rows.ROWS
     ]
-    refused = [Run("replay", args, text=Text.OF_CLAP, expected=Outcome(2, b"", b"error: ")) for args in shell_rows.REFUSED]
+    refusal = Outcome(2, b"", b"error: ")
+    refused = [Run("replay", args, text=Text.OF_CLAP, expected=refusal) for args in shell_rows.REFUSED]
+    refused += [Run("replay", args, text=Text.OF_CLAP, expected=refusal, says=reason.encode()) for args, reason in shell_rows.REASONS]
     shown = [Run("replay", args, text=Text.OF_CLAP, expected=Outcome(0, b"help", b"")) for args in shell_rows.SHOWN]
     return [Case(f"command line {number}", "worked rows", files, (run,)) for number, run in enumerate(answered + refused + shown)]
 

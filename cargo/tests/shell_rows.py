@@ -1,6 +1,6 @@
 """Rows of the command line of `replay`: files by their names, arguments, and what the program prints and returns.
 
-The help and what `clap` says of refused arguments are not here, only that it says something.
+The help is not here, nor what `clap` says of refused arguments, only that it is an error.
 """
 
 from dataclasses import dataclass
@@ -135,6 +135,7 @@ STREAMS = (
     ShellRow(("--stream", "late", *63 * ("empty",)), "0 0 empty\n" + "".join(f"0 {version} held\n" for version in range(20, 36))),
     ShellRow(("--stream", "third"), "0 300 held\n"),
     ShellRow(("--stream", "writes", "--limit", "3"), FIRST, "replay: stop 3 ArenaFull\n", 1),
+    ShellRow(("empty", "writes", "--stream", "--limit", "3"), "1 0 empty\n1 100 committed\n", "replay: stop 3 ArenaFull\n", 1),
     ShellRow(("--stream", "cut"), "0 0 empty\n", SHORT, 1),
     ShellRow(("--stream", "none"), "", "replay: proxy 0: cannot open\n", 1),
     ShellRow(("--stream", "."), "", "replay: proxy 0: wire 12 Read\n", 1),
@@ -149,6 +150,7 @@ RECORDS = (
     ShellRow(("--stream", "--json", "--replies=/dev/stderr", "--capacity=1", "third"), '{"proxy":0,"version":300,"answer":"held"}\n', HELD_RECORD),
     ShellRow(("--stream", "empty", "third", "--replies", "out", "--replies", "/dev/stderr"), "1 300 held\n", HELD_RECORD),
     ShellRow(("--stream", "--replies", "out", "first"), FIRST),
+    ShellRow(("--stream", "--replies", "out", "third"), "0 300 held\n"),
     ShellRow(("--stream", "--replies", "/dev/full", "one"), "0 0 empty\n", "replay: replies 0: wire 15 Write\n", 1),
     ShellRow(
         ("--stream", "empty", "one", "--replies", "/dev/full", "--replies", "/dev/full"),
@@ -207,6 +209,24 @@ FILTERS = (
     ShellRow(("--stream", "--quiet", "--replies", "/dev/full", "one"), "", "replay: replies 0: wire 15 Write\n", 1),
 )
 
+# Options and files in any order, and names that are like options.
+ARGUMENTS = (
+    ShellRow(("empty", "first", "empty"), "1 0 empty\n1 100 committed\n"),
+    ShellRow(("-", "./-", "--json"), "", "replay: proxy 1: cannot open\n", 1, stdin="first"),
+    ShellRow(
+        ("--capacity", "1", "--window=1", "one", "--frames", "empty", "--limit", "1"),
+        "0 0 0000000b0200000000000000000000\n",
+    ),
+    ShellRow(("--capacity=1024", "--window", "1099511627776", "--limit", "16777216", "first"), FIRST),
+    ShellRow(("--check", "same", "first", "second", "--check=conflicts"), "checked 3 batches, 0 differences\n"),
+    ShellRow(("one", "--stream", "empty"), "0 0 empty\n"),
+    ShellRow(("--only", "committed", "conflict", "--stream"), "0 100 committed\n0 101 conflict committed\n"),
+    ShellRow(("--only", "conflict", "--versions", "+101..0102", "--json", "conflict"), CONFLICT_JSON),
+    ShellRow(("--only=tooold", "--versions=-9223372036854775807..", "conflict"), ""),
+    ShellRow(("--versions", "..9223372036854775807", "--frames", "one"), "0 0 0000000b0200000000000000000000\n"),
+    ShellRow(("--replies", "out", "third", "--stream", "--json"), '{"proxy":0,"version":300,"answer":"held"}\n'),
+    ShellRow(("--stream", "--replies", "-", "empty", "--replies=/dev/stderr", "third"), "1 300 held\n", HELD_RECORD),
+)
 
 def counted(name: str, counts: tuple[int, ...], versions: str) -> str:
     """The line of a summary."""
@@ -260,7 +280,7 @@ SUMMARIES = (
     ShellRow(("--summary", "first", "none"), "", "replay: proxy 1: cannot open\n", 1),
 )
 
-ROWS = ANSWERS + FAILURES + CHECKS + STREAMS + RECORDS + FILTERS + SUMMARIES
+ROWS = ANSWERS + FAILURES + CHECKS + STREAMS + RECORDS + FILTERS + ARGUMENTS + SUMMARIES
 
 # Refused with status 2 and a text of `clap` on standard error. Nothing is on standard output.
 REFUSED: tuple[tuple[str | bytes, ...], ...] = (
@@ -304,6 +324,7 @@ REFUSED: tuple[tuple[str | bytes, ...], ...] = (
     ("--stream", "--replies", "out", "first", "second"),
     ("--stream", "--replies", "out", "--replies", "out", "first"),
     ("--stream", "--replies"),
+    ("--stream", "--replies", "first"),
     ("--stream", "--stream", "first"),
     ("--stream", "--json", "--frames", "first"),
     ("--stream", "-", "-"),
@@ -315,6 +336,7 @@ REFUSED: tuple[tuple[str | bytes, ...], ...] = (
     ("--only", "", "first"),
     ("--only", "Committed", "first"),
     ("--only", "conflict:0", "first"),
+    ("--only", "conflicts", "first"),
     ("--only", "committed,conflict", "first"),
     ("--only", "never", "first"),
     ("--only", "committed", "--only", "conflict", "first"),
@@ -327,12 +349,14 @@ REFUSED: tuple[tuple[str | bytes, ...], ...] = (
     ("--versions", "1.2", "first"),
     ("--versions", "1...2", "first"),
     ("--versions", "1..2..3", "first"),
+    ("--versions", "5..7..", "first"),
     ("--versions", "1..=2", "first"),
     ("--versions", " 1..2", "first"),
     ("--versions", "1..2 ", "first"),
     ("--versions", "one..", "first"),
     ("--versions", "0x1..", "first"),
     ("--versions", "1..-", "first"),
+    ("--versions=..-", "first"),
     ("--versions=--1..", "first"),
     ("--versions", "..9223372036854775808", "first"),
     ("--versions=-9223372036854775809..", "first"),
@@ -358,6 +382,29 @@ REFUSED: tuple[tuple[str | bytes, ...], ...] = (
     (b"\xff",),
     ("first", b"sec\xc3ond"),
     ("--help", b"\xff"),
+)
+
+# Refused by the program itself, which says why: a part of standard error.
+REASONS: tuple[tuple[tuple[str | bytes, ...], str], ...] = (
+    (("--json", "--frames", "first"), "error: at most one of --frames, --json and --check is wanted\n"),
+    (("--check", "same", "first", "second"), "error: --check REPLIES is wanted once a file\n"),
+    (("--stream", "--check", "same", "first"), "error: --stream is wanted without --check\n"),
+    (("--only", "never", "first"), "error: --only is committed, conflict or tooold\n"),
+    (("--versions", "5", "first"), "error: --versions is A..B with integers of 64 bits, of which each can be omitted\n"),
+    (("--quiet", "--check", "same", "first"), "error: --quiet, --only and --versions are wanted without --check\n"),
+    (
+        ("--summary", "--quiet", "first"),
+        "error: --summary is wanted without --check, --stream, --frames, --quiet, --only and --versions\n",
+    ),
+    (("--replies", "out", "first"), "error: --replies OUT is wanted with --stream\n"),
+    (("--stream", "--replies", "out", "first", "second"), "error: --replies OUT is wanted once a file\n"),
+    (("-", "first", "-"), "error: standard input (-) can be given only once\n"),
+    (65 * ("first",), "error: from 1 to 64 files are wanted\n"),
+    (
+        ("first", b"\xff"),
+        "error: invalid UTF-8 was detected in one or more arguments\n\n"
+        "Usage: replay [OPTIONS] <FILE>...\n\nFor more information, try '--help'.\n",
+    ),
 )
 
 # What `workload` prints without arguments, and for mistaken ones.

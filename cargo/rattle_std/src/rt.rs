@@ -2,6 +2,8 @@
 
 use crate::alloc::Global;
 use crate::fs::{File, Files};
+use std::env;
+use std::ffi::OsString;
 use std::io::{self, IsTerminal, Read, Write};
 use std::os::fd::AsFd;
 
@@ -22,8 +24,19 @@ pub trait Input {
 /// What has a standard error, for the report of `main`.
 pub trait Eprint {}
 
-/// What has the words of a command line.
-pub trait Env {}
+/// What has the words of a command line: those of the process, unless it says otherwise.
+pub trait Env {
+    fn words(&self) -> Vec<OsString> {
+        env::args_os().collect()
+    }
+}
+
+/// The words beside an allocator.
+impl<R: Env, A> Env for (&R, A) {
+    fn words(&self) -> Vec<OsString> {
+        self.0.words()
+    }
+}
 
 /// The handle of the process's runtime, that `main` of a proved program is given.
 #[derive(Clone, Copy, Debug, Default)]

@@ -1,6 +1,6 @@
 //! Batches and answers as the worked rows write them.
 
-use crate::plain::{PlainAnswer, PlainBatch, PlainRange, PlainReply, PlainTxn};
+use crate::plain::{PlainAnswer, PlainBatch, PlainEntry, PlainRange, PlainReply, PlainTxn};
 use keyspace::Verdict;
 
 /// Reads a batch: `100>200 received 100: W[a,b) @0; m R[a,b) R[k] @50`.
@@ -39,6 +39,34 @@ fn range(text: &str) -> PlainRange {
     }
     let (begin, end) = keys.strip_suffix(')').and_then(|keys| keys.split_once(',')).expect("a range has two keys");
     PlainRange::new(begin, end)
+}
+
+/// Reads a reply: `100 committed conflict:0,2`, or `100 empty`.
+pub fn reply(text: &str) -> PlainReply {
+    let (version, words) = text.split_once(' ').expect("a version comes first");
+    let words = if words == "empty" { "" } else { words };
+    PlainReply { version: number(version), entries: words.split_whitespace().map(entry).collect() }
+}
+
+fn entry(word: &str) -> PlainEntry {
+    let (verdict, places) = word.split_once(':').unwrap_or((word, ""));
+    let verdict = match verdict {
+        "conflict" => Verdict::Conflict,
+        "tooold" => Verdict::TooOld,
+        "committed" => Verdict::Committed,
+        _ => panic!("no verdict: {word}"),
+    };
+    let places = places.split(',').filter(|place| !place.is_empty());
+    PlainEntry { verdict, places: places.map(|place| place.parse().expect("it is an index")).collect() }
+}
+
+/// Reads an answer: a reply, `100 never`, or `100 held`.
+pub fn answer(text: &str) -> PlainAnswer {
+    match text.split_once(' ') {
+        Some((version, "never")) => PlainAnswer::Never(number(version)),
+        Some((version, "held")) => PlainAnswer::Held(number(version)),
+        _ => PlainAnswer::Reply(reply(text)),
+    }
 }
 
 /// Writes a reply: `100 committed conflict:0,2`, or `100 empty`.

@@ -139,6 +139,15 @@ impl PlainReply {
 }
 
 impl PlainAnswer {
+    /// Returns the same answer as the crates have it.
+    pub fn answer(&self) -> Answer {
+        match self {
+            PlainAnswer::Reply(reply) => Answer::Reply(reply.reply()),
+            PlainAnswer::Never(version) => Answer::Never(*version),
+            PlainAnswer::Held(version) => Answer::Held(*version),
+        }
+    }
+
     /// Reads an answer of the crates.
     pub fn of(answer: &Answer) -> Self {
         match answer {

@@ -1,17 +1,23 @@
 //! The tests. `ARCHCARAWAY_LONG=1` runs them with about a hundred times as many cases.
 #![forbid(unsafe_code)]
 
+mod answers;
 mod arena;
+mod command_line;
 mod conflict_set;
 mod explanations;
 mod filter;
 mod flow;
 mod frames;
+mod gatekeeping;
 mod keys;
 mod lane;
 mod limits;
 mod lines;
+mod program;
 mod records;
+mod replay_explanations;
+mod reports;
 mod resolver;
 mod retries;
 mod rows;
@@ -22,4 +28,5 @@ mod step_map;
 mod summaries;
 mod texts;
 mod trimming;
+mod workers;
 mod workload;

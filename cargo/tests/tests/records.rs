@@ -177,3 +177,12 @@ fn a_failed_write_leaves_a_prefix() {
         1
     });
 }
+
+/// A record of 9 bytes.
+#[test]
+fn record_fails_everywhere() {
+    for room in 0..=9 {
+        let written = write_record(Global, &mut Pieces::new(room), &Answer::Held(300));
+        assert_eq!(written, if room < 9 { Err(AnswerError::Write) } else { Ok(()) }, "after {room} bytes");
+    }
+}

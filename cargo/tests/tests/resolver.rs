@@ -1,8 +1,9 @@
 //! The stores of the chain and the resolver core, against the chain rules over a scan.
 
 use chain::{ChainError, Gate, MAX_HELD, Replies};
-use rattle_std::alloc::Global;
-use resolver::{Core, Stop};
+use keyspace::{Batch, Reply};
+use rattle_std::alloc::{AllocError, Global};
+use resolver::{Core, Observer, Stop};
 use std::collections::BTreeMap;
 use stepmap::MAX_LIMIT;
 use tests::cases::{count, run};
@@ -158,6 +159,76 @@ fn core_stays_stopped() {
         give_some(&mut core, &mut given, true, random);
         assert!(is_prefix(&given, &reference.answers));
         assert!(stop.is_some() || given == reference.answers);
+        1 + arrivals.batches.len() as u64
+    });
+}
+
+/// Keeps what it sees, and refuses any batch after `most`.
+struct Seen {
+    most: usize,
+    batches: Vec<(usize, PlainBatch, PlainReply)>,
+}
+
+impl Observer for Seen {
+    fn see(&mut self, proxy: usize, batch: Batch, reply: &Reply) -> Result<(), AllocError> {
+        if self.batches.len() == self.most {
+            return Err(AllocError);
+        }
+        self.batches.push((proxy, PlainBatch::of(&batch), PlainReply::of(reply)));
+        Ok(())
+    }
+}
+
+impl Seen {
+    // Returns the replies to the batches of the proxy.
+    fn replies_to(&self, proxy: usize) -> Vec<PlainReply> {
+        self.batches.iter().filter(|seen| seen.0 == proxy).map(|seen| seen.2.clone()).collect()
+    }
+}
+
+/// Returns the first reply of each version.
+fn first_replies(answers: &[PlainAnswer]) -> Vec<PlainReply> {
+    let mut first: Vec<PlainReply> = Vec::new();
+    for answer in answers {
+        if let PlainAnswer::Reply(reply) = answer
+            && first.iter().all(|other| other.version != reply.version)
+        {
+            first.push(reply.clone());
+        }
+    }
+    first
+}
+
+/// An observer sees the batches of the chain, each as it was sent and with the reply to its proxy.
+#[test]
+fn observer_sees_what_is_processed() {
+    run("observer_sees_what_is_processed", count(500_000, 10_000), |random| {
+        let arrivals = Arrivals::drawn(random);
+        let mut core = core(&arrivals, MAX_LIMIT);
+        let mut reference = Reference::new(arrivals.proxies, arrivals.window);
+        let most = random.pick(&[0, 1, 10, usize::MAX]);
+        let mut seen = Seen { most, batches: Vec::new() };
+        let mut stop = None;
+        for (proxy, batch) in &arrivals.batches {
+            let admitted = core.admit_observed(&mut seen, *proxy, batch.batch());
+            assert!(stop.is_none() || admitted.err() == stop);
+            if stop.is_none() {
+                assert!(reference.take(*proxy, batch));
+            }
+            stop = admitted.err();
+            assert!(stop.is_none_or(|stop| stop == Stop::Memory && seen.batches.len() == most));
+        }
+        let mut version = -1;
+        for (proxy, batch, _) in &seen.batches {
+            assert_eq!(batch.previous, version);
+            assert!(arrivals.batches.contains(&(*proxy, batch.clone())));
+            version = batch.version;
+        }
+        assert_eq!(core.version() == version, stop.is_none());
+        for (proxy, answers) in reference.answers.iter().enumerate() {
+            let (seen, all) = (seen.replies_to(proxy), first_replies(answers));
+            assert!(all.starts_with(&seen) && (stop.is_some() || seen == all));
+        }
         1 + arrivals.batches.len() as u64
     });
 }

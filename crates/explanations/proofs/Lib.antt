@@ -1,3 +1,4 @@
+pub mod callers
 pub mod Passing
 pub mod Origins
 pub mod Rising

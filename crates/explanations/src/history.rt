@@ -1,6 +1,7 @@
 //! The batches that may still explain a conflict.
 
 ghost use Rattle.std.specs.Prelude.{◌≡◌, ◌++◌, ◌∷◌, ◌≤◌, ◌≤ℤ◌, [], List, pos, Some, OnOk, OnErr};
+ghost use Rattle.std.specs.Prelude.{option_copied};
 ghost use Rattle.std.specs.Int.{int_max};
 ghost use Rattle.std.specs.VecDeque.{deque_capacity, deque_len};
 ghost use Rattle.keyspace.specs.Processed.{Processed};
@@ -14,6 +15,7 @@ use crate::processed::ProcessedBatch;
 use crate::question::Question;
 use crate::searching::search;
 use keys::HashedRange;
+use keyspace::Batch;
 use std::alloc::{AllocError, Global};
 use std::collections::VecDeque;
 use std::marker::Model;
@@ -72,6 +74,21 @@ impl History {
         drop_old(&mut self.kept, self.edge);
         self.kept.push_back_reserved(processed);
         Ok(())
+    }
+
+    /// Returns how far back a transaction may read, in versions; 1 or more.
+    pub fn window(&self) -> i64
+        ensures window { result ≡ self.now.window }
+        ensures least { pos 1 ≤ℤ self.now.window }
+    {
+        self.window
+    }
+
+    /// Returns the batch added last, or `None` if there is none.
+    pub fn newest(&self) -> Option<&Batch>
+        ensures newest { option_copied result ≡ newest_of self.now.kept }
+    {
+        Some(self.kept.back()?.batch())
     }
 
     /// Explains why a read range of the batch added last is in conflict: `read` is its index in the

@@ -1,6 +1,6 @@
 //! The resolver: two proxies served in one thread, from the opening to the account.
 
-ghost use Rattle.std.specs.Prelude.{◌≡◌, true, [], ◌∷◌, List, IfOk, OnOk};
+ghost use Rattle.std.specs.Prelude.{◌≡◌, true, [], ◌∷◌, List, All, IfOk, OnOk};
 ghost use Rattle.keyspace.specs.declared.TheConstants.{WINDOW};
 ghost use Rattle.keyspace.specs.Run.{Step};
 ghost use Rattle.lane.specs.Lane.{PortGoesOn, IntakeGoesOn};
@@ -43,15 +43,7 @@ pub fn serve_two(
         × AreServed WINDOW log first second served) }
 {
     let (mut resolver, mut clients) = open(alloc, 2, 1, WINDOW, MAX_LIMIT)?;
-    send_only(&mut clients[0], first);
-    send_only(&mut clients[1], second);
-    let (first, second) = receive_all(alloc, &mut resolver, &mut clients, turns)?;
-    let account = resolver.settle(&mut clients);
-    Ok(Served {
-        first,
-        second,
-        account,
-    })
+    serve(alloc, &mut resolver, &mut clients, first, second, turns)
 }
 
 /// Serves two proxies as [`serve_two`] does. If all transactions of both batches are transfers
@@ -68,6 +60,32 @@ pub fn transfer_two(
         × SumStays WINDOW log first second) }
 {
     serve_two(alloc, first, second, turns)
+}
+
+// Serves the two new clients of a resolver. Each sends its batch and closes its lane. After each of
+// n turns each takes an answer, if one has come.
+fn serve(
+    alloc: Global,
+    resolver: &mut Resolver,
+    clients: &mut [Client],
+    first: Batch,
+    second: Batch,
+    turns: usize,
+) -> Result<Served, OpenError>
+    requires serving { AreServing WINDOW resolver.old clients.old ([] ∷ [] ∷ []) ([] ∷ [] ∷ []) }
+    requires new { All (IsNewClient 1) clients.old }
+    ensures served { IfOk result (λ served. (log : List Step)
+        × AreServed WINDOW log first second served) }
+{
+    send_only(&mut clients[0], first);
+    send_only(&mut clients[1], second);
+    let (first, second) = receive_all(alloc, resolver, clients, turns)?;
+    let account = resolver.settle(clients);
+    Ok(Served {
+        first,
+        second,
+        account,
+    })
 }
 
 // Takes n turns, and an answer of each of two proxies after each of them, if one has come. Returns

@@ -1,16 +1,18 @@
 -- Letters are spelled as they are, words so many times, and the text of units is that of one run after another.
-use Rattle.std.specs.Prelude.{◌≡◌, ℕ, zero, suc, ◌+◌, ◌-◌, ◌%◌, ◌<◌, ◌≤◌, List, [], ◌∷◌, ◌++◌, length, take, drop, slice_index_or as get_or, slice_set as set, slice_range, Option}
+use Rattle.std.specs.Prelude.{◌≡◌, ℕ, zero, suc, ◌+◌, ◌-◌, ◌%◌, ◌/◌, ◌<◌, ◌≤◌, ◌⊎◌, List, [], ◌∷◌, ◌++◌, length, take, drop, slice_index_or as get_or, slice_set as set, slice_range, Option}
 use Rattle.std.specs.List.{repeat}
 use Rattle.std.specs.Str.{IsAscii}
 use Rattle.std.specs.Io.KnownBytes.{Appends}
 use Rattle.std.proofs.Math.Seq.{take-length}
-use Rattle.std.proofs.lemmas.List.{take-take, take-append-drop}
+use Rattle.std.proofs.lemmas.Bool.{cases_lt}
+use Rattle.std.proofs.lemmas.List.{length-append, take-take, take-append-drop}
 use Rattle.std.proofs.lemmas.List.Concat.{flat_map-append}
 use Rattle.std.proofs.lemmas.List.Folds.{drop_split}
 use Rattle.std.proofs.lemmas.Slice.{between_is}
-use Rattle.std.proofs.Common.{refl, sym, ap, ◌∙◌, subst, append-nil, append_assoc, arith}
+use Rattle.std.proofs.Common.{refl, sym, ap, ◌∙◌, subst, inl, inr, append-nil, append_assoc, arith}
 use Rattle.replay_output.specs.declared.line.packed.word.TheConstants.{FIRST_WORD, WORDS}
 use Rattle.replay_output.specs.declared.line.packed.word.Word.{Word}
+use Rattle.replay_output.specs.declared.line.packed.word.Word.TheVariants.{Committed, TooOld, Conflict, CommittedJson, TooOldJson, ConflictJson, PlacesJson}
 use Rattle.replay_output.specs.Packed.{numbered, spelled, spelled_all, times_of, word_of, word_text}
 use Rattle.replay_output.proofs.Known.{Begins, begins_then, begins_within}
 
@@ -99,3 +101,37 @@ begins_run units i j le old between new whole begins =
     subst (Begins old new) (split_run units i j le)
     (begins_then old between new _ _ whole
     (begins_within between new (spelled_all (slice_range units i j)) (spelled_all (drop j units)) begins))
+
+word_some : (word : Word) → 1 ≤ length (word_text word)
+word_some Committed = omega arith
+word_some TooOld = omega arith
+word_some Conflict = omega arith
+word_some CommittedJson = omega arith
+word_some TooOldJson = omega arith
+word_some ConflictJson = omega arith
+word_some PlacesJson = omega arith
+
+spelled_some : (unit : ℕ) → 1 ≤ length (spelled unit)
+spelled_some unit = elim (cases_lt unit FIRST_WORD) [
+  | inl letter ↦ omega (arith, ap length (spelled_letter unit letter))
+  | inr word ↦
+      let text = word_text (word_of unit) in
+      let others = (unit - FIRST_WORD) / WORDS in
+      let more : times_of unit ≡ suc others = omega arith in
+      omega (
+        arith,
+        ap length (spelled_word unit word ∙ ap (λ (n : ℕ). repeat n text) more),
+        length-append text (repeat others text),
+        word_some (word_of unit),
+      )
+]
+
+-- each unit has some text
+pub no_units : (units : List ℕ) → spelled_all units ≡ [] → units ≡ []
+no_units [] none = refl
+no_units (unit ∷ units) none =
+    absurd (omega (arith, ap length none, length-append (spelled unit) (spelled_all units), spelled_some unit))
+
+pub no_length : (units : List ℕ) → length units ≡ 0 → units ≡ []
+no_length [] none = refl
+no_length (unit ∷ units) none = absurd (omega (arith, none))

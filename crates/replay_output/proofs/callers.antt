@@ -2,3 +2,4 @@
 pub mod Results
 pub mod Quiet
 pub mod Counting
+pub mod Texts

@@ -4,6 +4,7 @@ pub mod Quieted
 pub mod Lines
 pub mod Packed
 pub mod Line
+pub mod Notes
 pub mod Failures
 pub mod Start
 pub mod Record

@@ -11,7 +11,7 @@ use Rattle.replay_output.specs.declared.options.style.Style.{Style}
 use Rattle.replay_output.specs.declared.options.form.Form.{Form}
 use Rattle.replay_output.specs.declared.options.form.Form.TheVariants.{Words, Frames, Json, Kept}
 use Rattle.replay_output.specs.declared.line.Line.{Line}
-use Rattle.replay_output.specs.Lines.{line}
+use Rattle.replay_output.specs.Lines.{Print, line}
 
 -- its answer
 abbrev pub answer_of : Line → Answer
@@ -45,7 +45,17 @@ pub record IsLineOf (style : Style) (proxy : ℕ) (l : Line) : Type 0 where
   -- the reply itself, if it is kept
   pub kept : l.reply ≡ kept_of style.form (answer_of l)
 
+-- it is a line of its answer to this proxy: its text is what is to be printed of that
+pub record IsLineBy (print : Print) (proxy : ℕ) (l : Line) : Type 0 where
+  pub text : l.text ≡ print proxy (answer_of l)
+  pub counted : l.counted ≡ counted_of (answer_of l)
+
 -- the lines at each number are those of answers to that proxy
+abbrev pub AreLinesBy : Print → List (List Line) → Type 0
+AreLinesBy print ls =
+    (proxy : ℕ) (of_proxy : List Line) → slice_get ls proxy ≡ Some of_proxy → All (IsLineBy print proxy) of_proxy
+
+-- the same of lines in a style, with what is kept of the answers
 abbrev pub AreLines : Style → List (List Line) → Type 0
 AreLines style ls =
     (proxy : ℕ) (of_proxy : List Line) → slice_get ls proxy ≡ Some of_proxy → All (IsLineOf style proxy) of_proxy

@@ -98,14 +98,22 @@ line style proxy answer = if is_shown style.filter answer then formed_line style
 abbrev pub in_order : List Answer → List Answer
 in_order received = in_order_by version_of_answer received
 
+-- what is printed of an answer to the proxy of a number
+abbrev pub Print : Type 0
+Print = ℕ → Answer → List ℕ
+
 -- the lines of a proxy, given its number and its answers in order
-abbrev pub lines_of_proxy : Style → ℕ × List Answer → List ℕ
-lines_of_proxy style proxy = flat_map (line style proxy.0) proxy.1
+abbrev pub lines_of_proxy : Print → ℕ × List Answer → List ℕ
+lines_of_proxy print proxy = flat_map (print proxy.0) proxy.1
 
 -- the text of answers that are in order, given those of each proxy
-abbrev pub lines_in_order : Style → List (List Answer) → List ℕ
-lines_in_order style answers = flat_map (lines_of_proxy style) (enumerate_from 0 answers)
+abbrev pub lines_in_order : Print → List (List Answer) → List ℕ
+lines_in_order print answers = flat_map (lines_of_proxy print) (enumerate_from 0 answers)
 
 -- the complete text, given each proxy's answers as received; a proxy's number is its index
+abbrev pub lines_by : Print → List (List Answer) → List ℕ
+lines_by print received = lines_in_order print (map in_order received)
+
+-- the same of lines in a style
 abbrev pub lines : Style → List (List Answer) → List ℕ
-lines style received = lines_in_order style (map in_order received)
+lines style received = lines_by (line style) received

@@ -1,10 +1,11 @@
 //! The line of one answer.
 
-ghost use Rattle.std.specs.Prelude.{◌≡◌, ◌++◌, IfSome, OnOk, codes, false};
+ghost use Rattle.std.specs.Prelude.{◌≡◌, ◌++◌, [], IfSome, IsOk, OnOk, codes, false};
 ghost use Rattle.replay_output.specs.Lines.{conflict_word, entry_word, formed_line, frame_word};
 ghost use Rattle.replay_output.specs.Lines.{line, outcome, plain_line, words};
 ghost use Rattle.replay_output.specs.Line.{IsLineOf, answer_of, counted_of_line, kept_of};
 ghost use Rattle.replay_output.specs.Line.{version_of_line};
+ghost use Rattle.replay_output.specs.Notes.{with_note};
 
 use crate::options::{Form, Style};
 use crate::version::version_of;
@@ -54,6 +55,22 @@ impl Line {
             text,
             reply: kept_of(style.form, answer),
         })
+    }
+
+    /// Puts a note under the line, if the line is shown: further lines, in ASCII. After an error the
+    /// text is unspecified. An empty note takes no memory.
+    pub fn add_note(&mut self, note: &[u8]) -> io::Result<()>
+        ensures text { OnOk result (self.new.text ≡ with_note self.old.text note.now) }
+        ensures answer { self.new.answer ≡ self.old.answer }
+        ensures counted { self.new.counted ≡ self.old.counted }
+        ensures reply { self.new.reply ≡ self.old.reply }
+        ensures empty { note.now ≡ [] → IsOk result }
+    {
+        if note.is_empty() || self.text.is_empty() {
+            return Ok(());
+        }
+        self.text.reserve(note.len())?;
+        self.text.write_all(note)
     }
 }
 

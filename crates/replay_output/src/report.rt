@@ -4,9 +4,8 @@ ghost use Rattle.std.specs.Prelude.{◌≡◌, ◌≢◌, ◌↔◌, ◌<◌, �
 ghost use Rattle.std.specs.Prelude.{IsErr, IsOk, OnOk};
 ghost use Rattle.std.specs.Io.KnownBytes.{Appends, Keeps};
 ghost use Rattle.replay_output.specs.Failures.{failure_lines, with_loss, NothingFailed};
-ghost use Rattle.replay_output.specs.Line.{AreLines, TakesToSort, answers_of};
-ghost use Rattle.replay_output.specs.Lines.{lines};
-ghost use Rattle.replay_output.specs.declared.options.style.Style.{Style};
+ghost use Rattle.replay_output.specs.Line.{AreLinesBy, TakesToSort, answers_of};
+ghost use Rattle.replay_output.specs.Lines.{Print, lines_by};
 
 use crate::failures::{Ending, ProxyFailure, note_loss, nothing_failed, print_failures};
 use crate::line::Line;
@@ -43,19 +42,19 @@ pub fn print_report<O: Sink, E: Sink>(
     ending: Ending,
 ) -> Report
     requires proxies { length failures.old ≡ length received.old }
-    ensures lines { (style : Style) → AreLines style (map vec_items received.old)
+    ensures lines { (print : Print) → AreLinesBy print (map vec_items received.old)
         → OnOk result.printed (Appends (O.given out.old) (O.given out.new)
-        (lines style (map answers_of (map vec_items received.old)))) }
+        (lines_by print (map answers_of (map vec_items received.old)))) }
     ensures memory { (proxy : ℕ) → result.printed ≡ Err (PrintError.Memory proxy)
         → proxy < length received.old }
     ensures takes { (proxy : ℕ) → result.printed ≡ Err (PrintError.Memory proxy)
         → TakesToSort (map vec_items received.old) proxy }
     ensures nothing { (proxy : ℕ) → result.printed ≡ Err (PrintError.Memory proxy)
         → O.given out.new ≡ O.given out.old }
-    ensures beginning { (style : Style) → AreLines style (map vec_items received.old)
+    ensures beginning { (print : Print) → AreLinesBy print (map vec_items received.old)
         → result.printed ≡ Err PrintError.Write → IfSome (O.given out.new) (λ _. (n : ℕ)
         × Appends (O.given out.old) (O.given out.new)
-        (take n (lines style (map answers_of (map vec_items received.old))))) }
+        (take n (lines_by print (map answers_of (map vec_items received.old))))) }
     ensures write { (result.printed ≡ Err PrintError.Write)
         ↔ (O.failures out.old < O.failures out.new) }
     ensures failure_lines { OnOk result.told (Appends (E.given error.old) (E.given error.new)
@@ -90,19 +89,19 @@ fn print_and_flush<W: Sink>(
     out: &mut W,
     received: &mut [Vec<Line>],
 ) -> Result<(), PrintError>
-    ensures lines { (style : Style) → AreLines style (map vec_items received.old)
+    ensures lines { (print : Print) → AreLinesBy print (map vec_items received.old)
         → OnOk result (Appends (W.given out.old) (W.given out.new)
-        (lines style (map answers_of (map vec_items received.old)))) }
+        (lines_by print (map answers_of (map vec_items received.old)))) }
     ensures memory { (proxy : ℕ) → result ≡ Err (PrintError.Memory proxy)
         → proxy < length received.old }
     ensures takes { (proxy : ℕ) → result ≡ Err (PrintError.Memory proxy)
         → TakesToSort (map vec_items received.old) proxy }
     ensures nothing { (proxy : ℕ) → result ≡ Err (PrintError.Memory proxy)
         → W.given out.new ≡ W.given out.old }
-    ensures beginning { (style : Style) → AreLines style (map vec_items received.old)
+    ensures beginning { (print : Print) → AreLinesBy print (map vec_items received.old)
         → result ≡ Err PrintError.Write
         → IfSome (W.given out.new) (λ _. (n : ℕ) × Appends (W.given out.old) (W.given out.new)
-        (take n (lines style (map answers_of (map vec_items received.old))))) }
+        (take n (lines_by print (map answers_of (map vec_items received.old))))) }
     ensures write { (result ≡ Err PrintError.Write) ↔ (W.failures out.old < W.failures out.new) }
 {
     print_answers(alloc, out, received)?;

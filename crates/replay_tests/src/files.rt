@@ -1,19 +1,13 @@
-//! Rows of faulty files, of the second version of the form, and of readers and writers that fail.
+//! Rows of faulty files, and of the second version of the form.
 
-use crate::failing::Failing;
-use crate::runs::{
-    ended, ends, file_of, gives, opened, reader, replay_into, replayed_from, waiting_room,
-};
+use crate::runs::{ends, file_of, gives, opened, reader, replayed_from, waiting_room};
 use replay_program::Options;
 use std::alloc::{AllocError, Global};
-use std::io;
-use std::io::Read;
 use std::process::Abort;
 use std::sync::Wait;
 use std::test::Fail;
 use std::thread::Threads;
 use test_values::Unmade;
-use wire::{StdSink, StdSource};
 
 const SHORT: &str = "failed: replay: proxy 0: wire 1 Short\n";
 
@@ -22,14 +16,6 @@ fn short_second_frame(rt: HostRuntime) -> Result<(), Fail> {
     let rest = b"\0\0\0\x1e\0\0\0\0\0\0\0\0\0\0\0\0\0\0\0\0\0\0\0\0\0\0\0\0\0\0\0\0\0";
     let file = opened(rt.alloc(), &[], rest)?;
     ends(&rt, rt.alloc(), Options::default(), file, SHORT)
-}
-
-// A fault ends the file, so a batch that is still held is answered there.
-#[test]
-fn held_before_fault(rt: HostRuntime) -> Result<(), Fail> {
-    let file = opened(rt.alloc(), &["100>200"], b"\0")?;
-    let expected = "0 200 held\nfailed: replay: proxy 0: wire 1 Short\n";
-    ends(&rt, rt.alloc(), Options::default(), file, expected)
 }
 
 // The frames of the first run, and the second of them in the second version of the form.
@@ -122,52 +108,4 @@ fn fault_closes_own_lane(rt: HostRuntime) -> Result<(), Fail> {
 fn fault_leaves_other_held(rt: HostRuntime) -> Result<(), Fail> {
     let expected = "0 0 empty\n1 200 held\nfailed: replay: proxy 0: wire 1 Short\n";
     beside_cut_file(&rt, rt.alloc(), "100>200", expected)
-}
-
-// A file that can't be read, as a folder.
-#[derive(Drop)]
-struct Unreadable;
-
-impl Read for Unreadable {
-    fn read(&mut self, _buf: &mut [u8]) -> io::Result<usize> {
-        Err(io::Error::from(io::ErrorKind::IsADirectory))
-    }
-}
-
-#[test]
-fn unreadable_file(rt: HostRuntime) -> Result<(), Fail> {
-    let readers = vec![in rt.alloc(); StdSource::new(Unreadable)]?;
-    let gatekeeper = waiting_room(rt.alloc(), 1)?;
-    let found = replayed_from(&rt, rt.alloc(), readers, Options::default(), &gatekeeper)?;
-    assert_eq!(rt; found.as_str(), "failed: replay: proxy 0: wire 12 Read\n");
-    Ok(())
-}
-
-// Replays one batch to a writer that fails at once.
-fn unwritten<R: Threads + Wait + Copy + Send + 'static>(
-    rt: &R,
-    alloc: Global,
-) -> Result<String, Unmade> {
-    let file = opened(alloc, &[], b"")?;
-    let readers = vec![in alloc; reader(file)].map_err(AllocError::from)?;
-    let gatekeeper = waiting_room(alloc, 1)?;
-    let mut out = StdSink::new(Failing::after(0));
-    let mut error = StdSink::new(Vec::new(alloc));
-    let options = Options::default();
-    let status = replay_into(
-        rt,
-        alloc,
-        readers,
-        options,
-        &gatekeeper,
-        &mut out,
-        &mut error,
-    )?;
-    ended(status, Vec::new(alloc), &error.into_inner())
-}
-
-#[test]
-fn unwritable_output(rt: HostRuntime) -> Result<(), Fail> {
-    assert_eq!(rt; unwritten(&rt, rt.alloc())?.as_str(), "failed: ");
-    Ok(())
 }

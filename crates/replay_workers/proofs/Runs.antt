@@ -1,7 +1,7 @@
 -- A run, put together of what each worker has done and of what was settled.
 use Rattle.std.specs.Prelude.{◌≡◌, ℕ, Bool, true, false, ◌&&◌, List, length, map, Option, Some, None, IfSome, slice_get, vec_items}
 use Rattle.std.specs.List.{AllZip, All}
-use Rattle.std.proofs.Common.{sym, ap, subst, ◌∙◌, arith}
+use Rattle.std.proofs.Common.{refl, sym, ap, subst, ◌∙◌, arith}
 use Rattle.std.proofs.lemmas.List.{length-map}
 use Rattle.std.proofs.lemmas.Option.{same_Some}
 use Rattle.keyspace.specs.Run.{Step}
@@ -108,3 +108,8 @@ module _ {S : Type 0} (remaining : S → Option (List ℕ)) (options : Options) 
     incomplete = leaves;
     met = met;
   }
+
+  -- its log is that of these facts
+  pub is_run_log : is_run.log ≡ log
+  unfolding is_run
+  is_run_log = refl

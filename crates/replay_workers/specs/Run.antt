@@ -5,6 +5,7 @@ use Rattle.std.specs.List.{All}
 use Rattle.std.specs.Io.KnownBytes.{IsAtEnd}
 use Rattle.keyspace.specs.declared.batch.Batch.{Batch}
 use Rattle.keyspace.specs.Chain.{IsChain}
+use Rattle.keyspace.specs.Processed.{Processed}
 use Rattle.keyspace.specs.Run.{Step, run, answers, part}
 use Rattle.serial.specs.Serial.{IsSerializable}
 use Rattle.serial.specs.Replies.{IsCommittedAt, ReportsCommitted}
@@ -15,6 +16,7 @@ use Rattle.resolver.specs.declared.client.Client.{Client}
 use Rattle.resolver.specs.declared.stop.Stop.{Stop}
 use Rattle.resolver.specs.declared.turn.Account.{Account}
 use Rattle.resolver.specs.Core.{IsBeginning}
+use Rattle.resolver.specs.Observed.{HasSeen}
 use Rattle.resolver.specs.Resolver.{TakesOnlyFrom, FinishesLast}
 use Rattle.replay_output.specs.declared.failures.ProxyFailure.{ProxyFailure}
 use Rattle.replay_output.specs.declared.options.style.Style.{Style}
@@ -99,3 +101,10 @@ pub record IsRun (options : Options) (files : List (Option (List ℕ))) (receive
   pub incomplete : complete ≡ false → stop ≡ None → LeavesBatch files log
   -- the stop is that of the log
   pub met : IfSome stop (IsStopOf options.limit options.window log)
+
+-- What became of all files, and an observer of which this is true has seen what is processed over the same log: all of it, unless a
+-- stop was met.
+pub record IsObservedRun (Seen : List Processed → Type 0) (options : Options) (files : List (Option (List ℕ)))
+    (received : List (List Line)) (failures : List ProxyFailure) (complete : Bool) (stop : Option Stop) : Type 0 where
+  pub run : IsRun options files received failures complete stop
+  pub seen : HasSeen Seen stop options.window run.log

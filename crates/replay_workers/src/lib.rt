@@ -1,6 +1,7 @@
 //! Runs one worker per file, each in its own thread, and turns the resolver between them.
 //!
 //! [`run`] does so over any readers, and returns an [`Outcome`]: what the workers returned.
+//! [`run_observed`] also shows each batch that is processed to an observer.
 //! [`work`] is what one worker does: it reads the batches of its file, sends them and takes the
 //! answers. A [`Gatekeeper`] says when workers may send, and a [`ShareKeeper`] whose batch goes
 //! first where all have used up their share.
@@ -24,6 +25,6 @@ pub use ends::MostUnanswered;
 pub use gatekeeper::{AlwaysOpen, Gatekeeper, ShareKeeper, Unshared};
 pub use outcome::Outcome;
 pub use rest::pause;
-pub use running::{let_through, run};
+pub use running::{let_through, run, run_observed};
 pub use watch::Watch;
 pub use worker::{Assignment, FileEnd, Finished, Leftover, work};

@@ -1,20 +1,21 @@
 //! A run: the workers read, send and take, while this thread turns the resolver.
 
 ghost use Rattle.std.specs.Prelude.{◌≡◌, ℕ, ◌≤◌, true, length, map, vec_items, vec_len, Some};
-ghost use Rattle.std.specs.Prelude.{slice_get, IfOk};
+ghost use Rattle.std.specs.Prelude.{[], slice_get, IfOk};
 ghost use Rattle.std.specs.List.{All};
 ghost use Rattle.flow.specs.Next.{AllWait, IsNext};
 ghost use Rattle.resolver.specs.declared.resolver_core.TheConstants.{MAX_PROXIES};
 ghost use Rattle.resolver.specs.Core.{GoesOn};
 ghost use Rattle.resolver.specs.Lanes.{Lanes, Each, LanesGoOn};
 ghost use Rattle.resolver.specs.Resolver.{IsResolving, IsThrough};
-ghost use Rattle.replay_workers.specs.Run.{HasCapacity, IsRun, is_complete};
-ghost use Rattle.replay_workers.specs.Stops.{IsAccountedFor};
+ghost use Rattle.replay_workers.specs.Run.{HasCapacity, IsObservedRun, IsRun, is_complete};
+ghost use Rattle.replay_workers.specs.Stops.{IsAccountedFor, IsObserved};
 
 use crate::gatekeeper::{Gatekeeper, ShareKeeper};
 use crate::outcome::Outcome;
 use crate::threads::{join_all, start_workers};
 use crate::watch::Watch;
+use observer::{Observer, Unobserved};
 use replay_output::{Options, StartError};
 use resolver::{Account, Resolver, Turn, open};
 use std::alloc::Global;
@@ -23,8 +24,7 @@ use std::thread;
 use std::thread::Threads;
 use wire::Source;
 
-/// Runs a worker for each reader, each in its own thread, and turns the resolver until it is done
-/// or has stopped. Returns what the workers return, and the account of the resolver.
+/// Runs the workers of these readers, as [`run_observed`] does, and shows the batches to nobody.
 ///
 /// Once a thread was started, this one takes no memory but in turns and in starting threads. After
 /// an error no thread is joined.
@@ -47,6 +47,40 @@ pub fn run<
     ensures capacity { IfOk result
         (λ ended. All (HasCapacity options.capacity) ended.0.clients.items) }
 {
+    run_observed(rt, alloc, readers, options, gatekeeper, &mut Unobserved)
+}
+
+/// Runs a worker for each reader, each in its own thread, and turns the resolver until it is done
+/// or has stopped. Returns what the workers return, and the account of the resolver. The observer
+/// sees the batches that are processed, in this thread.
+///
+/// Once a thread was started, this one takes no memory but in turns, in starting threads and in the
+/// observer. After an error no thread is joined.
+pub fn run_observed<
+    S: Source + Send + Drop + 'static,
+    G: Gatekeeper + ShareKeeper + Send + Sync + Drop + 'static,
+    R: Threads + Wait + Copy + Send + 'static,
+    O: Observer,
+>(
+    rt: &R,
+    alloc: Global,
+    readers: Vec<S>,
+    options: Options,
+    gatekeeper: &Arc<G, Global>,
+    observer: &mut O,
+) -> Result<(Outcome, Account), StartError>
+    requires least_readers { 1 ≤ vec_len readers }
+    requires most_readers { vec_len readers ≤ MAX_PROXIES }
+    ensures run { IfOk result (λ ended. IsRun options (map S.remaining readers.items)
+        (map vec_items ended.0.lines.items)
+        ended.0.failures.items (is_complete ended.0 ended.1) ended.1.stop) }
+    ensures observed { IfOk result (λ ended. O.has_seen observer.old []
+        → IsObservedRun (O.has_seen observer.new) options (map S.remaining readers.items)
+        (map vec_items ended.0.lines.items)
+        ended.0.failures.items (is_complete ended.0 ended.1) ended.1.stop) }
+    ensures capacity { IfOk result
+        (λ ended. All (HasCapacity options.capacity) ended.0.clients.items) }
+{
     let proxies = readers.len();
     let Options {
         capacity,
@@ -58,7 +92,7 @@ pub fn run<
     let mut watch = Watch::new(alloc, proxies)?;
     let (mut resolver, clients) = open(alloc, proxies, capacity, window, limit)?;
     let workers = start_workers(rt, alloc, style, readers, clients, gatekeeper)?;
-    turn_to_end(rt, &mut resolver, &**gatekeeper, &mut watch);
+    turn_to_end(rt, &mut resolver, &**gatekeeper, &mut watch, observer);
     let mut outcome = join_all(rt, workers, outcome);
     let account = resolver.settle(outcome.clients.as_mut_slice());
     Ok((outcome, account))
@@ -66,22 +100,25 @@ pub fn run<
 
 // Turns the resolver until it is done; after a stop, until a turn leaves nothing owed. If all
 // proxies wait for each other, a batch is admitted.
-fn turn_to_end<G: ShareKeeper, R: Wait>(
+fn turn_to_end<G: ShareKeeper, R: Wait, O: Observer>(
     rt: &R,
     resolver: &mut Resolver,
     gatekeeper: &G,
     watch: &mut Watch,
+    observer: &mut O,
 )
     ensures through { IsThrough resolver.new }
     ensures closed { (proxy : ℕ) (l : Lanes) → slice_get resolver.new.lanes proxy ≡ Some l
         → l.replies.closed ≡ true }
     ensures accounted { IsAccountedFor resolver.old → IsAccountedFor resolver.new }
+    ensures observed { IsObserved (O.has_seen observer.old) resolver.old
+        → IsObserved (O.has_seen observer.new) resolver.new }
     ensures resolving { IsResolving resolver.old → IsResolving resolver.new }
     ensures goes_on { GoesOn resolver.old.core resolver.new.core }
     ensures lanes { Each (λ _ l m. LanesGoOn l m) resolver.old.lanes resolver.new.lanes }
 {
     for _ in rt.forever() {
-        match resolver.turn() {
+        match resolver.turn_observed(observer) {
             Ok(Turn::Took(_)) => watch.forget(),
             Ok(Turn::Idle) => {
                 let_through(resolver, gatekeeper, watch);

@@ -1,5 +1,5 @@
 -- How a batch that isn't ahead is admitted, by its previous version.
-use Rattle.std.proofs.Common.{◌≡◌, ℕ, true, false, cond, ap, ◌∙◌, refl, arith}
+use Rattle.std.proofs.Common.{◌≡◌, ℕ, true, false, cond, w64, to_z, of_z, SFits, ap, ◌∙◌, refl, arith}
 use Rattle.std.specs.Prelude.{ℤ, ◌<ℤ◌, ◌≤ℤ◌, int_lt}
 use Rattle.std.proofs.lemmas.Bool.{cond-true, cond-false, cond_both}
 use Rattle.std.proofs.lemmas.Int.{ints}
@@ -13,6 +13,15 @@ int_lt-true a b h = grind (arith, ints)
 
 int_lt-false : (a b : ℤ) → b ≤ℤ a → int_lt a b ≡ false
 int_lt-false a b h = grind (arith, ints)
+
+-- what a test of two versions says
+pub less_from_test : (a b : ℤ) → SFits w64 a → SFits w64 b
+    → int_lt (to_z w64 (of_z w64 a)) (to_z w64 (of_z w64 b)) ≡ true → a <ℤ b
+less_from_test a b f g test = grind (arith, ints)
+
+pub at_most_from_test : (a b : ℤ) → SFits w64 a → SFits w64 b
+    → int_lt (to_z w64 (of_z w64 a)) (to_z w64 (of_z w64 b)) ≡ false → b ≤ℤ a
+at_most_from_test a b f g test = grind (arith, ints)
 
 module _ (window : ℤ) (proxy : ℕ) (b : Batch) (s : State) where
   abbrev version : ℤ

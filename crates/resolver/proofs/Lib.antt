@@ -9,6 +9,7 @@ pub mod Processing
 pub mod Releasing
 pub mod Finishing
 pub mod Standing
+pub mod Observing
 pub mod AtIndex
 pub mod Handed
 pub mod NewCore
@@ -16,6 +17,7 @@ pub mod OpenedCore
 pub mod FromVersion
 pub mod ReadingFrom
 pub mod Logged
+pub mod SeenSteps
 pub mod OnlyFrom
 pub mod Resolving
 pub mod HandedOut

@@ -24,12 +24,15 @@ use Rattle.std.proofs.Common.{
 use Rattle.std.specs.Prelude.{ℤ, ◌≤ℤ◌, All}
 use Rattle.std.proofs.lemmas.Int.{ints}
 use Rattle.std.proofs.lemmas.List.Elements.{All-head, All-tail, All-cons}
-use Rattle.keyspace.specs.Processed.{version_of}
+use Rattle.keyspace.specs.Processed.{Processed, version_of}
 use Rattle.keyspace.specs.Leaving.{Held, next_due}
 use Rattle.keyspace.specs.Laws.{Leaves}
 use Rattle.keyspace.specs.Run.{State, admit, leave, leave_then, leave_all}
 use Rattle.resolver.specs.Core.{CoreState, Given, IsCore, IsIn, GoesOn, StopsIn, StopsAsTheyLeave}
+use Rattle.resolver.specs.Observed.{HasSeenBetween}
 use Rattle.resolver.proofs.Admitting.{admit-held}
+use Rattle.resolver.proofs.Growing.{Grows, grows_leave, grows_leave_all}
+use Rattle.resolver.proofs.Observing.{seen_between}
 
 -- where none is due, none leaves
 leave-none : (turns : ℕ) (window : ℤ) (s : State) → next_due (version_of s.processed) s.held ≡ None
@@ -88,11 +91,14 @@ GoesOn-then first second third g h = record {
   proxies = h.proxies ∙ g.proxies;
 }
 
--- the core is in the state after so many of the batches held in this state have left
-pub record Reaches (window : ℤ) (state : State) (given : Given) (core : CoreState) : Type 0 where
+-- The core is in the state after so many of the batches held in this state have left. An observer that had seen what was
+-- processed before has seen what is processed then: `before` and `after` are what is true of it, by what it has seen.
+pub record Reaches (window : ℤ) (state : State) (given : Given) (core : CoreState)
+    (before after : List Processed → Type 0) : Type 0 where
   pub turns : ℕ
   pub are : IsIn (leave turns window state) given core
   pub same : leave_all window (leave turns window state) ≡ leave_all window state
+  pub sees : before state.processed → after (leave turns window state).processed
 
 -- one of the batches held leaves next, and the others stay
 pub record LeavesNext (core : CoreState) (h : Held) (others : List Held) : Type 0 where
@@ -142,8 +148,8 @@ IsIn-left state given core others are = record {
   answers = are.answers;
 }
 
-module _ (window : ℤ) (state : State) (given : Given) (core : CoreState)
-    (r : Reaches window state given core) where
+module _ (window : ℤ) (state : State) (given : Given) (core : CoreState) (before after : List Processed → Type 0)
+    (r : Reaches window state given core before after) where
   -- the state that is reached
   abbrev pub now : State
   now = leave r.turns window state
@@ -154,10 +160,26 @@ module _ (window : ℤ) (state : State) (given : Given) (core : CoreState)
       subst (λ v. next_due v now.held ≡ l) r.are.version
       (subst (λ hs. next_due core.version hs ≡ l) r.are.held next)
 
-  -- where none is due, the core is in the state that all have left
+  -- where none is due, all have left
+  all_left : next_due core.version core.held ≡ None → now ≡ leave_all window state
+  all_left none = sym (leave_all-none window now (next_now None none)) ∙ r.same
+
+  -- and the core is in that state
   pub IsIn-reached : next_due core.version core.held ≡ None → IsIn (leave_all window state) given core
   IsIn-reached none =
-      subst (λ s. IsIn s given core) (sym (leave_all-none window now (next_now None none)) ∙ r.same) r.are
+      subst (λ s. IsIn s given core) (all_left none) r.are
+
+  -- and the observer has seen what is processed in it
+  pub seen_reached : next_due core.version core.held ≡ None → before state.processed
+      → after (leave_all window state).processed
+  seen_reached none seen = subst (λ (s : State). after s.processed) (all_left none) (r.sees seen)
+
+  -- at a refusal it has seen what is processed at the state that is reached
+  pub seen_refused : (Seen : List Processed → Type 0) → (after now.processed → Seen now.processed)
+      → before state.processed → HasSeenBetween Seen state.processed (leave_all window state).processed
+  seen_refused Seen still seen =
+      seen_between Seen state now (leave_all window state) (grows_leave r.turns window state)
+      (subst (Grows now) r.same (grows_leave_all window now)) (still (r.sees seen))
 
   module _ (h : Held) (others : List Held) (l : LeavesNext core h others) where
     leaves : next_due (version_of now.processed) now.held ≡ Some (h, others)
@@ -172,12 +194,14 @@ module _ (window : ℤ) (state : State) (given : Given) (core : CoreState)
     more = leave-more r.turns window state ∙ ap (leave_then (λ t. t) window now) leaves
 
     -- the state with it admitted is reached next
-    pub Reaches-left : (new : CoreState) → IsIn (left window now h others) given new
-        → Reaches window state given new
-    Reaches-left new are = record {
+    pub Reaches-left : (new : CoreState) (later : List Processed → Type 0) → IsIn (left window now h others) given new
+        → (after now.processed → later (left window now h others).processed)
+        → Reaches window state given new before later
+    Reaches-left new later are sees = record {
       turns = suc r.turns;
       are = subst (λ s. IsIn s given new) (sym more) are;
       same = ap (leave_all window) more ∙ leaves_same ∙ r.same;
+      sees = λ seen. subst (λ (s : State). later s.processed) (sym more) (sees (r.sees seen));
     }
 
     -- a stop at the one that leaves is one while they leave

@@ -40,6 +40,7 @@ use Rattle.std.proofs.lemmas.List.{length-map, with_items_is}
 use Rattle.std.proofs.lemmas.List.Folds.{list_all_at}
 use Rattle.std.proofs.lemmas.Option.{slice_get-get_or, slice_get_within, get_or_from_slice_get}
 use Rattle.keyspace.specs.declared.batch.Batch.{Batch}
+use Rattle.keyspace.specs.Processed.{Processed}
 use Rattle.keyspace.specs.Run.{Step, Take, Finish, run}
 use Rattle.lane.specs.Lane.{IntakeGoesOn, PortGoesOn, HasEnded}
 use Rattle.resolver.specs.Core.{CoreState, Given, GoesOn, StopsAtLimit}
@@ -59,6 +60,7 @@ use Rattle.resolver.specs.Lanes.{
 }
 use Rattle.resolver.specs.OpeningLog.{log_from}
 use Rattle.resolver.specs.Resolver.{StandsOverFrom, TakesFrom, Finishes, TakesNoStep, IsThrough}
+use Rattle.resolver.specs.Observed.{HasSeen, ObservesStep}
 use Rattle.resolver.specs.Parts.{
   ProxyLanesView,
   lanes_of,
@@ -90,7 +92,10 @@ use Rattle.resolver.proofs.Handed.{
   stands_with,
   stands_without,
 }
+use Rattle.resolver.proofs.FromVersion.{log_from-more}
 use Rattle.resolver.proofs.Logged.{stands_taken, stands_finished, stands_same}
+use Rattle.resolver.proofs.Observing.{seen_more}
+use Rattle.resolver.proofs.SeenSteps.{step_taken, step_finished, step_none, observes_nothing}
 
 -- an intake that hasn't changed goes on
 intake_same : {T : Type 0} (v : _) → IntakeGoesOn {T = T} v v
@@ -474,6 +479,22 @@ module _ (old new : Parts) (first proxy : ℕ) (batch : Batch)
       old.core.set.map.limit old.core.set.window proxy batch (run old.core.set.window whole)
       (stops whole (handed_to old.all_lanes) (stands_without old.core old.all_lanes are.count whole s.core))
 
+  -- the observer has seen what the core showed it
+  pub sees_taken : (before after : List Processed → Type 0)
+      → ((log : List Step) (given : Given) → Stands old.core log given
+      → before (run old.core.set.window log).processed
+      → HasSeen after new.core.stop old.core.set.window (log ++ Take proxy batch ∷ []))
+      → ObservesStep before after (resolver_of old) (resolver_of new)
+  sees_taken before after sees =
+      step_taken before after (resolver_of old) (resolver_of new) proxy batch takes_one
+      (λ version log s seen.
+      let proxies = length (lanes_of old.all_lanes) in
+      let whole = log_from version proxies log in
+      subst (HasSeen after new.core.stop old.core.set.window)
+      (log_from-more version proxies proxies log (Take proxy batch ∷ []) refl)
+      (sees whole (handed_to old.all_lanes) (stands_without old.core old.all_lanes are.count whole s.core)
+      (subst before (seen.all running) seen.seen)))
+
   pub replies_taken : Each (λ p l m. m.replies ≡ l.replies) (lanes_of old.all_lanes) (lanes_of new.all_lanes)
   replies_taken = replies_same taken old.all_lanes new.all_lanes looks
 
@@ -592,6 +613,17 @@ module _ (old new : Parts) (f : FindsNone (λ p. p < length old.all_lanes) old.a
           (stands whole (handed_to old.all_lanes) (stands_without old.core old.all_lanes are.count whole s.core)));
     }
 
+    -- the observer has seen nothing more, and nothing more is processed
+    pub sees_finish : (Seen : List Processed → Type 0) → ObservesStep Seen Seen (resolver_of old) (resolver_of new)
+    sees_finish Seen =
+        step_finished Seen Seen (resolver_of old) (resolver_of new) not_before after takes_none
+        (λ version log s seen.
+        let window = old.core.set.window in
+        let proxies = length (lanes_of old.all_lanes) in
+        let whole = log_from version proxies log in
+        subst (HasSeen Seen new.core.stop window) (log_from-more version proxies proxies log (Finish ∷ []) refl)
+        (seen_more Seen new.core.stop window whole Finish (subst Seen (seen.all running) seen.seen)))
+
   -- no more have ended than had
   module _ (core : new.core ≡ old.core) (same : new.finished ≡ old.finished)
       (ended : all_ended (lanes_of new.all_lanes) ≡ old.finished) where
@@ -634,3 +666,8 @@ module _ (old new : Parts) (f : FindsNone (λ p. p < length old.all_lanes) old.a
           (λ still p m at shut. ended_same ∙ s.closed running p _ (was_at p m at).1
           (sym (ap (λ r. r.closed) (replies_looked.each p _ m (was_at p m at).1 at)) ∙ shut));
     }
+
+    pub sees_nothing : (Seen : List Processed → Type 0) → ObservesStep Seen Seen (resolver_of old) (resolver_of new)
+    sees_nothing Seen =
+        step_none Seen Seen (resolver_of old) (resolver_of new) ended_same takes_none
+        (observes_nothing Seen (resolver_of old) (resolver_of new) (ap (λ (k : CoreState). k.stop) core))

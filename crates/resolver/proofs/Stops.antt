@@ -1,6 +1,6 @@
 -- What is known at a refusal.
 use Rattle.std.proofs.Common.{◌≡◌, Result, Ok, Err, refl}
-use Rattle.std.specs.Prelude.{OnErr, IfErr, IsErrAnd}
+use Rattle.std.specs.Prelude.{OnOk, OnErr, IfErr, IsErrAnd}
 use Rattle.std.proofs.lemmas.Result.{err_from_is_err_and}
 use Rattle.conflict.specs.declared.error.SetStop.{SetStop}
 use Rattle.conflict.specs.declared.error.SetStop.TheVariants as set
@@ -18,7 +18,11 @@ pub same_stop : {T : Type 0} (r : Result T Stop) (met stop : Stop) → IsErrAnd 
     → r ≡ Err stop → met ≡ stop
 same_stop r met stop exit is = let e = err_from_is_err_and r exit in cc (is, e.1, e.2)
 
--- what holds anyway holds after a refusal
+-- what holds anyway holds after a success and after a refusal
+pub OnOk-always : {T E P : Type 0} (r : Result T E) → P → OnOk r P
+OnOk-always (Ok x) p = p
+OnOk-always (Err e) p = tt
+
 pub OnErr-always : {T E P : Type 0} (r : Result T E) → P → OnErr r P
 OnErr-always (Ok x) p = tt
 OnErr-always (Err e) p = p

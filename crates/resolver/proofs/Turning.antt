@@ -4,6 +4,7 @@ use Rattle.std.specs.Prelude.{ℤ, ◌⊎◌, ◌↔◌, IsSome, is_some, IfSome
 use Rattle.std.proofs.lemmas.Bool.{true≢false, false≢true}
 use Rattle.std.proofs.lemmas.Option.{slice_get_cases, slice_get_past, none-some}
 use Rattle.keyspace.specs.declared.answer.Answer.{Answer}
+use Rattle.keyspace.specs.Processed.{Processed}
 use Rattle.keyspace.specs.Run.{State, Step, Take, Finish}
 use Rattle.lane.specs.Lane.{PortGoesOn, IntakeGoesOn}
 use Rattle.resolver.specs.Owed.{owed_to, owed_count}
@@ -12,6 +13,8 @@ use Rattle.keyspace.specs.declared.batch.Batch.{Batch}
 use Rattle.resolver.proofs.Handed.{StopsAtLimit-moved}
 use Rattle.resolver.specs.Lanes.{Lanes, Each, LanesGoOn, taken_from, sent_to, all_ended, IsLookedThrough, IsFull}
 use Rattle.resolver.specs.Resolver.{ResolverState, StandsOverFrom, IsThrough, TakesFrom, Finishes, TakesNoStep, StepsBy, IfNotTaken}
+use Rattle.resolver.specs.OpeningLog.{log_from}
+use Rattle.resolver.specs.Observed.{HasSeen, Observes, ObservesStep}
 use Rattle.resolver.specs.declared.turn.Turn.{Turn}
 use Rattle.resolver.specs.declared.turn.Turn.TheVariants as turn
 use Rattle.resolver.specs.declared.stop.Stop.{Stop}
@@ -123,6 +126,33 @@ module _ {old mid given new : ResolverState} (h : HandedOver mid given) (k : Clo
         taken = λ p. none_taken mid new a p ∙ n.taken p;
         adds = λ version log s. a.stands version log (n.adds version log s);
       }
+
+-- and so does what the observer has seen, which sees nothing of it
+module _ {old mid given new : ResolverState} (h : HandedOver mid given) (k : ClosedOver given new)
+    {before after : List Processed → Type 0} (sees : ObservesStep before after old mid) where
+  seen_on : (steps : List Step) → Observes before after old mid steps → Observes before after old new steps
+  seen_on steps observes version log s seen =
+      subst (λ stop. HasSeen after stop old.core.set.window (log_from version (length old.lanes) (log ++ steps)))
+      (sym (answers_over mid given new h k).stop) (observes version log s seen)
+
+  taken_before : (p : ℕ) → taken_from mid.lanes p ≡ taken_from new.lanes p
+  taken_before p = sym (none_taken mid new (answers_over mid given new h k) p)
+
+  ended_before : all_ended mid.lanes ≡ all_ended new.lanes
+  ended_before = sym (ended_same mid new (answers_over mid given new h k))
+
+  pub sees_taken_on : (proxy : ℕ) (took : TakesFrom proxy old new)
+      → Observes before after old new (Take proxy took.batch ∷ [])
+  sees_taken_on proxy took =
+      seen_on (Take proxy took.batch ∷ [])
+      (sees.taken proxy took.batch (λ other. taken_before other ∙ took.taken other))
+
+  pub sees_finish_on : Finishes old new → Observes before after old new (Finish ∷ [])
+  sees_finish_on f =
+      seen_on (Finish ∷ []) (sees.finish f.before (ended_before ∙ f.after) (λ p. taken_before p ∙ f.taken p))
+
+  pub sees_nothing_on : TakesNoStep old new → Observes before after old new []
+  sees_nothing_on n = seen_on [] (sees.nothing (ended_before ∙ n.ended) (λ p. taken_before p ∙ n.taken p))
 
 module _ {before : List Lanes} {mid given new : ResolverState} (h : HandedOver mid given) (k : ClosedOver given new) where
   -- what was looked through

@@ -10,6 +10,9 @@
 //! beside the reference resolver. The definitions are `StandsOver`, in `specs/Resolver.antt`, and
 //! `Settled`, in `specs/Settled.antt`.
 //!
+//! [`Core::admit_observed`] and [`Resolver::turn_observed`] show each batch that they process to an
+//! [`Observer`]. The definitions are in `specs/Observed.antt`.
+//!
 //! [`share`] is the share of each proxy in what the resolver holds. While no client has more
 //! batches sent without an answer, no turn answers `GateFull`. The definitions are in
 //! `specs/Share.antt`.
@@ -31,6 +34,7 @@ mod stop;
 mod turn;
 
 pub use client::Client;
+pub use observer::{Observer, Unobserved};
 pub use opening::{open, open_at};
 pub use resolver::Resolver;
 pub use resolver_core::{Core, MAX_PROXIES};

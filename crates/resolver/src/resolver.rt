@@ -1,28 +1,29 @@
 //! The resolver over lanes: each turn takes a batch of some proxy, and sends answers.
 
-ghost use Rattle.std.specs.Prelude.{◌≡◌, ℕ, ℤ, ◌<◌, ◌≤◌, ◌+◌, ◌⊎◌, ◌↔◌, ◌≢◌, ◌<ℤ◌, ◌≤ℤ◌, pos};
-ghost use Rattle.std.specs.Prelude.{true, false, List, [], ◌∷◌, ◌++◌, length, map, All, Option};
-ghost use Rattle.std.specs.Prelude.{Some, None, Ok, Err, IsOk, IfOk, IfErr, OnOk, IfSome, IsSome};
-ghost use Rattle.std.specs.Prelude.{slice_get, IsTrue};
+ghost use Rattle.std.specs.Prelude.{◌≡◌, ℕ, ℤ, ◌<◌, ◌≤◌, ◌+◌, ◌⊎◌, ◌↔◌, ◌≢◌, ◌<ℤ◌, true, false};
+ghost use Rattle.std.specs.Prelude.{List, [], ◌∷◌, length, All, Some, None, Ok, Err, IsOk, IfOk};
+ghost use Rattle.std.specs.Prelude.{IfErr, OnOk, IfSome, IsSome, slice_get};
 ghost use Rattle.keyspace.specs.Run.{Step, Take, Finish, run};
-ghost use Rattle.stepmap.specs.declared.step_map.TheConstants.{MAX_LIMIT};
-ghost use Rattle.conflict.specs.declared.conflict_set.TheConstants.{MAX_WINDOW};
 ghost use Rattle.chain.specs.declared.gate.TheConstants.{MAX_HELD};
-ghost use Rattle.lane.specs.Lane.{PortGoesOn, HasEnded};
+ghost use Rattle.lane.specs.Lane.{HasEnded};
 ghost use Rattle.resolver.specs.declared.client.Client.{Client as ClientEnds};
 ghost use Rattle.resolver.specs.Owed.{owed_to, owed_count};
-ghost use Rattle.resolver.specs.Core.{GoesOn, StopsAtLimit, made_to};
+ghost use Rattle.resolver.specs.Core.{GoesOn, StopsAtLimit};
 ghost use Rattle.resolver.specs.Stands.{Stands};
 ghost use Rattle.resolver.specs.OpeningLog.{opening_log, log_from};
 ghost use Rattle.resolver.specs.Parts.{AreNewLanes, lanes_of};
 ghost use Rattle.resolver.specs.declared.resolver_core.TheConstants.{MAX_PROXIES};
 ghost use Rattle.resolver.specs.Lanes.{Lanes, all_ended, Each, LanesGoOn, IsLookedThrough};
-ghost use Rattle.resolver.specs.Lanes.{ComesBefore, IsFull, TakesNone, AreSameLists, sent_to};
+ghost use Rattle.resolver.specs.Lanes.{ComesBefore, IsFull, AreSameLists, sent_to};
 ghost use Rattle.resolver.specs.Resolver.{ResolverState, StandsOverFrom, IsResolvingFrom};
 ghost use Rattle.resolver.specs.Resolver.{TakesFrom, Finishes, TakesNoStep, StepsBy, IfNotTaken};
-ghost use Rattle.resolver.specs.Resolver.{IsThrough, SameBut, AreClients, SameClients};
+ghost use Rattle.resolver.specs.Resolver.{IsThrough, AreClients, SameClients};
+ghost use Rattle.resolver.specs.Observed.{Observes};
 ghost use Rattle.resolver.specs.Share.{share_of, HasMoreUnanswered};
+ghost use Rattle.resolver.specs.Turns.{Turns};
 ghost use Rattle.resolver.specs.Settled.{SettledFrom, IsComplete};
+
+mod turning;
 
 use crate::all_lanes;
 use crate::client::Client;
@@ -31,6 +32,7 @@ use crate::resolver_core::Core;
 use crate::stop::Stop;
 use crate::turn::{Account, Turn};
 use keyspace::laws;
+use observer::{Observer, Unobserved};
 use std::marker::Model;
 
 /// The resolver over lanes: takes the batches of its clients, and sends them the answers of the
@@ -159,7 +161,25 @@ impl Resolver {
         ensures lanes { Each (λ _ l m. LanesGoOn l m) self.old.lanes self.new.lanes }
         ensures goes_on { GoesOn self.old.core self.new.core }
     {
-        let stepped = self.step();
+        self.turn_observed(&mut Unobserved)
+    }
+
+    /// Takes a turn as [`turn`](Self::turn) does, and shows the observer each batch that is
+    /// processed, as [`Core::admit_observed`] does. If the observer is refused memory, the resolver
+    /// stops with `Memory`.
+    pub fn turn_observed<O: Observer>(&mut self, observer: &mut O) -> Result<Turn, Stop>
+        ensures turns { Turns result self.old self.new }
+        // What the observer has seen follows the log, whichever step was added to it.
+        ensures sees_taken { (proxy : ℕ) (took : TakesFrom proxy self.old self.new)
+            → Observes (O.has_seen observer.old) (O.has_seen observer.new) self.old self.new
+            (Take proxy took.batch ∷ []) }
+        ensures sees_finish { Finishes self.old self.new
+            → Observes (O.has_seen observer.old) (O.has_seen observer.new) self.old self.new
+            (Finish ∷ []) }
+        ensures sees_nothing { TakesNoStep self.old self.new
+            → Observes (O.has_seen observer.old) (O.has_seen observer.new) self.old self.new [] }
+    {
+        let stepped = self.step(observer);
         self.hand_out();
         self.close();
         Ok(match stepped? {
@@ -217,103 +237,5 @@ impl Resolver {
             Some(proxy_lanes) => proxy_lanes.sent(),
             None => 0,
         }
-    }
-
-    // Takes a batch of the next proxy that has one and admits it, and returns the proxy; or
-    // finishes the core, once all have ended.
-    fn step(&mut self) -> Result<Option<usize>, Stop>
-        ensures took { (proxy : ℕ) → result ≡ Ok (Some proxy) → TakesFrom proxy self.old self.new }
-        ensures still_open { (proxy : ℕ) → result ≡ Ok (Some proxy)
-            → all_ended self.new.lanes ≡ false }
-        ensures none { result ≡ Ok None → Finishes self.old self.new
-            ⊎ TakesNoStep self.old self.new }
-        ensures stop_met { IfErr result (λ _. self.old.core.stop ≡ None
-            → ((proxy : ℕ) × TakesFrom proxy self.old self.new) ⊎ Finishes self.old self.new) }
-        ensures stopped { IfSome self.old.core.stop (λ stop. (result ≡ Err stop)
-            × (self.new ≡ self.old)) }
-        ensures stop { IfErr result (λ stop. self.new.core.stop ≡ Some stop) }
-        ensures no_stop { OnOk result (self.new.core.stop ≡ None) }
-        ensures looked_through { result ≡ Ok None
-            → Each (λ _ l m. IsLookedThrough l m) self.old.lanes self.new.lanes }
-        ensures passed { (proxy : ℕ) → result ≡ Ok (Some proxy)
-            → Each (λ passed l m. ComesBefore self.old.next passed proxy
-            → IsLookedThrough l m) self.old.lanes self.new.lanes }
-        ensures next { (proxy : ℕ) → result ≡ Ok (Some proxy) → self.new.next ≡ proxy + 1 }
-        ensures next_stays { result ≡ Ok None → self.new.next ≡ self.old.next }
-        ensures gate_full { self.old.core.stop ≡ None → result ≡ Err Stop.GateFull
-            → (proxy : ℕ) × (took : TakesFrom proxy self.old self.new)
-            × (self.old.core.version <ℤ took.batch.previous)
-            × (length self.old.core.held ≡ MAX_HELD) }
-        ensures arena_full { self.old.core.stop ≡ None → result ≡ Err Stop.ArenaFull
-            → (version : ℤ) (log : List Step) → StandsOverFrom version self.old log
-            → (proxy : ℕ) × (took : TakesFrom proxy self.old self.new)
-            × StopsAtLimit self.old.core.set.map.limit self.old.core.set.window proxy took.batch
-            (run self.old.core.set.window (log_from version (length self.old.lanes) log))
-            (sent_to self.new.lanes) self.new.core }
-        ensures replies { Each (λ _ l m. m.replies ≡ l.replies) self.old.lanes self.new.lanes }
-        ensures lanes { Each (λ _ l m. LanesGoOn l m) self.old.lanes self.new.lanes }
-        ensures goes_on { GoesOn self.old.core self.new.core }
-        ensures open { OnOk result (self.old.core.stop ≡ None) }
-    {
-        if let Some(stop) = self.core.stop() {
-            return Err(stop);
-        }
-        match all_lanes::take_from(&mut self.all_lanes, self.next) {
-            Some((proxy, batch)) => {
-                self.next = proxy + 1;
-                self.core.admit(proxy, batch)?;
-                Ok(Some(proxy))
-            }
-            None => {
-                let ended = all_lanes::have_ended(&self.all_lanes);
-                if ended == self.finished {
-                    return Ok(None);
-                }
-                self.finished = true;
-                self.core.finish()?;
-                Ok(None)
-            }
-        }
-    }
-
-    // Sends each proxy the answers owed to it, while its reply lane accepts them.
-    fn hand_out(&mut self)
-        ensures stands { (version : ℤ) (log : List Step) → StandsOverFrom version self.old log
-            → StandsOverFrom version self.new log }
-        ensures made { (proxy : ℕ) → made_to proxy (sent_to self.new.lanes) self.new.core
-            ≡ made_to proxy (sent_to self.old.lanes) self.old.core }
-        ensures owed { Each (λ proxy l m. owed_to proxy self.new.core.owed ≢ []
-            → IsFull l m) self.old.lanes self.new.lanes }
-        ensures lanes { Each (λ _ l m. (m ≡ record l { replies = m.replies })
-            × PortGoesOn l.replies m.replies) self.old.lanes self.new.lanes }
-        ensures same { SameBut self.old self.new }
-    {
-        all_lanes::hand_out(&mut self.all_lanes, &mut self.core);
-    }
-
-    // Closes the reply lanes where no answer is still to come.
-    fn close(&mut self)
-        ensures stands { (version : ℤ) (log : List Step) → StandsOverFrom version self.old log
-            → StandsOverFrom version self.new log }
-        ensures closed { (proxy : ℕ) (l : Lanes) → slice_get self.new.lanes proxy ≡ Some l
-            → (l.replies.closed ≡ true) ↔ IsThrough self.new }
-        ensures core { self.new.core ≡ self.old.core }
-        ensures lanes { Each (λ _ l m. m
-            ≡ record l { replies = record l.replies { closed = m.replies.closed } }) self.old.lanes
-            self.new.lanes }
-        ensures count { length self.new.core.owed ≡ length self.new.lanes }
-        ensures next { self.new.next ≡ self.old.next }
-    {
-        if !self.closed && self.is_through() {
-            all_lanes::close(&mut self.all_lanes);
-            self.closed = true;
-        }
-    }
-
-    // Returns whether nothing is owed and no answer is still to come.
-    fn is_through(&self) -> bool
-        ensures through { (result ≡ true) ↔ IsThrough self.now }
-    {
-        self.owed() == 0 && (self.finished || self.core.stop().is_some())
     }
 }

@@ -11,6 +11,8 @@ ghost use Rattle.chain.specs.declared.gate.TheConstants.{MAX_HELD};
 ghost use Rattle.resolver.specs.Owed.{owed_to, given_oldest, owed_count};
 ghost use Rattle.resolver.specs.Core.{Given, GoesOn, StopsAtLimit};
 ghost use Rattle.resolver.specs.Stands.{Stands, given_also};
+ghost use Rattle.resolver.specs.Admits.{Admits};
+ghost use Rattle.resolver.specs.Observed.{HasSeen};
 ghost use Rattle.resolver.specs.OpeningLog.{opening_log};
 
 mod answering;
@@ -21,6 +23,7 @@ use crate::stop::{OpenError, Stop};
 use chain::{Gate, Replies};
 use conflict::ConflictSet;
 use keyspace::{Answer, Batch};
+use observer::{Observer, Unobserved};
 use opened::replies_at;
 use std::alloc::Global;
 use std::marker::Model;
@@ -164,10 +167,38 @@ impl Core {
             → StopsAtLimit self.old.set.map.limit self.old.set.window proxy batch
             (run self.old.set.window log) given self.new }
     {
+        self.admit_observed(&mut Unobserved, proxy, batch)
+    }
+
+    /// Takes a batch as [`admit`](Self::admit) does, and shows the observer each batch that is
+    /// processed: this one if its turn has come, and the held ones that follow, in that order.
+    ///
+    /// The observer sees a batch once its reply is kept, and before its answer is owed. It sees no
+    /// batch that is held, and no repeat. If the observer is refused memory, the core stops with
+    /// `Memory`, and that batch gets no answer. An error says that it has seen a prefix of the
+    /// batches that this call was to process. After a stop it sees nothing.
+    ///
+    /// No observer is shown the opening batch of a core that starts at a version
+    /// ([`new_at`](Self::new_at)), which counts as processed in `seen`.
+    pub fn admit_observed<O: Observer>(
+        &mut self,
+        observer: &mut O,
+        proxy: usize,
+        batch: Batch,
+    ) -> Result<(), Stop>
+        requires known { proxy < length self.old.owed }
+        ensures admits { Admits result proxy batch self.old self.new }
+        ensures seen { self.old.stop ≡ None → (log : List Step) (given : Given)
+            → Stands self.old log given
+            → O.has_seen observer.old (run self.old.set.window log).processed
+            → HasSeen (O.has_seen observer.new) self.new.stop self.old.set.window
+            (log ++ Take proxy batch ∷ []) }
+        ensures unseen { IfSome self.old.stop (λ _. observer.new ≡ observer.old) }
+    {
         if let Some(stop) = self.stop {
             return Err(stop);
         }
-        let taken = self.take(proxy, batch);
+        let taken = self.take(observer, proxy, batch);
         if let Err(stop) = taken {
             self.stop = Some(stop);
         }

@@ -16,6 +16,8 @@ struct Round {
     boundaries: usize,
 }
 
+// A function that is never inlined, so that a profile shows decoding apart from resolving.
+#[inline(never)]
 fn decode(mut bytes: &[u8]) -> Vec<Batch> {
     let mut batches = Vec::new();
     while !bytes.is_empty() {
@@ -28,16 +30,11 @@ fn decode(mut bytes: &[u8]) -> Vec<Batch> {
     batches
 }
 
-fn round(bytes: &[u8]) -> Round {
-    let start = Instant::now();
-    let batches = decode(bytes);
-    let decoding = start.elapsed().as_secs_f64();
-    let Ok(mut set) = ConflictSet::new(Global, WINDOW, MAX_LIMIT) else {
-        panic!("no set");
-    };
+// Resolves the batches, and returns the sum of their verdicts. It is never inlined either.
+#[inline(never)]
+fn resolve(set: &mut ConflictSet, batches: &[Batch]) -> u64 {
     let mut verdicts = 0_u64;
-    let start = Instant::now();
-    for batch in &batches {
+    for batch in batches {
         let Ok(reply) = set.resolve(batch) else {
             panic!("the batch of version {} stops the set", batch.version);
         };
@@ -45,6 +42,18 @@ fn round(bytes: &[u8]) -> Round {
             verdicts = verdicts.wrapping_mul(31).wrapping_add(entry.verdict as u64);
         }
     }
+    verdicts
+}
+
+fn round(bytes: &[u8]) -> Round {
+    let start = Instant::now();
+    let batches = decode(bytes);
+    let decoding = start.elapsed().as_secs_f64();
+    let Ok(mut set) = ConflictSet::new(Global, WINDOW, MAX_LIMIT) else {
+        panic!("no set");
+    };
+    let start = Instant::now();
+    let verdicts = resolve(&mut set, &batches);
     Round {
         decoding,
         resolving: start.elapsed().as_secs_f64(),

@@ -1,6 +1,7 @@
 //! Text in which a word that recurs takes one byte, and so does a run of one word.
 
-ghost use Rattle.std.specs.Prelude.{◌≡◌, ◌<◌, ◌++◌, ℕ, [], take, OnOk, OnErr, IfSome, Some};
+ghost use Rattle.std.specs.Prelude.{◌≡◌, ◌↔◌, ◌<◌, ◌++◌, ℕ, [], take, OnOk, OnErr, IfSome, Some};
+ghost use Rattle.std.specs.Prelude.{IsTrue};
 ghost use Rattle.std.specs.Io.{WritesAtMost};
 ghost use Rattle.std.specs.Io.KnownBytes.{Appends, Keeps, WriteAppends};
 ghost use Rattle.replay_output.specs.Packed.{word_text};
@@ -45,6 +46,13 @@ impl PackedText {
         PackedText {
             units: Vec::new(alloc),
         }
+    }
+
+    /// Returns whether the text is empty.
+    pub fn is_empty(&self) -> bool
+        ensures empty { IsTrue result ↔ (self.now ≡ []) }
+    {
+        self.units.is_empty()
     }
 
     /// Makes room for n letters more, and for no others.

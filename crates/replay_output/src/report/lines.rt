@@ -3,11 +3,10 @@
 ghost use Rattle.std.specs.Prelude.{◌≡◌, ◌<◌, ◌≤◌, ◌↔◌, ℕ, map, take, length, vec_items, OnOk};
 ghost use Rattle.std.specs.Prelude.{OnErr, IfErr, IfSome};
 ghost use Rattle.std.specs.Io.KnownBytes.{Appends};
-ghost use Rattle.replay_output.specs.Line.{AreLines, TakesToSort, answers_of, text_of, texts};
+ghost use Rattle.replay_output.specs.Line.{AreLinesBy, TakesToSort, answers_of, text_of, texts};
 ghost use Rattle.replay_output.specs.Line.{version_of_line};
-ghost use Rattle.replay_output.specs.Lines.{lines};
+ghost use Rattle.replay_output.specs.Lines.{Print, lines_by};
 ghost use Rattle.checking.specs.InOrder.{in_order_by};
-ghost use Rattle.replay_output.specs.declared.options.style.Style.{Style};
 
 use crate::line::Line;
 use checking::sort_by_version;
@@ -33,20 +32,20 @@ pub fn print_answers<W: Sink>(
     out: &mut W,
     received: &mut [Vec<Line>],
 ) -> Result<(), PrintError>
-    ensures lines { (style : Style) → AreLines style (map vec_items received.old)
+    ensures lines { (print : Print) → AreLinesBy print (map vec_items received.old)
         → OnOk result (Appends (W.given out.old) (W.given out.new)
-        (lines style (map answers_of (map vec_items received.old)))) }
+        (lines_by print (map answers_of (map vec_items received.old)))) }
     ensures memory { (proxy : ℕ) → result ≡ Err (PrintError.Memory proxy)
         → proxy < length received.old }
     ensures takes { (proxy : ℕ) → result ≡ Err (PrintError.Memory proxy)
         → TakesToSort (map vec_items received.old) proxy }
     ensures nothing { (proxy : ℕ) → result ≡ Err (PrintError.Memory proxy)
         → W.given out.new ≡ W.given out.old }
-    ensures beginning { (style : Style) → AreLines style (map vec_items received.old)
+    ensures beginning { (print : Print) → AreLinesBy print (map vec_items received.old)
         → result ≡ Err PrintError.Write
         → IfSome (W.given out.new) (λ _. (n : ℕ)
         × Appends (W.given out.old) (W.given out.new)
-        (take n (lines style (map answers_of (map vec_items received.old))))) }
+        (take n (lines_by print (map answers_of (map vec_items received.old))))) }
     ensures write { (result ≡ Err PrintError.Write) ↔ (W.failures out.old < W.failures out.new) }
     ensures least_failures { W.failures out.old ≤ W.failures out.new }
 {

@@ -1,9 +1,11 @@
 //! How a core answers: it holds a batch, judges it or finds the reply of a repeat, and so for all
 //! that leave.
 
-ghost use Rattle.std.specs.Prelude.{◌≡◌, ◌≢◌, ℕ, ℤ, ◌<◌, ◌≤ℤ◌, ◌<ℤ◌, ◌↔◌, length, Some, None, Err};
+ghost use Rattle.std.specs.Prelude.{◌≡◌, ◌≢◌, ℕ, ℤ, ◌<◌, ◌≤ℤ◌, ◌<ℤ◌, ◌↔◌, List, length};
+ghost use Rattle.std.specs.Prelude.{Some, None, Err};
 ghost use Rattle.std.specs.Prelude.{OnOk, OnErr, IfOk, IfErr};
 ghost use Rattle.keyspace.specs.Found.{found, reply_or_never};
+ghost use Rattle.keyspace.specs.Processed.{Processed};
 ghost use Rattle.keyspace.specs.Run.{State, Take, Finish, answer, process, leave_all, step};
 ghost use Rattle.keyspace.specs.Run as reference;
 ghost use Rattle.chain.specs.declared.gate.TheConstants.{MAX_HELD};
@@ -11,17 +13,24 @@ ghost use Rattle.chain.specs.Replies.{reply_of};
 ghost use Rattle.resolver.specs.Core.{Given, IsIn, GoesOn, MadeBetween, StopsIn, StopsAsTheyLeave};
 ghost use Rattle.resolver.specs.Core.{StopsAtLimit};
 ghost use Rattle.resolver.specs.Core.{kept_also};
+ghost use Rattle.resolver.specs.Observed.{HasSeenBetween};
 
 use super::Core;
 use crate::stop::Stop;
 use chain::Replies;
 use keyspace::{Answer, Batch, Reply, laws};
+use observer::Observer;
 use std::alloc::Global;
 
 impl Core {
     /// Takes a batch of a proxy: holds it or answers it, and then answers all held batches that
-    /// leave.
-    pub(super) fn take(&mut self, proxy: usize, batch: Batch) -> Result<(), Stop>
+    /// leave. The observer sees each batch that is processed.
+    pub(super) fn take<O: Observer>(
+        &mut self,
+        observer: &mut O,
+        proxy: usize,
+        batch: Batch,
+    ) -> Result<(), Stop>
         requires known { proxy < length self.old.owed }
         requires open { self.old.stop ≡ None }
         ensures ok { OnOk result ((state : State) (given : Given) → IsIn state given self.old
@@ -37,13 +46,21 @@ impl Core {
             → IsIn state given self.old
             → StopsAtLimit self.old.set.map.limit self.old.set.window proxy batch state given
             self.new }
+        ensures seen { OnOk result ((state : State) (given : Given) → IsIn state given self.old
+            → O.has_seen observer.old state.processed
+            → O.has_seen observer.new (step self.old.set.window (Take proxy batch) state).processed) }
+        ensures seen_between { OnErr result ((state : State) (given : Given)
+            → IsIn state given self.old
+            → O.has_seen observer.old state.processed
+            → HasSeenBetween (O.has_seen observer.new) state.processed
+            (step self.old.set.window (Take proxy batch) state).processed) }
     {
         if batch.previous > self.version {
             self.hold(proxy, batch)?;
         } else {
-            self.answer(proxy, &batch)?;
+            self.answer(observer, proxy, batch)?;
         }
-        self.release()
+        self.release(observer)
     }
 
     /// Answers every held batch `Held`, in order of arrival.
@@ -84,12 +101,17 @@ impl Core {
     }
 
     // Answers a batch whose previous version isn't still to come.
-    fn answer(&mut self, proxy: usize, batch: &Batch) -> Result<(), Stop>
+    fn answer<O: Observer>(
+        &mut self,
+        observer: &mut O,
+        proxy: usize,
+        batch: Batch,
+    ) -> Result<(), Stop>
         requires known { proxy < length self.old.owed }
         requires open { self.old.stop ≡ None }
-        requires due { batch.now.previous ≤ℤ self.old.version }
+        requires due { batch.previous ≤ℤ self.old.version }
         ensures ok { OnOk result ((state : State) (given : Given) → IsIn state given self.old
-            → IsIn (reference.admit self.old.set.window proxy batch.now state) given self.new) }
+            → IsIn (reference.admit self.old.set.window proxy batch state) given self.new) }
         ensures err { OnErr result (self.new.owed ≡ self.old.owed) }
         ensures open { OnOk result (self.new.stop ≡ None) }
         ensures held { self.new.held ≡ self.old.held }
@@ -97,13 +119,18 @@ impl Core {
         ensures not_gate { result ≢ Err Stop.GateFull }
         ensures arena_full { result ≡ Err Stop.ArenaFull → (state : State) (given : Given)
             → IsIn state given self.old
-            → StopsIn self.old.set.map.limit self.old.set.window state proxy batch.now given
+            → StopsIn self.old.set.map.limit self.old.set.window state proxy batch given
             self.new }
+        ensures seen { OnOk result ((state : State) (given : Given) → IsIn state given self.old
+            → O.has_seen observer.old state.processed
+            → O.has_seen observer.new (reference.admit self.old.set.window proxy batch state).processed) }
+        ensures unseen { OnErr result ((ps : List Processed) → O.has_seen observer.old ps
+            → O.has_seen observer.new ps) }
     {
         if batch.previous < self.version {
             self.repeat(proxy, batch.version)
         } else {
-            self.process(proxy, batch)
+            self.process(observer, proxy, batch)
         }
     }
 
@@ -124,13 +151,19 @@ impl Core {
     }
 
     // Judges a batch whose previous version is the version, keeps its reply for a repeat, and
-    // answers with it. The core stops where its conflict set does.
-    fn process(&mut self, proxy: usize, batch: &Batch) -> Result<(), Stop>
+    // answers with it. The observer sees it before the answer is owed. The core stops where its
+    // conflict set does.
+    fn process<O: Observer>(
+        &mut self,
+        observer: &mut O,
+        proxy: usize,
+        batch: Batch,
+    ) -> Result<(), Stop>
         requires known { proxy < length self.old.owed }
         requires open { self.old.stop ≡ None }
-        requires next { batch.now.previous ≡ self.old.version }
+        requires next { batch.previous ≡ self.old.version }
         ensures ok { OnOk result ((state : State) (given : Given) → IsIn state given self.old
-            → IsIn (process self.old.set.window proxy batch.now state) given self.new) }
+            → IsIn (process self.old.set.window proxy batch state) given self.new) }
         ensures err { OnErr result (self.new.owed ≡ self.old.owed) }
         ensures open { OnOk result (self.new.stop ≡ None) }
         ensures held { self.new.held ≡ self.old.held }
@@ -138,12 +171,17 @@ impl Core {
         ensures not_gate { result ≢ Err Stop.GateFull }
         ensures arena_full { result ≡ Err Stop.ArenaFull → (state : State) (given : Given)
             → IsIn state given self.old
-            → StopsIn self.old.set.map.limit self.old.set.window state proxy batch.now given
+            → StopsIn self.old.set.map.limit self.old.set.window state proxy batch given
             self.new }
+        ensures seen { OnOk result ((state : State) (given : Given) → IsIn state given self.old
+            → O.has_seen observer.old state.processed
+            → O.has_seen observer.new (process self.old.set.window proxy batch state).processed) }
+        ensures unseen { OnErr result ((ps : List Processed) → O.has_seen observer.old ps
+            → O.has_seen observer.new ps) }
     {
         laws::one_reply();
         self.owed.reserve(proxy)?;
-        let reply = match self.set.resolve(batch) {
+        let reply = match self.set.resolve(&batch) {
             Ok(reply) => reply,
             Err(stop) => {
                 let stop = Stop::from(stop);
@@ -153,13 +191,14 @@ impl Core {
         };
         self.version = batch.version;
         keep(self.alloc, &mut self.replies, proxy, batch.received, &reply)?;
+        observer.see(proxy, batch, &reply)?;
         self.owed.push(proxy, Answer::Reply(reply));
         Ok(())
     }
 
     // Answers the held batches that leave at the version, one at a time, and so on as the version
     // rises.
-    fn release(&mut self) -> Result<(), Stop>
+    fn release<O: Observer>(&mut self, observer: &mut O) -> Result<(), Stop>
         requires open { self.old.stop ≡ None }
         ensures ok { OnOk result ((state : State) (given : Given) → IsIn state given self.old
             → IsIn (leave_all self.old.set.window state) given self.new) }
@@ -171,10 +210,18 @@ impl Core {
         ensures arena_full { result ≡ Err Stop.ArenaFull → (state : State) (given : Given)
             → IsIn state given self.old
             → StopsAsTheyLeave self.old.set.map.limit self.old.set.window state given self.new }
+        ensures seen { OnOk result ((state : State) (given : Given) → IsIn state given self.old
+            → O.has_seen observer.old state.processed
+            → O.has_seen observer.new (leave_all self.old.set.window state).processed) }
+        ensures seen_between { OnErr result ((state : State) (given : Given)
+            → IsIn state given self.old
+            → O.has_seen observer.old state.processed
+            → HasSeenBetween (O.has_seen observer.new) state.processed
+            (leave_all self.old.set.window state).processed) }
     {
         laws::leaving();
         while let Some((proxy, batch)) = self.gate.next_for(self.version) {
-            self.answer(proxy, &batch)?;
+            self.answer(observer, proxy, batch)?;
         }
         Ok(())
     }

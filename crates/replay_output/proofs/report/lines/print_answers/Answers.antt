@@ -7,15 +7,15 @@ use Rattle.replay_output.proofs.LineTexts.{texts_are_lines}
 use Rattle.replay_output.proofs.report.lines.print_answers.Goals as goal
 
 pub returns-clause-lines : goal.returns-clause-lines
-returns-clause-lines g c = λ style are.
-    let text = ap texts c.in_default.ensures.ok ∙ texts_are_lines style (map vec_items c.args.received.now) are in
+returns-clause-lines g c = λ print are.
+    let text = ap texts c.in_default.ensures.ok ∙ texts_are_lines print (map vec_items c.args.received.now) are in
     let given = g.W.Sink.given in
     on_ok_also c.print_sorted.result c.map_err.result c.map_err.ensures.variant
     (subst (Appends (given c.args.out.now) (given c.print_sorted.new.out)) text) c.print_sorted.ensures.whole
 
 pub returns-clause-beginning : goal.returns-clause-beginning
-returns-clause-beginning g c = λ style are failed.
-    let text = ap texts c.in_default.ensures.ok ∙ texts_are_lines style (map vec_items c.args.received.now) are in
+returns-clause-beginning g c = λ print are failed.
+    let text = ap texts c.in_default.ensures.ok ∙ texts_are_lines print (map vec_items c.args.received.now) are in
     let given = g.W.Sink.given in
     subst (Begins (given c.args.out.now) (given c.print_sorted.new.out)) text
     (at_err_also c.print_sorted.result c.map_err.result _ c.map_err.ensures.variant failed c.print_sorted.ensures.beginning)

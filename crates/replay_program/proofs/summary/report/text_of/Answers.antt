@@ -10,8 +10,7 @@ use Rattle.replay_program.proofs.summary.report.text_of.Goals as goal
 
 pub text_of_sorted-requires : goal.text_of_sorted-requires
 text_of_sorted-requires c = record {
-  rise =
-      subst (All (Rise version_of_line)) (sym c.in_ok-sort_lines.ensures.ok) (lines_rise (map vec_items c.args.received.now));
+  rise = subst (All (Rise version_of_line)) (sym c.in_ok-sort_lines.ensures.ok) (lines_rise (map vec_items c.args.received.now));
 }
 
 pub returns-in-Ok-clause-text : goal.returns-in-Ok-clause-text

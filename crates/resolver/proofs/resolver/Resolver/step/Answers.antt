@@ -7,6 +7,7 @@ use Rattle.resolver.specs.declared.stop.Stop.TheVariants.{GateFull, ArenaFull}
 use Rattle.resolver.specs.Core.{GoesOn, StopsAtLimit}
 use Rattle.resolver.specs.Lanes.{Each, LanesGoOn, IsLookedThrough, ComesBefore, all_ended, sent_to}
 use Rattle.resolver.specs.OpeningLog.{log_from}
+use Rattle.resolver.specs.Observed.{ObservesStep}
 use Rattle.resolver.specs.Resolver.{ResolverState, StandsOverFrom, TakesFrom, Finishes, TakesNoStep}
 use Rattle.resolver.specs.Parts.{Parts, resolver_of, lanes_of, AreParts, FindsOne, FindsNone}
 use Rattle.resolver.proofs.Stops.{same_stop, IfErr-always}
@@ -38,11 +39,16 @@ use Rattle.resolver.proofs.Stepping.{
   finishes_now,
   through_still,
   takes_no_step,
+  sees_taken,
+  sees_finish,
+  sees_nothing,
 }
+use Rattle.resolver.proofs.SeenSteps.{step_unchanged}
+use Rattle.resolver.proofs.resolver.Resolver.step.Given.{Over}
 use Rattle.resolver.proofs.resolver.Resolver.step.Goals as goal
 
 -- a batch was found, and a stop was met as it was admitted
-module _ (c : goal.After-from_residual) where
+module _ (g : Over) (c : goal.After-from_residual g) where
   abbrev stopped_old : Parts
   stopped_old = record {
     core = c.self.inside.core;
@@ -54,7 +60,7 @@ module _ (c : goal.After-from_residual) where
 
   abbrev stopped_new : Parts
   stopped_new = record {
-    core = c.admit.new.self;
+    core = c.admit_observed.new.self;
     all_lanes = (with_items c.self.inside.all_lanes c.take_from.new.all_lanes).items;
     next = c.in-Some-take_from.proxy + 1;
     finished = c.self.inside.finished;
@@ -75,11 +81,11 @@ module _ (c : goal.After-from_residual) where
   stopped_takes =
       subst (λ r. TakesFrom c.in-Some-take_from.proxy r (resolver_of stopped_new)) c.self.view_is
       (takes_from stopped_old stopped_new c.self.inside.next c.in-Some-take_from.proxy c.in-Some-take_from.batch
-      stopped_found c.self.invariant stopped_running c.admit.ensures.goes_on refl refl refl
-      (c.admit.ensures.stands stopped_running))
+      stopped_found c.self.invariant stopped_running c.admit_observed.ensures.admits.goes_on refl refl refl
+      (c.admit_observed.ensures.admits.stands stopped_running))
 
 -- a batch was found, and it was admitted
-module _ (c : goal.In_ok-admit-in-Some-take_from) where
+module _ (g : Over) (c : goal.In_ok-admit_observed-in-Some-take_from g) where
   abbrev admitted_old : Parts
   admitted_old = record {
     core = c.self.inside.core;
@@ -91,7 +97,7 @@ module _ (c : goal.In_ok-admit-in-Some-take_from) where
 
   abbrev admitted_new : Parts
   admitted_new = record {
-    core = c.admit.new.self;
+    core = c.admit_observed.new.self;
     all_lanes = (with_items c.self.inside.all_lanes c.take_from.new.all_lanes).items;
     next = c.in-Some-take_from.proxy + 1;
     finished = c.self.inside.finished;
@@ -112,113 +118,113 @@ module _ (c : goal.In_ok-admit-in-Some-take_from) where
   admitted_takes =
       subst (λ r. TakesFrom c.in-Some-take_from.proxy r (resolver_of admitted_new)) c.self.view_is
       (takes_from admitted_old admitted_new c.self.inside.next c.in-Some-take_from.proxy c.in-Some-take_from.batch
-      admitted_found c.self.invariant admitted_running c.admit.ensures.goes_on refl refl refl
-      (c.admit.ensures.stands admitted_running))
+      admitted_found c.self.invariant admitted_running c.admit_observed.ensures.admits.goes_on refl refl refl
+      (c.admit_observed.ensures.admits.stands admitted_running))
 
 pub invariant_of-self : goal.invariant_of-self
-invariant_of-self c =
-    parts_taken (stopped_old c) (stopped_new c) c.self.inside.next c.in-Some-take_from.proxy c.in-Some-take_from.batch
-    (stopped_found c) c.self.invariant (stopped_running c) c.admit.ensures.goes_on refl refl refl
+invariant_of-self g c =
+    parts_taken (stopped_old g c) (stopped_new g c) c.self.inside.next c.in-Some-take_from.proxy c.in-Some-take_from.batch
+    (stopped_found g c) c.self.invariant (stopped_running g c) c.admit_observed.ensures.admits.goes_on refl refl refl
 
 pub invariant_of-self-in-Some-take_from : goal.invariant_of-self-in-Some-take_from
-invariant_of-self-in-Some-take_from c =
-    parts_taken (admitted_old c) (admitted_new c) c.self.inside.next c.in-Some-take_from.proxy c.in-Some-take_from.batch
-    (admitted_found c) c.self.invariant (admitted_running c) c.admit.ensures.goes_on refl refl refl
+invariant_of-self-in-Some-take_from g c =
+    parts_taken (admitted_old g c) (admitted_new g c) c.self.inside.next c.in-Some-take_from.proxy c.in-Some-take_from.batch
+    (admitted_found g c) c.self.invariant (admitted_running g c) c.admit_observed.ensures.admits.goes_on refl refl refl
 
-pub returns-in_err-admit-in-Some-take_from-clause-stop_met : goal.returns-in_err-admit-in-Some-take_from-clause-stop_met
-returns-in_err-admit-in-Some-take_from-clause-stop_met c =
-    IfErr-always c.from_residual.result (λ _. inl (c.in-Some-take_from.proxy, stopped_takes c))
+pub returns-in_err-admit_observed-in-Some-take_from-clause-stop_met : goal.returns-in_err-admit_observed-in-Some-take_from-clause-stop_met
+returns-in_err-admit_observed-in-Some-take_from-clause-stop_met g c =
+    IfErr-always c.from_residual.result (λ _. inl (c.in-Some-take_from.proxy, stopped_takes g c))
 
-pub returns-in_err-admit-in-Some-take_from-clause-gate_full : goal.returns-in_err-admit-in-Some-take_from-clause-gate_full
-returns-in_err-admit-in-Some-take_from-clause-gate_full c =
+pub returns-in_err-admit_observed-in-Some-take_from-clause-gate_full : goal.returns-in_err-admit_observed-in-Some-take_from-clause-gate_full
+returns-in_err-admit_observed-in-Some-take_from-clause-gate_full g c =
     λ running is.
-    let stop = c.in_err-admit-in-Some-take_from.field-0.0 in
+    let stop = c.in_err-admit_observed-in-Some-take_from.field-0.0 in
     let met = same_stop c.from_residual.result stop GateFull c.from_residual.ensures.1 is in
-    let full = (c.admit.ensures.gate_full (stopped_running c)).0 (c.in_err-admit-in-Some-take_from.was ∙ ap Err met) in
-    let took = takes_when (stopped_old c) (stopped_new c) c.self.inside.next c.in-Some-take_from.proxy c.in-Some-take_from.batch
-    (stopped_found c) c.self.invariant (stopped_running c) c.admit.ensures.goes_on refl refl refl (λ b. (c.self.inside.core.version <ℤ b.previous) × (length c.self.inside.core.held ≡ MAX_HELD)) full
-    (c.admit.ensures.stands (stopped_running c)) in
-    subst (λ (r : ResolverState). (p : ℕ) × (t : TakesFrom p r (resolver_of (stopped_new c)))
+    let full = (c.admit_observed.ensures.admits.gate_full (stopped_running g c)).0 (c.in_err-admit_observed-in-Some-take_from.was ∙ ap Err met) in
+    let took = takes_when (stopped_old g c) (stopped_new g c) c.self.inside.next c.in-Some-take_from.proxy c.in-Some-take_from.batch
+    (stopped_found g c) c.self.invariant (stopped_running g c) c.admit_observed.ensures.admits.goes_on refl refl refl (λ b. (c.self.inside.core.version <ℤ b.previous) × (length c.self.inside.core.held ≡ MAX_HELD)) full
+    (c.admit_observed.ensures.admits.stands (stopped_running g c)) in
+    subst (λ (r : ResolverState). (p : ℕ) × (t : TakesFrom p r (resolver_of (stopped_new g c)))
     × (r.core.version <ℤ t.batch.previous) × (length r.core.held ≡ MAX_HELD)) c.self.view_is
     (took.0, took.1, took.2.0, took.2.1)
 
-pub returns-in_err-admit-in-Some-take_from-clause-arena_full : goal.returns-in_err-admit-in-Some-take_from-clause-arena_full
-returns-in_err-admit-in-Some-take_from-clause-arena_full c =
+pub returns-in_err-admit_observed-in-Some-take_from-clause-arena_full : goal.returns-in_err-admit_observed-in-Some-take_from-clause-arena_full
+returns-in_err-admit_observed-in-Some-take_from-clause-arena_full g c =
     λ running is version log s.
-    let stop = c.in_err-admit-in-Some-take_from.field-0.0 in
+    let stop = c.in_err-admit_observed-in-Some-take_from.field-0.0 in
     let met = same_stop c.from_residual.result stop ArenaFull c.from_residual.ensures.1 is in
     let limit = c.self.inside.core.set.map.limit in
     let window = c.self.inside.core.set.window in
-    let given = sent_to (lanes_of (stopped_new c).all_lanes) in
-    let core = (resolver_of (stopped_new c)).core in
-    let whole = log_from version (length (lanes_of (stopped_old c).all_lanes)) log in
-    subst (λ (r : ResolverState). (p : ℕ) × (t : TakesFrom p r (resolver_of (stopped_new c)))
+    let given = sent_to (lanes_of (stopped_new g c).all_lanes) in
+    let core = (resolver_of (stopped_new g c)).core in
+    let whole = log_from version (length (lanes_of (stopped_old g c).all_lanes)) log in
+    subst (λ (r : ResolverState). (p : ℕ) × (t : TakesFrom p r (resolver_of (stopped_new g c)))
     × StopsAtLimit r.core.set.map.limit r.core.set.window p t.batch
     (run r.core.set.window (log_from version (length r.lanes) log)) given core)
     c.self.view_is
-    (takes_over (stopped_old c) (stopped_new c) c.self.inside.next c.in-Some-take_from.proxy c.in-Some-take_from.batch
-    (stopped_found c) c.self.invariant (stopped_running c) c.admit.ensures.goes_on refl refl refl (λ p b. StopsAtLimit limit window p b (run window whole) given core)
-    (stops_at_limit (stopped_old c) (stopped_new c) c.self.inside.next c.in-Some-take_from.proxy c.in-Some-take_from.batch
-    (stopped_found c) c.self.invariant (stopped_running c) c.admit.ensures.goes_on refl refl refl version log
+    (takes_over (stopped_old g c) (stopped_new g c) c.self.inside.next c.in-Some-take_from.proxy c.in-Some-take_from.batch
+    (stopped_found g c) c.self.invariant (stopped_running g c) c.admit_observed.ensures.admits.goes_on refl refl refl (λ p b. StopsAtLimit limit window p b (run window whole) given core)
+    (stops_at_limit (stopped_old g c) (stopped_new g c) c.self.inside.next c.in-Some-take_from.proxy c.in-Some-take_from.batch
+    (stopped_found g c) c.self.invariant (stopped_running g c) c.admit_observed.ensures.admits.goes_on refl refl refl version log
     (subst (λ (r : ResolverState). StandsOverFrom version r log) (sym c.self.view_is) s)
-    (c.admit.ensures.arena_full (stopped_running c) (c.in_err-admit-in-Some-take_from.was ∙ ap Err met)))
-    (c.admit.ensures.stands (stopped_running c)))
+    (c.admit_observed.ensures.admits.arena_full (stopped_running g c) (c.in_err-admit_observed-in-Some-take_from.was ∙ ap Err met)))
+    (c.admit_observed.ensures.admits.stands (stopped_running g c)))
 
-pub returns-in_err-admit-in-Some-take_from-clause-replies : goal.returns-in_err-admit-in-Some-take_from-clause-replies
-returns-in_err-admit-in-Some-take_from-clause-replies c =
-    subst (λ (r : ResolverState). Each (λ p l m. m.replies ≡ l.replies) r.lanes (lanes_of (stopped_new c).all_lanes)) c.self.view_is
-    (replies_taken (stopped_old c) (stopped_new c) c.self.inside.next c.in-Some-take_from.proxy c.in-Some-take_from.batch
-    (stopped_found c) c.self.invariant (stopped_running c) c.admit.ensures.goes_on refl refl refl)
+pub returns-in_err-admit_observed-in-Some-take_from-clause-replies : goal.returns-in_err-admit_observed-in-Some-take_from-clause-replies
+returns-in_err-admit_observed-in-Some-take_from-clause-replies g c =
+    subst (λ (r : ResolverState). Each (λ p l m. m.replies ≡ l.replies) r.lanes (lanes_of (stopped_new g c).all_lanes)) c.self.view_is
+    (replies_taken (stopped_old g c) (stopped_new g c) c.self.inside.next c.in-Some-take_from.proxy c.in-Some-take_from.batch
+    (stopped_found g c) c.self.invariant (stopped_running g c) c.admit_observed.ensures.admits.goes_on refl refl refl)
 
-pub returns-in_err-admit-in-Some-take_from-clause-lanes : goal.returns-in_err-admit-in-Some-take_from-clause-lanes
-returns-in_err-admit-in-Some-take_from-clause-lanes c =
-    subst (λ (r : ResolverState). Each (λ p l m. LanesGoOn l m) r.lanes (lanes_of (stopped_new c).all_lanes)) c.self.view_is
-    (lanes_taken (stopped_old c) (stopped_new c) c.self.inside.next c.in-Some-take_from.proxy c.in-Some-take_from.batch
-    (stopped_found c) c.self.invariant (stopped_running c) c.admit.ensures.goes_on refl refl refl)
+pub returns-in_err-admit_observed-in-Some-take_from-clause-lanes : goal.returns-in_err-admit_observed-in-Some-take_from-clause-lanes
+returns-in_err-admit_observed-in-Some-take_from-clause-lanes g c =
+    subst (λ (r : ResolverState). Each (λ p l m. LanesGoOn l m) r.lanes (lanes_of (stopped_new g c).all_lanes)) c.self.view_is
+    (lanes_taken (stopped_old g c) (stopped_new g c) c.self.inside.next c.in-Some-take_from.proxy c.in-Some-take_from.batch
+    (stopped_found g c) c.self.invariant (stopped_running g c) c.admit_observed.ensures.admits.goes_on refl refl refl)
 
-pub returns-in_err-admit-in-Some-take_from-clause-goes_on : goal.returns-in_err-admit-in-Some-take_from-clause-goes_on
-returns-in_err-admit-in-Some-take_from-clause-goes_on c =
-    subst (λ (r : ResolverState). GoesOn r.core (resolver_of (stopped_new c)).core) c.self.view_is
-    (goes_on_taken (stopped_old c) (stopped_new c) c.self.inside.next c.in-Some-take_from.proxy c.in-Some-take_from.batch
-    (stopped_found c) c.self.invariant (stopped_running c) c.admit.ensures.goes_on refl refl refl)
+pub returns-in_err-admit_observed-in-Some-take_from-clause-goes_on : goal.returns-in_err-admit_observed-in-Some-take_from-clause-goes_on
+returns-in_err-admit_observed-in-Some-take_from-clause-goes_on g c =
+    subst (λ (r : ResolverState). GoesOn r.core (resolver_of (stopped_new g c)).core) c.self.view_is
+    (goes_on_taken (stopped_old g c) (stopped_new g c) c.self.inside.next c.in-Some-take_from.proxy c.in-Some-take_from.batch
+    (stopped_found g c) c.self.invariant (stopped_running g c) c.admit_observed.ensures.admits.goes_on refl refl refl)
 
-pub returns-in_ok-admit-in-Some-take_from-clause-replies : goal.returns-in_ok-admit-in-Some-take_from-clause-replies
-returns-in_ok-admit-in-Some-take_from-clause-replies c =
-    subst (λ (r : ResolverState). Each (λ p l m. m.replies ≡ l.replies) r.lanes (lanes_of (admitted_new c).all_lanes)) c.self.view_is
-    (replies_taken (admitted_old c) (admitted_new c) c.self.inside.next c.in-Some-take_from.proxy c.in-Some-take_from.batch
-    (admitted_found c) c.self.invariant (admitted_running c) c.admit.ensures.goes_on refl refl refl)
+pub returns-in_ok-admit_observed-in-Some-take_from-clause-replies : goal.returns-in_ok-admit_observed-in-Some-take_from-clause-replies
+returns-in_ok-admit_observed-in-Some-take_from-clause-replies g c =
+    subst (λ (r : ResolverState). Each (λ p l m. m.replies ≡ l.replies) r.lanes (lanes_of (admitted_new g c).all_lanes)) c.self.view_is
+    (replies_taken (admitted_old g c) (admitted_new g c) c.self.inside.next c.in-Some-take_from.proxy c.in-Some-take_from.batch
+    (admitted_found g c) c.self.invariant (admitted_running g c) c.admit_observed.ensures.admits.goes_on refl refl refl)
 
-pub returns-in_ok-admit-in-Some-take_from-clause-lanes : goal.returns-in_ok-admit-in-Some-take_from-clause-lanes
-returns-in_ok-admit-in-Some-take_from-clause-lanes c =
-    subst (λ (r : ResolverState). Each (λ p l m. LanesGoOn l m) r.lanes (lanes_of (admitted_new c).all_lanes)) c.self.view_is
-    (lanes_taken (admitted_old c) (admitted_new c) c.self.inside.next c.in-Some-take_from.proxy c.in-Some-take_from.batch
-    (admitted_found c) c.self.invariant (admitted_running c) c.admit.ensures.goes_on refl refl refl)
+pub returns-in_ok-admit_observed-in-Some-take_from-clause-lanes : goal.returns-in_ok-admit_observed-in-Some-take_from-clause-lanes
+returns-in_ok-admit_observed-in-Some-take_from-clause-lanes g c =
+    subst (λ (r : ResolverState). Each (λ p l m. LanesGoOn l m) r.lanes (lanes_of (admitted_new g c).all_lanes)) c.self.view_is
+    (lanes_taken (admitted_old g c) (admitted_new g c) c.self.inside.next c.in-Some-take_from.proxy c.in-Some-take_from.batch
+    (admitted_found g c) c.self.invariant (admitted_running g c) c.admit_observed.ensures.admits.goes_on refl refl refl)
 
-pub returns-in_ok-admit-in-Some-take_from-clause-goes_on : goal.returns-in_ok-admit-in-Some-take_from-clause-goes_on
-returns-in_ok-admit-in-Some-take_from-clause-goes_on c =
-    subst (λ (r : ResolverState). GoesOn r.core (resolver_of (admitted_new c)).core) c.self.view_is
-    (goes_on_taken (admitted_old c) (admitted_new c) c.self.inside.next c.in-Some-take_from.proxy c.in-Some-take_from.batch
-    (admitted_found c) c.self.invariant (admitted_running c) c.admit.ensures.goes_on refl refl refl)
+pub returns-in_ok-admit_observed-in-Some-take_from-clause-goes_on : goal.returns-in_ok-admit_observed-in-Some-take_from-clause-goes_on
+returns-in_ok-admit_observed-in-Some-take_from-clause-goes_on g c =
+    subst (λ (r : ResolverState). GoesOn r.core (resolver_of (admitted_new g c)).core) c.self.view_is
+    (goes_on_taken (admitted_old g c) (admitted_new g c) c.self.inside.next c.in-Some-take_from.proxy c.in-Some-take_from.batch
+    (admitted_found g c) c.self.invariant (admitted_running g c) c.admit_observed.ensures.admits.goes_on refl refl refl)
 
-pub returns-in_ok-admit-in-Some-take_from-clause-took : goal.returns-in_ok-admit-in-Some-take_from-clause-took
-returns-in_ok-admit-in-Some-take_from-clause-took c =
+pub returns-in_ok-admit_observed-in-Some-take_from-clause-took : goal.returns-in_ok-admit_observed-in-Some-take_from-clause-took
+returns-in_ok-admit_observed-in-Some-take_from-clause-took g c =
     λ proxy is.
     let same : c.in-Some-take_from.proxy ≡ proxy = ok_some c.in-Some-take_from.proxy proxy is in
-    subst (λ p. TakesFrom p c.args.self.now (resolver_of (admitted_new c))) same (admitted_takes c)
+    subst (λ p. TakesFrom p c.args.self.now (resolver_of (admitted_new g c))) same (admitted_takes g c)
 
-pub returns-in_ok-admit-in-Some-take_from-clause-passed : goal.returns-in_ok-admit-in-Some-take_from-clause-passed
-returns-in_ok-admit-in-Some-take_from-clause-passed c =
+pub returns-in_ok-admit_observed-in-Some-take_from-clause-passed : goal.returns-in_ok-admit_observed-in-Some-take_from-clause-passed
+returns-in_ok-admit_observed-in-Some-take_from-clause-passed g c =
     λ proxy is.
     let same : c.in-Some-take_from.proxy ≡ proxy = ok_some c.in-Some-take_from.proxy proxy is in
     subst (λ p. Each (λ q l m. ComesBefore c.args.self.now.next q p → IsLookedThrough l m) c.args.self.now.lanes
-    (lanes_of (admitted_new c).all_lanes)) same
+    (lanes_of (admitted_new g c).all_lanes)) same
     (subst (λ (r : ResolverState). Each (λ q l m. ComesBefore r.next q c.in-Some-take_from.proxy → IsLookedThrough l m) r.lanes
-    (lanes_of (admitted_new c).all_lanes)) c.self.view_is
-    (passed_taken (admitted_old c) (admitted_new c) c.self.inside.next c.in-Some-take_from.proxy c.in-Some-take_from.batch
-    (admitted_found c) c.self.invariant (admitted_running c) c.admit.ensures.goes_on refl refl refl))
+    (lanes_of (admitted_new g c).all_lanes)) c.self.view_is
+    (passed_taken (admitted_old g c) (admitted_new g c) c.self.inside.next c.in-Some-take_from.proxy c.in-Some-take_from.batch
+    (admitted_found g c) c.self.invariant (admitted_running g c) c.admit_observed.ensures.admits.goes_on refl refl refl))
 
 -- no batch was found, and nothing was finished
-module _ (c : goal.Then-ended-self) where
+module _ (g : Over) (c : goal.Then-ended-self g) where
   abbrev same_old : Parts
   same_old = record {
     core = c.self.inside.core;
@@ -254,7 +260,7 @@ module _ (c : goal.Then-ended-self) where
   same_all = sym same_ended ∙ same_bools c.have_ended-ended.result c.self.inside.finished c.if-ended-self.true
 
 -- no batch was found, and a stop was met as the core was finished
-module _ (c : goal.After-from_residual-in_err-finish-in-None) where
+module _ (g : Over) (c : goal.After-from_residual-in_err-finish-in-None g) where
   abbrev refused_old : Parts
   refused_old = record {
     core = c.self.inside.core;
@@ -307,7 +313,7 @@ module _ (c : goal.After-from_residual-in_err-finish-in-None) where
       (open_before refused_old refused_new refused_found c.self.invariant refused_running refused_goes_on refl refl refused_before refused_after)
 
 -- no batch was found, and the core was finished
-module _ (c : goal.In_ok-finish-in-None) where
+module _ (g : Over) (c : goal.In_ok-finish-in-None g) where
   abbrev finished_old : Parts
   finished_old = record {
     core = c.self.inside.core;
@@ -360,89 +366,134 @@ module _ (c : goal.In_ok-finish-in-None) where
       (open_before finished_old finished_new finished_found c.self.invariant finished_running finished_goes_on refl refl finished_before finished_after)
 
 pub invariant_of-self-then-ended-self : goal.invariant_of-self-then-ended-self
-invariant_of-self-then-ended-self c =
-    parts_looked (same_old c) (same_new c) (same_found c) c.self.invariant (same_running c) (same_goes_on c) refl refl (λ _. sym (same_all c))
-    (through_still (same_old c) (same_new c) (same_found c) c.self.invariant (same_running c) (same_goes_on c) refl refl refl refl (same_all c))
+invariant_of-self-then-ended-self g c =
+    parts_looked (same_old g c) (same_new g c) (same_found g c) c.self.invariant (same_running g c) (same_goes_on g c) refl refl (λ _. sym (same_all g c))
+    (through_still (same_old g c) (same_new g c) (same_found g c) c.self.invariant (same_running g c) (same_goes_on g c) refl refl refl refl (same_all g c))
 
 pub invariant_of-self-in_err-finish-in-None : goal.invariant_of-self-in_err-finish-in-None
-invariant_of-self-in_err-finish-in-None c =
-    refused_parts c
+invariant_of-self-in_err-finish-in-None g c =
+    refused_parts g c
 
 pub invariant_of-self-in-None : goal.invariant_of-self-in-None
-invariant_of-self-in-None c =
-    finished_parts c
+invariant_of-self-in-None g c =
+    finished_parts g c
 
 pub returns-then-ended-self-clause-none : goal.returns-then-ended-self-clause-none
-returns-then-ended-self-clause-none c =
-    λ _. inr (subst (λ r. TakesNoStep r (resolver_of (same_new c))) c.self.view_is
-    (takes_no_step (same_old c) (same_new c) (same_found c) c.self.invariant (same_running c) (same_goes_on c) refl refl refl refl (same_all c)))
+returns-then-ended-self-clause-none g c =
+    λ _. inr (subst (λ r. TakesNoStep r (resolver_of (same_new g c))) c.self.view_is
+    (takes_no_step (same_old g c) (same_new g c) (same_found g c) c.self.invariant (same_running g c) (same_goes_on g c) refl refl refl refl (same_all g c)))
 
 pub returns-in_err-finish-in-None-clause-stop_met : goal.returns-in_err-finish-in-None-clause-stop_met
-returns-in_err-finish-in-None-clause-stop_met c =
-    IfErr-always c.from_residual-in_err-finish-in-None.result (λ _. inr (refused_finishes c))
+returns-in_err-finish-in-None-clause-stop_met g c =
+    IfErr-always c.from_residual-in_err-finish-in-None.result (λ _. inr (refused_finishes g c))
 
 pub returns-in_ok-finish-in-None-clause-none : goal.returns-in_ok-finish-in-None-clause-none
-returns-in_ok-finish-in-None-clause-none c =
-    λ _. inl (finished_finishes c)
+returns-in_ok-finish-in-None-clause-none g c =
+    λ _. inl (finished_finishes g c)
 
 pub returns-then-ended-self-clause-looked_through : goal.returns-then-ended-self-clause-looked_through
-returns-then-ended-self-clause-looked_through c =
-    λ _. subst (λ (r : ResolverState). Each (λ p l m. IsLookedThrough l m) r.lanes (lanes_of (same_new c).all_lanes)) c.self.view_is
-    (all_looked (same_old c) (same_new c) (same_found c) c.self.invariant (same_running c) (same_goes_on c) refl refl)
+returns-then-ended-self-clause-looked_through g c =
+    λ _. subst (λ (r : ResolverState). Each (λ p l m. IsLookedThrough l m) r.lanes (lanes_of (same_new g c).all_lanes)) c.self.view_is
+    (all_looked (same_old g c) (same_new g c) (same_found g c) c.self.invariant (same_running g c) (same_goes_on g c) refl refl)
 
 pub returns-then-ended-self-clause-replies : goal.returns-then-ended-self-clause-replies
-returns-then-ended-self-clause-replies c =
-    subst (λ (r : ResolverState). Each (λ p l m. m.replies ≡ l.replies) r.lanes (lanes_of (same_new c).all_lanes)) c.self.view_is
-    (replies_looked (same_old c) (same_new c) (same_found c) c.self.invariant (same_running c) (same_goes_on c) refl refl)
+returns-then-ended-self-clause-replies g c =
+    subst (λ (r : ResolverState). Each (λ p l m. m.replies ≡ l.replies) r.lanes (lanes_of (same_new g c).all_lanes)) c.self.view_is
+    (replies_looked (same_old g c) (same_new g c) (same_found g c) c.self.invariant (same_running g c) (same_goes_on g c) refl refl)
 
 pub returns-then-ended-self-clause-lanes : goal.returns-then-ended-self-clause-lanes
-returns-then-ended-self-clause-lanes c =
-    subst (λ (r : ResolverState). Each (λ p l m. LanesGoOn l m) r.lanes (lanes_of (same_new c).all_lanes)) c.self.view_is
-    (lanes_looked (same_old c) (same_new c) (same_found c) c.self.invariant (same_running c) (same_goes_on c) refl refl)
+returns-then-ended-self-clause-lanes g c =
+    subst (λ (r : ResolverState). Each (λ p l m. LanesGoOn l m) r.lanes (lanes_of (same_new g c).all_lanes)) c.self.view_is
+    (lanes_looked (same_old g c) (same_new g c) (same_found g c) c.self.invariant (same_running g c) (same_goes_on g c) refl refl)
 
 pub returns-then-ended-self-clause-goes_on : goal.returns-then-ended-self-clause-goes_on
-returns-then-ended-self-clause-goes_on c =
-    subst (λ (r : ResolverState). GoesOn r.core (resolver_of (same_new c)).core) c.self.view_is
-    (goes_on_looked (same_old c) (same_new c) (same_found c) c.self.invariant (same_running c) (same_goes_on c) refl refl)
+returns-then-ended-self-clause-goes_on g c =
+    subst (λ (r : ResolverState). GoesOn r.core (resolver_of (same_new g c)).core) c.self.view_is
+    (goes_on_looked (same_old g c) (same_new g c) (same_found g c) c.self.invariant (same_running g c) (same_goes_on g c) refl refl)
 
 pub returns-in_err-finish-in-None-clause-replies : goal.returns-in_err-finish-in-None-clause-replies
-returns-in_err-finish-in-None-clause-replies c =
-    subst (λ (r : ResolverState). Each (λ p l m. m.replies ≡ l.replies) r.lanes (lanes_of (refused_new c).all_lanes)) c.self.view_is
-    (replies_looked (refused_old c) (refused_new c) (refused_found c) c.self.invariant (refused_running c) (refused_goes_on c) refl refl)
+returns-in_err-finish-in-None-clause-replies g c =
+    subst (λ (r : ResolverState). Each (λ p l m. m.replies ≡ l.replies) r.lanes (lanes_of (refused_new g c).all_lanes)) c.self.view_is
+    (replies_looked (refused_old g c) (refused_new g c) (refused_found g c) c.self.invariant (refused_running g c) (refused_goes_on g c) refl refl)
 
 pub returns-in_err-finish-in-None-clause-lanes : goal.returns-in_err-finish-in-None-clause-lanes
-returns-in_err-finish-in-None-clause-lanes c =
-    subst (λ (r : ResolverState). Each (λ p l m. LanesGoOn l m) r.lanes (lanes_of (refused_new c).all_lanes)) c.self.view_is
-    (lanes_looked (refused_old c) (refused_new c) (refused_found c) c.self.invariant (refused_running c) (refused_goes_on c) refl refl)
+returns-in_err-finish-in-None-clause-lanes g c =
+    subst (λ (r : ResolverState). Each (λ p l m. LanesGoOn l m) r.lanes (lanes_of (refused_new g c).all_lanes)) c.self.view_is
+    (lanes_looked (refused_old g c) (refused_new g c) (refused_found g c) c.self.invariant (refused_running g c) (refused_goes_on g c) refl refl)
 
 pub returns-in_err-finish-in-None-clause-goes_on : goal.returns-in_err-finish-in-None-clause-goes_on
-returns-in_err-finish-in-None-clause-goes_on c =
-    subst (λ (r : ResolverState). GoesOn r.core (resolver_of (refused_new c)).core) c.self.view_is
-    (goes_on_looked (refused_old c) (refused_new c) (refused_found c) c.self.invariant (refused_running c) (refused_goes_on c) refl refl)
+returns-in_err-finish-in-None-clause-goes_on g c =
+    subst (λ (r : ResolverState). GoesOn r.core (resolver_of (refused_new g c)).core) c.self.view_is
+    (goes_on_looked (refused_old g c) (refused_new g c) (refused_found g c) c.self.invariant (refused_running g c) (refused_goes_on g c) refl refl)
 
 pub returns-in_ok-finish-in-None-clause-looked_through : goal.returns-in_ok-finish-in-None-clause-looked_through
-returns-in_ok-finish-in-None-clause-looked_through c =
-    λ _. subst (λ (r : ResolverState). Each (λ p l m. IsLookedThrough l m) r.lanes (lanes_of (finished_new c).all_lanes)) c.self.view_is
-    (all_looked (finished_old c) (finished_new c) (finished_found c) c.self.invariant (finished_running c) (finished_goes_on c) refl refl)
+returns-in_ok-finish-in-None-clause-looked_through g c =
+    λ _. subst (λ (r : ResolverState). Each (λ p l m. IsLookedThrough l m) r.lanes (lanes_of (finished_new g c).all_lanes)) c.self.view_is
+    (all_looked (finished_old g c) (finished_new g c) (finished_found g c) c.self.invariant (finished_running g c) (finished_goes_on g c) refl refl)
 
 pub returns-in_ok-finish-in-None-clause-replies : goal.returns-in_ok-finish-in-None-clause-replies
-returns-in_ok-finish-in-None-clause-replies c =
-    subst (λ (r : ResolverState). Each (λ p l m. m.replies ≡ l.replies) r.lanes (lanes_of (finished_new c).all_lanes)) c.self.view_is
-    (replies_looked (finished_old c) (finished_new c) (finished_found c) c.self.invariant (finished_running c) (finished_goes_on c) refl refl)
+returns-in_ok-finish-in-None-clause-replies g c =
+    subst (λ (r : ResolverState). Each (λ p l m. m.replies ≡ l.replies) r.lanes (lanes_of (finished_new g c).all_lanes)) c.self.view_is
+    (replies_looked (finished_old g c) (finished_new g c) (finished_found g c) c.self.invariant (finished_running g c) (finished_goes_on g c) refl refl)
 
 pub returns-in_ok-finish-in-None-clause-lanes : goal.returns-in_ok-finish-in-None-clause-lanes
-returns-in_ok-finish-in-None-clause-lanes c =
-    subst (λ (r : ResolverState). Each (λ p l m. LanesGoOn l m) r.lanes (lanes_of (finished_new c).all_lanes)) c.self.view_is
-    (lanes_looked (finished_old c) (finished_new c) (finished_found c) c.self.invariant (finished_running c) (finished_goes_on c) refl refl)
+returns-in_ok-finish-in-None-clause-lanes g c =
+    subst (λ (r : ResolverState). Each (λ p l m. LanesGoOn l m) r.lanes (lanes_of (finished_new g c).all_lanes)) c.self.view_is
+    (lanes_looked (finished_old g c) (finished_new g c) (finished_found g c) c.self.invariant (finished_running g c) (finished_goes_on g c) refl refl)
 
 pub returns-in_ok-finish-in-None-clause-goes_on : goal.returns-in_ok-finish-in-None-clause-goes_on
-returns-in_ok-finish-in-None-clause-goes_on c =
-    subst (λ (r : ResolverState). GoesOn r.core (resolver_of (finished_new c)).core) c.self.view_is
-    (goes_on_looked (finished_old c) (finished_new c) (finished_found c) c.self.invariant (finished_running c) (finished_goes_on c) refl refl)
+returns-in_ok-finish-in-None-clause-goes_on g c =
+    subst (λ (r : ResolverState). GoesOn r.core (resolver_of (finished_new g c)).core) c.self.view_is
+    (goes_on_looked (finished_old g c) (finished_new g c) (finished_found g c) c.self.invariant (finished_running g c) (finished_goes_on g c) refl refl)
 
-pub returns-in_ok-admit-in-Some-take_from-clause-still_open :
-    goal.returns-in_ok-admit-in-Some-take_from-clause-still_open
-returns-in_ok-admit-in-Some-take_from-clause-still_open c = λ proxy is.
-    some_after (admitted_old c) (admitted_new c) c.self.inside.next c.in-Some-take_from.proxy
-    c.in-Some-take_from.batch (admitted_found c) c.self.invariant (admitted_running c) c.admit.ensures.goes_on refl
+pub returns-in_ok-admit_observed-in-Some-take_from-clause-still_open :
+    goal.returns-in_ok-admit_observed-in-Some-take_from-clause-still_open
+returns-in_ok-admit_observed-in-Some-take_from-clause-still_open g c = λ proxy is.
+    some_after (admitted_old g c) (admitted_new g c) c.self.inside.next c.in-Some-take_from.proxy
+    c.in-Some-take_from.batch (admitted_found g c) c.self.invariant (admitted_running g c) c.admit_observed.ensures.admits.goes_on refl
     refl refl
+
+pub returns-in-Some-clause-sees : goal.returns-in-Some-clause-sees
+returns-in-Some-clause-sees g c = step_unchanged (g.O.Observer.has_seen c.args.observer.now) c.args.self.now
+
+pub returns-in_err-admit_observed-in-Some-take_from-clause-sees :
+    goal.returns-in_err-admit_observed-in-Some-take_from-clause-sees
+returns-in_err-admit_observed-in-Some-take_from-clause-sees g c =
+    let before = g.O.Observer.has_seen c.args.observer.now in
+    let after = g.O.Observer.has_seen c.admit_observed.new.observer in
+    subst (λ r. ObservesStep before after r (resolver_of (stopped_new g c))) c.self.view_is
+    (sees_taken (stopped_old g c) (stopped_new g c) c.self.inside.next c.in-Some-take_from.proxy c.in-Some-take_from.batch
+    (stopped_found g c) c.self.invariant (stopped_running g c) c.admit_observed.ensures.admits.goes_on refl refl refl
+    before after (c.admit_observed.ensures.seen (stopped_running g c)))
+
+pub returns-in_ok-admit_observed-in-Some-take_from-clause-sees :
+    goal.returns-in_ok-admit_observed-in-Some-take_from-clause-sees
+returns-in_ok-admit_observed-in-Some-take_from-clause-sees g c =
+    let before = g.O.Observer.has_seen c.args.observer.now in
+    let after = g.O.Observer.has_seen c.admit_observed.new.observer in
+    subst (λ r. ObservesStep before after r (resolver_of (admitted_new g c))) c.self.view_is
+    (sees_taken (admitted_old g c) (admitted_new g c) c.self.inside.next c.in-Some-take_from.proxy
+    c.in-Some-take_from.batch (admitted_found g c) c.self.invariant (admitted_running g c)
+    c.admit_observed.ensures.admits.goes_on refl refl refl before after
+    (c.admit_observed.ensures.seen (admitted_running g c)))
+
+pub returns-then-ended-self-clause-sees : goal.returns-then-ended-self-clause-sees
+returns-then-ended-self-clause-sees g c =
+    let seen = g.O.Observer.has_seen c.args.observer.now in
+    subst (λ r. ObservesStep seen seen r (resolver_of (same_new g c))) c.self.view_is
+    (sees_nothing (same_old g c) (same_new g c) (same_found g c) c.self.invariant (same_running g c) (same_goes_on g c)
+    refl refl refl refl (same_all g c) seen)
+
+pub returns-in_err-finish-in-None-clause-sees : goal.returns-in_err-finish-in-None-clause-sees
+returns-in_err-finish-in-None-clause-sees g c =
+    let seen = g.O.Observer.has_seen c.args.observer.now in
+    subst (λ r. ObservesStep seen seen r (resolver_of (refused_new g c))) c.self.view_is
+    (sees_finish (refused_old g c) (refused_new g c) (refused_found g c) c.self.invariant (refused_running g c)
+    (refused_goes_on g c) refl refl (refused_before g c) (refused_after g c) seen)
+
+pub returns-in_ok-finish-in-None-clause-sees : goal.returns-in_ok-finish-in-None-clause-sees
+returns-in_ok-finish-in-None-clause-sees g c =
+    let seen = g.O.Observer.has_seen c.args.observer.now in
+    subst (λ r. ObservesStep seen seen r (resolver_of (finished_new g c))) c.self.view_is
+    (sees_finish (finished_old g c) (finished_new g c) (finished_found g c) c.self.invariant (finished_running g c)
+    (finished_goes_on g c) refl refl (finished_before g c) (finished_after g c) seen)

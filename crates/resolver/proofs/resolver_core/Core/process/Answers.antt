@@ -1,8 +1,11 @@
 use Rattle.std.proofs.Common.{
   rules,
   ◌≡◌,
+  ℕ,
   ◌++◌,
   List,
+  [],
+  ◌∷◌,
   length,
   Some,
   None,
@@ -16,31 +19,33 @@ use Rattle.std.proofs.Common.{
   ◌∙◌,
   arith,
 }
-use Rattle.std.specs.Prelude.{◌<ℤ◌}
+use Rattle.std.specs.Prelude.{ℤ, ◌<ℤ◌, ◌≤ℤ◌}
 use Rattle.std.proofs.lemmas.Int.{to_z-of_z, ints}
 use Rattle.keyspace.specs.declared.answer.Answer.TheVariants as told
+use Rattle.keyspace.specs.declared.reply.Reply.{Reply}
 use Rattle.keyspace.specs.Writes.{Write, writes, writes_of}
 use Rattle.keyspace.specs.Judged.{edge}
 use Rattle.keyspace.specs.Judge.{judge}
-use Rattle.keyspace.specs.Run.{process}
+use Rattle.keyspace.specs.Run.{State, process}
 use Rattle.conflict.specs.ConflictSet.{Remembers, IsOverLimit}
 use Rattle.chain.specs.Replies.{reply_of}
 use Rattle.resolver.specs.Owed.{owed_also}
-use Rattle.resolver.specs.Core.{CoreState, core_of, IsIn, kept_also}
+use Rattle.resolver.specs.Core.{CoreState, Given, core_of, IsIn, kept_also}
 use Rattle.resolver.proofs.Answered.{length-owed_also}
 use Rattle.resolver.proofs.Growing.{made_then}
 use Rattle.resolver.proofs.Kept.{kept_also_past}
 use Rattle.resolver.proofs.Stops.{set_is_full}
 use Rattle.resolver.proofs.Processing.{absent_later, IsCore-later, IsIn-process, over_processed}
+use Rattle.resolver.proofs.resolver_core.Core.process.Given.{Over}
 use Rattle.resolver.proofs.resolver_core.Core.process.Goals as goal
 use Rattle.resolver.proofs.resolver_core.Core.process.Goals.{In-Ok}
 
 pub returns-in-Err-clause-arena_full : goal.returns-in-Err-clause-arena_full
-returns-in-Err-clause-arena_full c = λ is state given are.
+returns-in-Err-clause-arena_full g c = λ is state given are.
     let full = set_is_full c.in-Err.stop (cc (is, c.from-stop.ensures)) in
     let was = subst (IsIn state given) (sym c.self.view_is) are in
     let set = c.self.inside.set in
-    let batch = c.args.batch.now in
+    let batch = c.args.batch in
     let running = c.self.invariant.takes_more (ap (λ k. k.stop) c.self.view_is ∙ c.requires.«open») in
     let over = c.in-Err.ensures.full running (ap Err full) (writes state.processed)
     (judge set.window (writes state.processed) batch) was.remembers
@@ -57,35 +62,35 @@ returns-in-Err-clause-arena_full c = λ is state given are.
           (over_processed set.map.limit set.window state c.args.proxy batch over);
     }
 
-module _ (c : In-Ok) where
+module _ (g : Over) (c : In-Ok g) where
   -- the core before
   abbrev before : CoreState
   before = core_of c.self.inside.set c.self.inside.version c.self.inside.gate c.self.inside.replies
       c.self.inside.owed c.self.inside.stop
 
   -- the reply has the batch's version, which is above that of the core
-  same : c.in-Ok.reply.version ≡ c.args.batch.now.version
+  same : c.in-Ok.reply.version ≡ c.args.batch.version
   same =
       let known = c.self.invariant.remembers in
       (c.in-Ok.ensures.judged known.0 known.1.covers).version
 
-  later : c.self.inside.version <ℤ c.args.batch.now.version
+  later : c.self.inside.version <ℤ c.args.batch.version
   later =
       let is = ap (λ b. b.version) c.self.view_is in
-      omega (arith, ints, is, c.requires.next, c.args.batch.now.rises)
+      omega (arith, ints, is, c.requires.next, c.args.batch.rises)
 
-  absent : reply_of c.self.inside.replies c.args.proxy c.args.batch.now.version ≡ None
-  absent = absent_later before c.args.proxy c.args.batch.now.version c.self.invariant later
+  absent : reply_of c.self.inside.replies c.args.proxy c.args.batch.version ≡ None
+  absent = absent_later before c.args.proxy c.args.batch.version c.self.invariant later
 
-  fits : SFits w64 c.args.batch.now.version
+  fits : SFits w64 c.args.batch.version
   fits = search rules
 
-  received_fits : SFits w64 c.args.batch.now.received
+  received_fits : SFits w64 c.args.batch.received
   received_fits = search rules
 
   -- the set remembers the batch's writes too
   remembers : (ws : List Write) → Remembers c.self.inside.set ws
-      → Remembers c.resolve.new.self (ws ++ writes_of c.args.batch.now c.in-Ok.reply)
+      → Remembers c.resolve.new.self (ws ++ writes_of c.args.batch c.in-Ok.reply)
   remembers ws old = record {
     covers = c.in-Ok.ensures.covers ws old.covers;
     rooted = c.in-Ok.ensures.rooted ws old.rooted;
@@ -94,63 +99,93 @@ module _ (c : In-Ok) where
   remembers_some : (ws : List Write) × Remembers c.resolve.new.self ws
   remembers_some =
       let old = c.self.invariant.remembers in
-      (old.0 ++ writes_of c.args.batch.now c.in-Ok.reply, remembers old.0 old.1)
+      (old.0 ++ writes_of c.args.batch c.in-Ok.reply, remembers old.0 old.1)
+
+  -- no reply is kept of a version above the batch's, once its own is kept
+  past : (now : ℤ) → now ≡ c.args.batch.version → (received : ℤ) (proxy : ℕ) (v : ℤ) (reply : Reply)
+      → kept_also c.args.proxy received c.in-Ok.reply (reply_of c.self.inside.replies) proxy v ≡ Some reply → v ≤ℤ now
+  past now is received proxy v reply kept =
+      let later = later in
+      let same = same in
+      let known = kept_also_past c.args.proxy received c.in-Ok.reply (reply_of c.self.inside.replies) proxy v
+      (λ old was. let past = c.self.invariant.past proxy v old was in omega (arith, ints, past, later, same)) reply kept in
+      omega (arith, ints, known, same, is)
+
+  -- the reply is that of the reference resolver
+  judged : (state : State) (given : Given) → IsIn state given before
+      → c.in-Ok.reply ≡ judge c.args.self.now.set.window (writes state.processed) c.args.batch
+  judged state given was =
+      c.one_reply.ensures.only c.self.inside.set.window (writes state.processed) c.args.batch c.in-Ok.reply
+      (c.in-Ok.ensures.judged (writes state.processed) was.remembers.covers)
+      ∙ ap (λ (k : CoreState). judge k.set.window (writes state.processed) c.args.batch) c.self.view_is
 
 pub keep-requires : goal.keep-requires
-keep-requires c =
-    let d = (goal.at.keep-requires c).In-Ok in
-    record { absent = ap (reply_of c.self.inside.replies c.args.proxy) (same d) ∙ absent d }
+keep-requires g c =
+    let d = (goal.at.keep-requires g c).In-Ok in
+    record { absent = ap (reply_of c.self.inside.replies c.args.proxy) (same g d) ∙ absent g d }
 
 pub invariant_of-self-in_err-keep : goal.invariant_of-self-in_err-keep
-invariant_of-self-in_err-keep c =
-    let d = (goal.at.invariant_of-self-in_err-keep c).In-Ok in
-    let version = to_z-of_z w64 c.args.batch.now.version (fits d) in
-    let later = later d in
-    IsCore-later (before d) _ c.self.invariant c.in-Ok.ensures.goes_on.1 (c.in-Ok.ensures.resolved ∙ sym version)
-    (remembers_some d) refl (ap length c.in_ok-reserve.ensures.same)
+invariant_of-self-in_err-keep g c =
+    let d = (goal.at.invariant_of-self-in_err-keep g c).In-Ok in
+    let version = to_z-of_z w64 c.args.batch.version (fits g d) in
+    let later = later g d in
+    IsCore-later (before g d) _ c.self.invariant c.in-Ok.ensures.goes_on.1 (c.in-Ok.ensures.resolved ∙ sym version)
+    (remembers_some g d) refl (ap length c.in_ok-reserve.ensures.same)
     (λ proxy v reply is.
     let past = c.self.invariant.past proxy v reply (c.in_err-keep.ensures.err proxy v reply is) in
     omega (arith, ints, past, later, version))
 
+pub invariant_of-self-in_err-see : goal.invariant_of-self-in_err-see
+invariant_of-self-in_err-see g c =
+    let d = (goal.at.invariant_of-self-in_err-see g c).In-Ok in
+    let version = to_z-of_z w64 c.args.batch.version (fits g d) in
+    IsCore-later (before g d) _ c.self.invariant c.in-Ok.ensures.goes_on.1 (c.in-Ok.ensures.resolved ∙ sym version)
+    (remembers_some g d) refl (ap length c.in_ok-reserve.ensures.same)
+    (λ proxy v reply is. past g d _ version _ proxy v reply (sym (c.in_ok-keep.ensures.ok proxy v) ∙ is))
+
 pub invariant_of-self-2 : goal.invariant_of-self-2
-invariant_of-self-2 c =
-    let d = (goal.at.invariant_of-self-2 c).In-Ok in
-    let version = to_z-of_z w64 c.args.batch.now.version (fits d) in
-    let later = later d in
-    let same = same d in
-    IsCore-later (before d) _ c.self.invariant c.in-Ok.ensures.goes_on.1 (c.in-Ok.ensures.resolved ∙ sym version)
-    (remembers_some d) refl
+invariant_of-self-2 g c =
+    let d = (goal.at.invariant_of-self-2 g c).In-Ok in
+    let version = to_z-of_z w64 c.args.batch.version (fits g d) in
+    IsCore-later (before g d) _ c.self.invariant c.in-Ok.ensures.goes_on.1 (c.in-Ok.ensures.resolved ∙ sym version)
+    (remembers_some g d) refl
     (ap length c.push.ensures.answers
     ∙ length-owed_also c.args.proxy (told.Reply c.in-Ok.reply) c.reserve.new.self.answers
     ∙ ap length c.in_ok-reserve.ensures.same)
-    (λ proxy v reply is.
-    let past = kept_also_past c.args.proxy _ c.in-Ok.reply (reply_of c.self.inside.replies) proxy v
-    (λ old was. let past = c.self.invariant.past proxy v old was in omega (arith, ints, past, later, same))
-    reply (sym (c.in_ok-keep.ensures.ok proxy v) ∙ is) in
-    omega (arith, ints, past, same, version))
+    (λ proxy v reply is. past g d _ version _ proxy v reply (sym (c.in_ok-keep.ensures.ok proxy v) ∙ is))
 
 pub returns-clause-ok : goal.returns-clause-ok
-returns-clause-ok c = λ state given are.
-    let d = (goal.at.returns-clause-ok c).In-Ok in
+returns-clause-ok g c = λ state given are.
+    let d = (goal.at.returns-clause-ok g c).In-Ok in
     let was = subst (IsIn state given) (sym c.self.view_is) are in
-    let window = ap (λ b. b.set.window) c.self.view_is in
     let proxies = ap (λ b. length b.owed) c.self.view_is in
-    let batch = c.args.batch.now in
+    let batch = c.args.batch in
     let reply = c.in-Ok.reply in
-    IsIn-process state given (before d) _ c.args.proxy batch c.args.self.now.set.window reply was
-    (omega (arith, proxies)) (absent d)
-    (c.one_reply.ensures.only c.self.inside.set.window (writes state.processed) batch reply
-    (c.in-Ok.ensures.judged (writes state.processed) was.remembers.covers)
-    ∙ ap (λ w. judge w (writes state.processed) batch) window)
-    (remembers d (writes state.processed) was.remembers)
+    IsIn-process state given (before g d) _ c.args.proxy batch c.args.self.now.set.window reply was
+    (omega (arith, proxies)) (absent g d)
+    (judged g d state given was)
+    (remembers g d (writes state.processed) was.remembers)
     (record {
-      version = to_z-of_z w64 batch.version (fits d);
+      version = to_z-of_z w64 batch.version (fits g d);
       held = refl;
       kept = λ p v.
           c.in_ok-keep.ensures.ok p v
           ∙ ap (λ received. kept_also c.args.proxy received reply (reply_of c.self.inside.replies) p v)
-          (to_z-of_z w64 batch.received (received_fits d));
+          (to_z-of_z w64 batch.received (received_fits g d));
       owed =
           c.push.ensures.answers
           ∙ ap (owed_also c.args.proxy (told.Reply reply)) c.in_ok-reserve.ensures.same;
     })
+
+pub see-requires : goal.see-requires
+see-requires g c =
+    let known = c.self.invariant.remembers in
+    record { entries = (c.in-Ok.ensures.judged known.0 known.1.covers).count }
+
+pub returns-clause-seen : goal.returns-clause-seen
+returns-clause-seen g c = λ state given are seen.
+    let d = (goal.at.returns-clause-seen g c).In-Ok in
+    let was = subst (IsIn state given) (sym c.self.view_is) are in
+    subst (λ (reply : Reply). g.O.Observer.has_seen c.see.new.self
+    (state.processed ++ record { proxy = c.args.proxy; batch = c.args.batch; reply = reply } ∷ []))
+    (judged g d state given was) (c.in_ok-see.ensures.seen state.processed seen)

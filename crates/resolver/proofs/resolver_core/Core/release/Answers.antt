@@ -1,4 +1,4 @@
-use Rattle.std.proofs.Common.{rules, w64, SFits, Err, sym, ap, subst, ◌∙◌, arith}
+use Rattle.std.proofs.Common.{rules, ◌≡◌, w64, SFits, None, Err, sym, ap, subst, ◌∙◌, arith}
 use Rattle.std.proofs.lemmas.Int.{to_z-of_z, ints}
 use Rattle.keyspace.specs.Leaving.{Held, next_due}
 use Rattle.keyspace.specs.Laws.{Leaves}
@@ -15,13 +15,16 @@ use Rattle.resolver.proofs.Releasing.{
   GoesOn-then,
   Reaches,
   IsIn-reached,
+  seen_reached,
+  seen_refused,
   Reaches-left,
   StopsAsTheyLeave-left,
 }
+use Rattle.resolver.proofs.resolver_core.Core.release.Given.{Over}
 use Rattle.resolver.proofs.resolver_core.Core.release.Goals as goal
-use Rattle.resolver.proofs.resolver_core.Core.release.Goals.{In-Some}
+use Rattle.resolver.proofs.resolver_core.Core.release.Goals.{In-Some, In_default}
 
-module _ (c : In-Some) where
+module _ (g : Over) (c : In-Some g) where
   -- the core before
   abbrev before : CoreState
   before = core_of c.self.inside.set c.self.inside.version c.self.inside.gate c.self.inside.replies
@@ -53,13 +56,15 @@ module _ (c : In-Some) where
 
   goes_on : GoesOn c.args.self.now without
   goes_on =
-      let g = subst (GoesOn c.args.self.now) (sym c.self.view_is) c.loop-proxy.invariant.goes_on in
-      record { window = g.window; limit = g.limit; proxies = g.proxies }
+      let now = subst (GoesOn c.args.self.now) (sym c.self.view_is) c.loop-proxy.invariant.goes_on in
+      record { window = now.window; limit = now.limit; proxies = now.proxies }
 
   module _ (state : State) (given : Given) (are : IsIn state given c.args.self.now) where
-    reached : Reaches c.args.self.now.set.window state given before
+    reached : Reaches c.args.self.now.set.window state given before (g.O.Observer.has_seen c.args.observer.now)
+        (g.O.Observer.has_seen c.loop-proxy.observer)
     reached =
-        subst (Reaches c.args.self.now.set.window state given) (sym c.self.view_is)
+        subst (λ (core : CoreState). Reaches c.args.self.now.set.window state given core
+        (g.O.Observer.has_seen c.args.observer.now) (g.O.Observer.has_seen c.loop-proxy.observer)) (sym c.self.view_is)
         (c.loop-proxy.invariant.reaches state given are)
 
     -- the state that is reached
@@ -74,64 +79,99 @@ module _ (c : In-Some) where
     are_without = IsIn-left now given before c.next_for.new.self reached.are
 
 pub invariant_of-self : goal.invariant_of-self
-invariant_of-self c =
-    let d = (goal.at.invariant_of-self c).In-Some in
-    IsCore-left (before d) (leaver d) c.next_for.new.self c.self.inside.version (leaves d) c.self.invariant
+invariant_of-self g c =
+    let d = (goal.at.invariant_of-self g c).In-Some in
+    IsCore-left (before g d) (leaver g d) c.next_for.new.self c.self.inside.version (leaves g d) c.self.invariant
 
 pub answer-requires-clause-known : goal.answer-requires-clause-known
-answer-requires-clause-known c =
-    let d = (goal.at.answer-requires-clause-known c).In-Some in
-    leaver_known (before d) (leaver d) c.next_for.new.self c.self.inside.version (leaves d) c.self.invariant
+answer-requires-clause-known g c =
+    let d = (goal.at.answer-requires-clause-known g c).In-Some in
+    leaver_known (before g d) (leaver g d) c.next_for.new.self c.self.inside.version (leaves g d) c.self.invariant
 
 pub returns-in_err-answer-clause-err : goal.returns-in_err-answer-clause-err
-returns-in_err-answer-clause-err c =
+returns-in_err-answer-clause-err g c =
     OnErr-always c.from_residual.result (λ state given are.
-    let d = (goal.at.returns-in_err-answer-clause-err c).In-Some in
+    let d = (goal.at.returns-in_err-answer-clause-err g c).In-Some in
     let window = c.args.self.now.set.window in
-    let r = reached d state given are in
-    let s = now d state given are in
-    MadeBetween-grown state s (leave_all window state) given (before d) c.answer.new.self r.are
+    let r = reached g d state given are in
+    let s = now g d state given are in
+    MadeBetween-grown state s (leave_all window state) given (before g d) c.answer.new.self r.are
     c.in_err-answer.ensures.err (grows_leave r.turns window state)
     (subst (Grows s) r.same (grows_leave_all window s)))
 
 pub returns-in_err-answer-clause-arena_full : goal.returns-in_err-answer-clause-arena_full
-returns-in_err-answer-clause-arena_full c = λ is state given are.
-    let d = (goal.at.returns-in_err-answer-clause-arena_full c).In-Some in
+returns-in_err-answer-clause-arena_full g c = λ is state given are.
+    let d = (goal.at.returns-in_err-answer-clause-arena_full g c).In-Some in
     let stop = c.in_err-answer.field-0.0 in
     let full = same_stop c.from_residual.result stop ArenaFull c.from_residual.ensures.1 is in
     let set = c.args.self.now.set in
-    let s = others d state given are in
+    let s = others g d state given are in
     let new = c.answer.new.self in
-    let stops = c.in_err-answer.ensures.arena_full (ap Err full) s given (are_without d state given are) in
-    StopsAsTheyLeave-left set.window state given (before d) (reached d state given are) (leaver d)
-    c.next_for.new.self (leaves_next d) set.map.limit new
-    (subst (λ w. StopsIn set.map.limit w s c.in-Some.proxy c.in-Some.batch given new) (goes_on d).window
+    let stops = c.in_err-answer.ensures.arena_full (ap Err full) s given (are_without g d state given are) in
+    StopsAsTheyLeave-left set.window state given (before g d) (g.O.Observer.has_seen c.args.observer.now)
+    (g.O.Observer.has_seen c.loop-proxy.observer) (reached g d state given are) (leaver g d)
+    c.next_for.new.self (leaves_next g d) set.map.limit new
+    (subst (λ w. StopsIn set.map.limit w s c.in-Some.proxy c.in-Some.batch given new) (goes_on g d).window
     (subst (λ n. StopsIn n c.self.inside.set.window s c.in-Some.proxy c.in-Some.batch given new)
-    (goes_on d).limit stops))
+    (goes_on g d).limit stops))
 
 pub loop-proxy-preserved : goal.loop-proxy-preserved
-loop-proxy-preserved c =
-    let d = (goal.at.loop-proxy-preserved c).In-Some in
+loop-proxy-preserved g c =
+    let d = (goal.at.loop-proxy-preserved g c).In-Some in
     let new = c.answer.new.self in
     record {
       reaches = λ state given are.
-          let s = others d state given are in
-          Reaches-left c.args.self.now.set.window state given (before d) (reached d state given are)
-          (leaver d) c.next_for.new.self (leaves_next d) new
-          (subst (λ w. IsIn (admit w c.in-Some.proxy c.in-Some.batch s) given new) (goes_on d).window
-          (c.in_ok-answer.ensures.ok s given (are_without d state given are)));
-      goes_on = GoesOn-then c.args.self.now (without d) new (goes_on d) c.answer.ensures.goes_on;
+          let s = others g d state given are in
+          let at = are_without g d state given are in
+          Reaches-left c.args.self.now.set.window state given (before g d) (g.O.Observer.has_seen c.args.observer.now)
+          (g.O.Observer.has_seen c.loop-proxy.observer) (reached g d state given are) (leaver g d) c.next_for.new.self
+          (leaves_next g d) new (g.O.Observer.has_seen c.answer.new.observer)
+          (subst (λ w. IsIn (admit w c.in-Some.proxy c.in-Some.batch s) given new) (goes_on g d).window
+          (c.in_ok-answer.ensures.ok s given at))
+          (subst (λ w. g.O.Observer.has_seen c.loop-proxy.observer s.processed
+          → g.O.Observer.has_seen c.answer.new.observer (admit w c.in-Some.proxy c.in-Some.batch s).processed)
+          (goes_on g d).window (c.in_ok-answer.ensures.seen s given at));
+      goes_on = GoesOn-then c.args.self.now (without g d) new (goes_on g d) c.answer.ensures.goes_on;
       still = c.in_ok-answer.ensures.«open»;
     }
 
+pub returns-in_err-answer-clause-seen_between : goal.returns-in_err-answer-clause-seen_between
+returns-in_err-answer-clause-seen_between g c =
+    OnErr-always c.from_residual.result (λ state given are.
+    let d = (goal.at.returns-in_err-answer-clause-seen_between g c).In-Some in
+    seen_refused c.args.self.now.set.window state given (before g d) (g.O.Observer.has_seen c.args.observer.now)
+    (g.O.Observer.has_seen c.loop-proxy.observer) (reached g d state given are)
+    (g.O.Observer.has_seen c.answer.new.observer) (c.in_err-answer.ensures.unseen (now g d state given are).processed))
+
+-- none is due at the end
+module _ (g : Over) (c : In_default g) where
+  abbrev last : CoreState
+  last = core_of c.self.inside.set c.self.inside.version c.self.inside.gate c.self.inside.replies c.self.inside.owed
+      c.self.inside.stop
+
+  none : next_due last.version last.held ≡ None
+  none =
+      let fits : SFits w64 c.self.inside.version = search rules in
+      ap (λ v. next_due v c.self.inside.gate) (sym (to_z-of_z w64 c.self.inside.version fits)) ∙ c.in_default.ensures.next
+
+  reached_last : (state : State) (given : Given) → IsIn state given c.args.self.now
+      → Reaches c.args.self.now.set.window state given last (g.O.Observer.has_seen c.args.observer.now)
+      (g.O.Observer.has_seen c.loop-proxy.observer)
+  reached_last state given are =
+      subst (λ (core : CoreState). Reaches c.args.self.now.set.window state given core
+      (g.O.Observer.has_seen c.args.observer.now) (g.O.Observer.has_seen c.loop-proxy.observer)) (sym c.self.view_is)
+      (c.loop-proxy.invariant.reaches state given are)
+
 pub returns-clause-ok : goal.returns-clause-ok
-returns-clause-ok c = λ state given are.
-    let fits : SFits w64 c.self.inside.version = search rules in
+returns-clause-ok g c = λ state given are.
+    let d = (goal.at.returns-clause-ok g c).In_default in
     let window = c.args.self.now.set.window in
-    let reached = subst (Reaches window state given) (sym c.self.view_is)
-    (c.loop-proxy.invariant.reaches state given are) in
-    let none = ap (λ v. next_due v c.self.inside.gate) (sym (to_z-of_z w64 c.self.inside.version fits))
-    ∙ c.in_default.ensures.next in
-    subst (λ hs. IsIn (leave_all window state) given (core_of c.self.inside.set c.self.inside.version hs
-    c.self.inside.replies c.self.inside.owed c.self.inside.stop)) (sym c.in_default.ensures.unchanged)
-    (IsIn-reached window state given _ reached none)
+    subst (λ hs. IsIn (leave_all window state) given (record (last g d) { held = hs })) (sym c.in_default.ensures.unchanged)
+    (IsIn-reached window state given (last g d) (g.O.Observer.has_seen c.args.observer.now)
+    (g.O.Observer.has_seen c.loop-proxy.observer) (reached_last g d state given are) (none g d))
+
+pub returns-clause-seen : goal.returns-clause-seen
+returns-clause-seen g c = λ state given are.
+    let d = (goal.at.returns-clause-seen g c).In_default in
+    seen_reached c.args.self.now.set.window state given (last g d) (g.O.Observer.has_seen c.args.observer.now)
+    (g.O.Observer.has_seen c.loop-proxy.observer) (reached_last g d state given are) (none g d)

@@ -5,12 +5,13 @@ use Rattle.resolver.proofs.Releasing.{Reaches}
 use Rattle.resolver.proofs.resolver_core.Core.release.Given as goal
 
 abbrev pub invariant-loop-proxy : goal.invariant-loop-proxy
-invariant-loop-proxy l = record {
+invariant-loop-proxy g l = record {
   reaches : (state : State) (given : Given) → IsIn state given l.initial.self
-      → Reaches l.initial.self.set.window state given l.self;
+      → Reaches l.initial.self.set.window state given l.self (g.O.Observer.has_seen l.initial.observer)
+      (g.O.Observer.has_seen l.observer);
   goes_on : GoesOn l.initial.self l.self;
   still : l.self.stop ≡ None;
 }
 
 abbrev pub decreases-loop-proxy : goal.decreases-loop-proxy
-decreases-loop-proxy l = length l.self.held
+decreases-loop-proxy g l = length l.self.held

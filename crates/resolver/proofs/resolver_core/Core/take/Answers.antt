@@ -1,14 +1,18 @@
-use Rattle.std.proofs.Common.{rules, ◌≡◌, length, false, w64, to_z, of_z, SFits, Err, inl, inr, sym, ap, subst, arith}
-use Rattle.std.specs.Prelude.{ℤ, ◌<ℤ◌, ◌≤ℤ◌, int_lt}
+use Rattle.std.proofs.Common.{rules, ◌≡◌, length, w64, SFits, Err, inl, inr, sym, ap, subst, arith}
+use Rattle.std.specs.Prelude.{◌<ℤ◌}
 use Rattle.std.proofs.lemmas.Int.{ints}
 use Rattle.std.proofs.lemmas.Result.{on_ok_weaker, on_err_weaker}
 use Rattle.keyspace.specs.Run.{State, Take, admit, leave_all}
 use Rattle.chain.specs.declared.gate.TheConstants.{MAX_HELD}
 use Rattle.resolver.specs.declared.stop.Stop.TheVariants.{ArenaFull}
 use Rattle.resolver.specs.Core.{Given, IsIn, GoesOn, MadeBetween, StopsAsTheyLeave}
+use Rattle.resolver.specs.Observed.{HasSeenBetween}
+use Rattle.resolver.proofs.Admitting.{admit-ahead, less_from_test, at_most_from_test}
 use Rattle.resolver.proofs.Stops.{OnErr-always, same_stop}
 use Rattle.resolver.proofs.Growing.{grows_admit, MadeBetween-step, MadeBetween-earlier}
+use Rattle.resolver.proofs.Observing.{seen_none, seen_earlier}
 use Rattle.resolver.proofs.Releasing.{GoesOn-then}
+use Rattle.resolver.proofs.resolver_core.Core.take.Given.{Over}
 use Rattle.resolver.proofs.resolver_core.Core.take.Goals as goal
 use Rattle.resolver.proofs.resolver_core.Core.take.Goals.{
   After-release,
@@ -17,24 +21,24 @@ use Rattle.resolver.proofs.resolver_core.Core.take.Goals.{
 }
 
 pub returns-in_err-hold-clause-err : goal.returns-in_err-hold-clause-err
-returns-in_err-hold-clause-err c =
+returns-in_err-hold-clause-err g c =
     OnErr-always c.from_residual.result (λ state given are.
     MadeBetween-step c.args.self.now.set.window (Take c.args.proxy c.args.batch) state given c.args.self.now
     c.hold.new.self are c.in_err-hold.ensures.err)
 
 pub returns-in_err-answer-clause-err : goal.returns-in_err-answer-clause-err
-returns-in_err-answer-clause-err c =
+returns-in_err-answer-clause-err g c =
     OnErr-always c.from_residual-in_err-answer.result (λ state given are.
     MadeBetween-step c.args.self.now.set.window (Take c.args.proxy c.args.batch) state given c.args.self.now
     c.answer.new.self are c.in_err-answer.ensures.err)
 
 pub returns-in_err-answer-clause-arena_full : goal.returns-in_err-answer-clause-arena_full
-returns-in_err-answer-clause-arena_full c = λ is state given are.
+returns-in_err-answer-clause-arena_full g c = λ is state given are.
     let full = same_stop c.from_residual-in_err-answer.result c.in_err-answer.field-0.0 ArenaFull
     c.from_residual-in_err-answer.ensures.1 is in
     inl (c.in_err-answer.ensures.arena_full (ap Err full) state given are)
 
-module _ (c : After-release) where
+module _ (g : Over) (c : After-release g) where
   -- the batch is held or answered by now
   admitted : (state : State) (given : Given) → IsIn state given c.args.self.now
       → IsIn (admit c.args.self.now.set.window c.args.proxy c.args.batch state) given c.if-batch-self.self
@@ -56,61 +60,112 @@ module _ (c : After-release) where
             subst (GoesOn c.args.self.now) (sym w.self-is) w.answer.ensures.goes_on
       ]
 
+  -- and the observer has seen what is processed by then
+  seen_admitted : (state : State) (given : Given) → IsIn state given c.args.self.now
+      → g.O.Observer.has_seen c.args.observer.now state.processed
+      → g.O.Observer.has_seen c.if-batch-self.observer
+      (admit c.args.self.now.set.window c.args.proxy c.args.batch state).processed
+  seen_admitted state given are seen =
+      let next = (admit c.args.self.now.set.window c.args.proxy c.args.batch state).processed in
+      elim c.if-batch-self.branch [
+        | then-batch-self+in_ok-hold w ↦
+            let previous : SFits w64 c.args.batch.previous = search rules in
+            let version : SFits w64 c.self.inside.version = search rules in
+            let is = ap (λ b. b.version) c.self.view_is in
+            let ahead = less_from_test c.self.inside.version c.args.batch.previous version previous
+            w.if-batch-self.true in
+            let held = admit-ahead c.args.self.now.set.window c.args.proxy c.args.batch state
+            (omega (arith, ints, is, are.version, ahead)) in
+            subst (λ o. g.O.Observer.has_seen o next) (sym w.observer-is)
+            (subst (λ (s : State). g.O.Observer.has_seen c.args.observer.now s.processed) (sym held) seen)
+        | else-batch-self+in_ok-answer w ↦
+            subst (λ o. g.O.Observer.has_seen o next) (sym w.observer-is)
+            (w.in_ok-answer.ensures.seen state given are seen)
+      ]
+
+pub returns-in_err-hold-clause-seen_between : goal.returns-in_err-hold-clause-seen_between
+returns-in_err-hold-clause-seen_between g c =
+    OnErr-always c.from_residual.result (λ state given are seen.
+    seen_none (g.O.Observer.has_seen c.args.observer.now) c.args.self.now.set.window (Take c.args.proxy c.args.batch)
+    state seen)
+
+pub returns-in_err-answer-clause-seen_between : goal.returns-in_err-answer-clause-seen_between
+returns-in_err-answer-clause-seen_between g c =
+    OnErr-always c.from_residual-in_err-answer.result (λ state given are seen.
+    seen_none (g.O.Observer.has_seen c.answer.new.observer) c.args.self.now.set.window (Take c.args.proxy c.args.batch)
+    state (c.in_err-answer.ensures.unseen state.processed seen))
+
 pub returns-clause-ok : goal.returns-clause-ok
-returns-clause-ok c =
-    let d = (goal.at.returns-clause-ok c).After-release in
+returns-clause-ok g c =
+    let d = (goal.at.returns-clause-ok g c).After-release in
     on_ok_weaker c.release.result (λ ok state given are.
     let next = admit c.args.self.now.set.window c.args.proxy c.args.batch state in
-    subst (λ w. IsIn (leave_all w next) given c.release.new.self) (goes_on d).window
-    (ok next given (admitted d state given are))) c.release.ensures.ok
+    subst (λ w. IsIn (leave_all w next) given c.release.new.self) (goes_on g d).window
+    (ok next given (admitted g d state given are))) c.release.ensures.ok
 
 pub returns-clause-err : goal.returns-clause-err
-returns-clause-err c =
-    let d = (goal.at.returns-clause-err c).After-release in
+returns-clause-err g c =
+    let d = (goal.at.returns-clause-err g c).After-release in
     on_err_weaker c.release.result (λ err state given are.
     let window = c.args.self.now.set.window in
     let next = admit window c.args.proxy c.args.batch state in
     MadeBetween-earlier state next (leave_all window next) given c.release.new.self
     (grows_admit window c.args.proxy c.args.batch state)
-    (subst (λ w. MadeBetween next (leave_all w next) given c.release.new.self) (goes_on d).window
-    (err next given (admitted d state given are)))) c.release.ensures.err
+    (subst (λ w. MadeBetween next (leave_all w next) given c.release.new.self) (goes_on g d).window
+    (err next given (admitted g d state given are)))) c.release.ensures.err
+
+pub returns-clause-seen : goal.returns-clause-seen
+returns-clause-seen g c =
+    let d = (goal.at.returns-clause-seen g c).After-release in
+    on_ok_weaker c.release.result (λ sees state given are seen.
+    let next = admit c.args.self.now.set.window c.args.proxy c.args.batch state in
+    subst (λ w. g.O.Observer.has_seen c.release.new.observer (leave_all w next).processed) (goes_on g d).window
+    (sees next given (admitted g d state given are) (seen_admitted g d state given are seen))) c.release.ensures.seen
+
+pub returns-clause-seen_between : goal.returns-clause-seen_between
+returns-clause-seen_between g c =
+    let d = (goal.at.returns-clause-seen_between g c).After-release in
+    on_err_weaker c.release.result (λ sees state given are seen.
+    let window = c.args.self.now.set.window in
+    let next = admit window c.args.proxy c.args.batch state in
+    let has_seen = g.O.Observer.has_seen c.release.new.observer in
+    seen_earlier has_seen state next (leave_all window next) (grows_admit window c.args.proxy c.args.batch state)
+    (subst (λ w. HasSeenBetween has_seen next.processed (leave_all w next).processed) (goes_on g d).window
+    (sees next given (admitted g d state given are) (seen_admitted g d state given are seen))))
+    c.release.ensures.seen_between
 
 pub returns-clause-arena_full : goal.returns-clause-arena_full
-returns-clause-arena_full c = λ is state given are.
-    let d = (goal.at.returns-clause-arena_full c).After-release in
+returns-clause-arena_full g c = λ is state given are.
+    let d = (goal.at.returns-clause-arena_full g c).After-release in
     let set = c.args.self.now.set in
     let limit = c.if-batch-self.self.set.map.limit in
     let next = admit set.window c.args.proxy c.args.batch state in
     let new = c.release.new.self in
-    inr (subst (λ n. StopsAsTheyLeave n set.window next given new) (goes_on d).limit
-    (subst (λ w. StopsAsTheyLeave limit w next given new) (goes_on d).window
-    (c.release.ensures.arena_full is next given (admitted d state given are))))
+    inr (subst (λ n. StopsAsTheyLeave n set.window next given new) (goes_on g d).limit
+    (subst (λ w. StopsAsTheyLeave limit w next given new) (goes_on g d).window
+    (c.release.ensures.arena_full is next given (admitted g d state given are))))
 
 pub returns-clause-goes_on : goal.returns-clause-goes_on
-returns-clause-goes_on c =
-    let d = (goal.at.returns-clause-goes_on c).After-release in
-    GoesOn-then c.args.self.now c.if-batch-self.self c.release.new.self (goes_on d) c.release.ensures.goes_on
-
-due_from_test : (version previous : ℤ) → SFits w64 version → SFits w64 previous
-    → int_lt (to_z w64 (of_z w64 version)) (to_z w64 (of_z w64 previous)) ≡ false → previous ≤ℤ version
-due_from_test version previous f g test = grind (arith, ints)
+returns-clause-goes_on g c =
+    let d = (goal.at.returns-clause-goes_on g c).After-release in
+    GoesOn-then c.args.self.now c.if-batch-self.self c.release.new.self (goes_on g d) c.release.ensures.goes_on
 
 -- the batch isn't ahead, or the gate had room for it
-not_full : (c : After-release) → c.args.self.now.version <ℤ c.args.batch.previous
+not_full : (g : Over) (c : After-release g) → c.args.self.now.version <ℤ c.args.batch.previous
     → length c.args.self.now.held ≡ MAX_HELD → ⊥
-not_full c ahead full =
+not_full g c ahead full =
     let previous : SFits w64 c.args.batch.previous = search rules in
     let version : SFits w64 c.self.inside.version = search rules in
     let is = ap (λ b. b.version) c.self.view_is in
     elim c.if-batch-self.branch [
       | then-batch-self+in_ok-hold w ↦ let refused = w.in_ok-hold.ensures.full.1 full in cc
       | else-batch-self+in_ok-answer w ↦
-          let due = due_from_test c.self.inside.version c.args.batch.previous version previous
+          let due = at_most_from_test c.self.inside.version c.args.batch.previous version previous
           w.if-batch-self.false in
           omega (arith, ints, is, ahead, due)
     ]
 
 pub returns-clause-gate_full : goal.returns-clause-gate_full
-returns-clause-gate_full c =
-    let d = (goal.at.returns-clause-gate_full c).After-release in
-    (λ is. absurd (c.release.ensures.not_gate is), λ full. absurd (not_full d full.0 full.1))
+returns-clause-gate_full g c =
+    let d = (goal.at.returns-clause-gate_full g c).After-release in
+    (λ is. absurd (c.release.ensures.not_gate is), λ full. absurd (not_full g d full.0 full.1))

@@ -1,0 +1,219 @@
+//! The arguments of `replay`: those that are read, and how the program ends if they are not.
+
+use keyspace::Verdict;
+use rattle_std::alloc::Global;
+use rattle_std::string::String as KitString;
+use replay_program::{CommandLine, Filter, Form, Options, Refusal, Style, read_words};
+use tests::failing::Failing;
+use tests::printing::ended;
+use wire::StdSink;
+
+/// The arguments between blanks, after the program's name.
+fn words_of(given: &str) -> Vec<KitString> {
+    ["replay"].into_iter().chain(given.split_whitespace()).map(|word| word.to_owned().into()).collect()
+}
+
+/// Reads arguments, and writes the files and the options.
+fn read(given: &str) -> String {
+    let words = words_of(given);
+    let line = read_words(Global, &words).expect("the arguments are right");
+    line.files.iter().map(|file| format!("{file} ")).collect::<String>() + "|" + &options_text(&line)
+}
+
+fn options_text(line: &CommandLine) -> String {
+    let Options { capacity, window, limit, style } = line.options;
+    let form = match style.form {
+        Form::Words => "",
+        Form::Frames => " frames",
+        Form::Json => " json",
+        Form::Kept => " check",
+    };
+    let streamed = if line.is_streamed { " stream" } else { "" };
+    let summary = line.summary.map_or(String::new(), |form| format!(" summary {form:?}"));
+    let names = line.replies.iter().chain(line.records.iter());
+    let names: String = names.map(|name| format!(" {name}")).collect();
+    format!(" {capacity} {window} {limit}{form}{}{streamed}{summary}{names}", filter_text(&style.filter))
+}
+
+fn filter_text(filter: &Filter) -> String {
+    let quiet = filter.quiet.then(|| " quiet".to_owned());
+    let only = filter.only.map(|verdict: Verdict| format!(" only {verdict:?}"));
+    let least = (filter.least != i64::MIN).then(|| format!(" from {}", filter.least));
+    let below = filter.below.map(|below| format!(" below {below}"));
+    [quiet, only, least, below].into_iter().flatten().collect()
+}
+
+fn refusal_of(given: &str) -> Refusal {
+    read_words(Global, &words_of(given)).expect_err("nothing is replayed")
+}
+
+/// How the program ends instead of replaying.
+fn end_of(given: &str) -> String {
+    let (mut out, mut error) = (StdSink::new(Vec::new()), StdSink::new(Vec::new()));
+    let status = refusal_of(given).end(&mut out, &mut error);
+    ended(status, &out.into_inner(), &error.into_inner())
+}
+
+/// The arguments are refused: nothing is on standard output, and an error on standard error.
+fn refuses(given: &str) {
+    let end = end_of(given);
+    assert!(end.starts_with("usage: error: "), "{given}: {end}");
+}
+
+#[test]
+fn refused_words() {
+    for given in [
+        "",
+        "--frames",
+        "--capacity 0 f",
+        "--capacity 1025 f",
+        "--capacity sixteen f",
+        "--capacity -1 f",
+        "--capacity 1 --capacity 2 f",
+        "--window 0 f",
+        "--window 1099511627777 f",
+        "--window 1.5 f",
+        "--limit 0 f",
+        "--limit 16777217 f",
+        "--limit many f",
+        "f --limit",
+        "--frames=yes f",
+        "-x f",
+        "--none f",
+        "--json --frames f",
+        "--json --check r f",
+        "--frames --check r f",
+        "--json --json f",
+        "--check f",
+        "--check r --check s f",
+        "--check r f g",
+        "- -",
+        "f - g -",
+        "--check - -",
+        "-- - -",
+        "--stream --stream f",
+        "--stream --check r f",
+        "--replies r f",
+        "--stream --replies f",
+        "--stream --replies r f g",
+        "--stream --replies r --replies s f",
+        "--quiet --quiet f",
+        "--quiet=yes f",
+        "--only f",
+        "--only conflicts f",
+        "--only conflict --only tooold f",
+        "--versions 5 f",
+        "--versions 5.7 f",
+        "--versions 5...7 f",
+        "--versions 5..7.. f",
+        "--versions a.. f",
+        "--versions ..9223372036854775808 f",
+        "--versions=..- f",
+        "--quiet --check r f",
+        "--only conflict --check r f",
+        "--versions .. --check r f",
+        "--summary --summary f",
+        "--summary=yes f",
+        "--summary --check r f",
+        "--summary --stream f",
+        "--summary --frames f",
+        "--summary --quiet f",
+        "--summary --only tooold f",
+        "--summary --versions .. f",
+    ] {
+        refuses(given);
+    }
+    refuses(&"f ".repeat(65));
+}
+
+/// The program's own refusals say why.
+#[test]
+fn reasons_of_refusals() {
+    for (given, reason) in [
+        ("--json --frames f", "error: at most one of --frames, --json and --check is wanted\n"),
+        ("--check r f g", "error: --check REPLIES is wanted once a file\n"),
+        ("--stream --check r f", "error: --stream is wanted without --check\n"),
+        ("--only never f", "error: --only is committed, conflict or tooold\n"),
+        ("--versions 5 f", "error: --versions is A..B with integers of 64 bits, of which each can be omitted\n"),
+        ("--quiet --check r f", "error: --quiet, --only and --versions are wanted without --check\n"),
+        (
+            "--summary --quiet f",
+            "error: --summary is wanted without --check, --stream, --frames, --quiet, --only and --versions\n",
+        ),
+        ("--replies r f", "error: --replies OUT is wanted with --stream\n"),
+        ("--stream --replies r f g", "error: --replies OUT is wanted once a file\n"),
+        ("- f -", "error: standard input (-) can be given only once\n"),
+        (&"f ".repeat(65), "error: from 1 to 64 files are wanted\n"),
+    ] {
+        let end = end_of(given);
+        assert!(end.contains(reason), "{given}: {end}");
+    }
+}
+
+#[test]
+fn words_and_options() {
+    for (given, expected) in [
+        ("a", "a | 16 5000000 1000000"),
+        ("b a b", "b a b | 16 5000000 1000000"),
+        ("-- --frames", "--frames | 16 5000000 1000000"),
+        ("a - b", "a - b | 16 5000000 1000000"),
+        ("-- -", "- | 16 5000000 1000000"),
+        ("--check - a", "a | 16 5000000 1000000 check -"),
+        ("- ./- --json", "- ./- | 16 5000000 1000000 json"),
+        ("--capacity 1 --window=1 a --frames b --limit 1", "a b | 1 1 1 frames"),
+        ("--json a", "a | 16 5000000 1000000 json"),
+        ("--check r a b --check=s", "a b | 16 5000000 1000000 check r s"),
+        ("a --stream b", "a b | 16 5000000 1000000 stream"),
+        ("--quiet a", "a | 16 5000000 1000000 quiet"),
+        ("--only committed a --stream", "a | 16 5000000 1000000 only Committed stream"),
+        ("--only conflict --versions +5..07 --json a", "a | 16 5000000 1000000 json only Conflict from 5 below 7"),
+        ("--only=tooold --versions=-9223372036854775807.. a", "a | 16 5000000 1000000 only TooOld from -9223372036854775807"),
+        ("--versions ..9223372036854775807 --frames a", "a | 16 5000000 1000000 frames below 9223372036854775807"),
+        ("--versions .. a", "a | 16 5000000 1000000"),
+        ("--summary a", "a | 16 5000000 1000000 summary Words"),
+        ("a --json --summary b", "a b | 16 5000000 1000000 json summary Json"),
+        ("--replies r a --stream --json", "a | 16 5000000 1000000 json stream r"),
+        ("--stream --replies - a --replies=s b", "a b | 16 5000000 1000000 stream - s"),
+        ("--capacity=1024 --window 1099511627776 --limit 16777216 a", "a | 1024 1099511627776 16777216"),
+    ] {
+        assert_eq!(read(given), expected);
+    }
+}
+
+#[test]
+fn sixty_four_files() {
+    let given = "f ".repeat(64);
+    assert_eq!(read(&given), format!("{given}| 16 5000000 1000000"));
+}
+
+#[test]
+fn defaults() {
+    let wanted = Options { capacity: 16, window: 5_000_000, limit: 1_000_000, style: Style::all(Form::Words) };
+    assert_eq!(Options::default(), wanted);
+}
+
+/// `.ci/program-runs` looks for the texts of the proved program's help, which is longer.
+#[test]
+fn version_and_help() {
+    let version = end_of("--version");
+    assert!(version.starts_with("replay 0.2.0 (") && version.ends_with(")\ndone: "), "{version}");
+    let help = end_of("--help");
+    assert!(help.ends_with("done: "), "{help}");
+    assert!(help.contains("Usage: replay [OPTIONS] <FILE>...\n"), "{help}");
+    let example = "Example:\n  replay --capacity 1 --frames examples/two_proxies examples/second_proxy\n";
+    assert!(help.contains(example), "{help}");
+}
+
+/// How the program ends if standard output takes n bytes.
+fn end_with_room(refusal: &Refusal, room: usize) -> String {
+    let mut error = StdSink::new(Vec::new());
+    let status = refusal.end(&mut StdSink::new(Failing::after(room)), &mut error);
+    ended(status, b"", &error.into_inner())
+}
+
+/// A failed write of help is status 1.
+#[test]
+fn help_fails() {
+    assert_eq!(end_with_room(&refusal_of("--help"), 10), "failed: ");
+    assert_eq!(end_with_room(&Refusal::Memory, 0), "failed: replay: start 1 Memory\n");
+}

@@ -1,0 +1,4 @@
+-- In the order in which one reads them aloud.
+pub mod Lines
+pub mod Explainer
+pub mod Laws

@@ -1,0 +1,103 @@
+-- The lines under an answer, which explain why transactions were rejected. This project's own.
+use Rattle.std.specs.Prelude.{ℕ, zero, suc, ◌+◌, ◌-◌, ◌^◌, ◌==◌, ◌&&◌, ℤ, if◌then◌else◌, min, List, [], ◌∷◌, ◌++◌, codes, flat_map, length, Option, None, Some, slice_get}
+use Rattle.std.specs.Fmt.{decimal, signed_decimal}
+use Rattle.std.specs.Ordering.{int_eq}
+use Rattle.keys.specs.declared.range.Range.{Range}
+use Rattle.keyspace.specs.declared.txn.Txn.{Txn}
+use Rattle.keyspace.specs.declared.batch.Batch.{Batch}
+use Rattle.keyspace.specs.declared.reply.Entry.{Entry}
+use Rattle.keyspace.specs.declared.reply.Verdict.{Verdict}
+use Rattle.keyspace.specs.declared.reply.Verdict.TheVariants.{Conflict, TooOld, Committed}
+use Rattle.keyspace.specs.Judged.{edge}
+use Rattle.keyspace.specs.Processed.{Processed}
+use Rattle.explanations.specs.Written.{Written}
+use Rattle.explanations.specs.Explains.{explaining}
+use Rattle.json_lines.specs.KeyForm.{key_form}
+
+-- a key in its printed form, in quotes
+abbrev pub quoted : List ℕ → List ℕ
+quoted key = codes "\"" ++ key_form key ++ codes "\""
+
+-- a range: its begin and its end
+abbrev pub range_form : Range → List ℕ
+range_form range = codes "[" ++ quoted range.begin ++ codes "," ++ quoted range.end ++ codes ")"
+
+-- whether the write is one of the reader's own batch, which has this version
+abbrev pub origin : ℤ → Written → List ℕ
+origin version w = if int_eq w.version version then codes " (same batch)" else codes " (history)"
+
+-- how many further writes there are, if any
+abbrev pub further_text : ℕ → List ℕ
+further_text n = if n == 0 then [] else codes ", and " ++ decimal n ++ codes " more"
+
+-- a write, with its origin
+abbrev pub write_form : ℤ → Written → List ℕ
+write_form version w =
+    range_form w.range ++ codes " of proxy " ++ decimal w.proxy ++ codes ", version " ++ signed_decimal w.version
+    ++ codes ", txn " ++ decimal w.txn ++ origin version w
+
+-- the last of the writes
+abbrev pub newest : List Written → Option Written
+newest [] = None
+newest (w ∷ []) = Some w
+newest (w ∷ x ∷ ws) = newest (x ∷ ws)
+
+-- the line of read range i of the transaction at index j, given the newest write that explains it and the number of the others
+abbrev pub conflict_line : ℤ → ℕ → ℕ → Range → Option Written → ℕ → List ℕ
+conflict_line version j i range None others = []
+conflict_line version j i range (Some w) others =
+    codes "  txn " ++ decimal j ++ codes " read " ++ decimal i ++ codes " " ++ range_form range
+    ++ codes " conflicts with write " ++ write_form version w ++ further_text others ++ codes "\n"
+
+-- the line of a read range, given the writes that explain it, oldest first; there is none if no write does
+abbrev pub read_line : ℤ → ℕ → ℕ → Option Range → List Written → List ℕ
+read_line version j i None ws = []
+read_line version j i (Some range) ws = conflict_line version j i range (newest ws) (min (length ws - 1) (2 ^ 64 - 1))
+
+-- the indices from one number on, so many
+abbrev pub indices_from : ℕ → ℕ → List ℕ
+indices_from first zero = []
+indices_from first (suc n) = first ∷ indices_from (first + 1) n
+
+-- the read ranges of a conflicting transaction that are asked about: those of its report if it has one, otherwise all
+abbrev pub asked_about : List ℕ → ℕ → List ℕ
+asked_about [] reads = indices_from 0 reads
+asked_about (place ∷ places) reads = place ∷ places
+
+-- the lines of a conflicting transaction, which is the one at index j of this batch, the one processed last of these
+abbrev pub conflict_lines : List Processed → Batch → ℕ → Txn → List ℕ → List ℕ
+conflict_lines ps b j t places =
+    flat_map (λ i. read_line b.version j i (slice_get t.reads i) (explaining ps b j i)) (asked_about places (length t.reads))
+
+abbrev pub too_old_line : ℤ → Batch → ℕ → Txn → List ℕ
+too_old_line window b j t =
+    codes "  txn " ++ decimal j ++ codes " too old: snapshot " ++ signed_decimal t.snapshot
+    ++ codes ", oldest readable version " ++ signed_decimal (edge window b) ++ codes "\n"
+
+-- the lines of a transaction, by its verdict
+abbrev pub txn_lines : ℤ → List Processed → Batch → ℕ → Txn → Verdict → List ℕ → List ℕ
+txn_lines window ps b j t Committed places = []
+txn_lines window ps b j t TooOld places = too_old_line window b j t
+txn_lines window ps b j t Conflict places = conflict_lines ps b j t places
+
+-- the lines of transactions with their entries; the first of them has this index
+abbrev pub lines_from : ℤ → List Processed → Batch → ℕ → List Txn → List Entry → List ℕ
+lines_from window ps b j (t ∷ ts) (e ∷ es) =
+    txn_lines window ps b j t e.verdict e.places ++ lines_from window ps b (j + 1) ts es
+lines_from window ps b j [] es = []
+lines_from window ps b j (t ∷ ts) [] = []
+
+-- the lines of the batch that was processed last of these
+abbrev pub explanation : ℤ → List Processed → Processed → List ℕ
+explanation window ps p = lines_from window ps p.batch 0 p.batch.txns p.reply.entries
+
+-- the lines of the batch of this proxy and version, if it was processed after these; each batch is explained by those up to it
+abbrev pub explanation_from : ℤ → List Processed → List Processed → ℕ → ℤ → List ℕ
+explanation_from window before [] proxy version = []
+explanation_from window before (p ∷ ps) proxy version =
+    if (p.proxy == proxy) && int_eq p.batch.version version then explanation window (before ++ p ∷ []) p
+    else explanation_from window (before ++ p ∷ []) ps proxy version
+
+-- the lines of the batch of this proxy and version, if it was processed
+abbrev pub explanation_at : ℤ → List Processed → ℕ → ℤ → List ℕ
+explanation_at window ps proxy version = explanation_from window [] ps proxy version

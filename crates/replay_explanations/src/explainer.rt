@@ -1,0 +1,92 @@
+//! The observer that explains rejections.
+
+ghost use Rattle.std.specs.Prelude.{◌≡◌, ◌≤ℤ◌, [], pos};
+ghost use Rattle.replay_explanations.specs.Explainer.{HasExplained, text_of};
+
+use crate::batch_lines::lines_of;
+use crate::texts::TextStore;
+use explanations::{History, ProcessedBatch};
+use keyspace::{Batch, Reply};
+use observer::Observer;
+use std::alloc::{AllocError, Global};
+use std::marker::Model;
+
+/// Sees the batches that a resolver processes, and keeps the lines that explain the rejections of
+/// each.
+///
+/// If memory is refused, it sees no more: each later call of `see` returns the same error. The
+/// lines of the batches that it saw before stay.
+#[derive(Debug, Drop)]
+pub struct Explainer {
+    alloc: Global,
+    history: History,
+    texts: TextStore,
+    // memory was refused
+    has_failed: bool,
+}
+
+impl Model for Explainer {
+    ghost use Rattle.std.specs.Coded.{codes};
+    ghost use Rattle.replay_explanations.specs.contracts.texts.TextStore as texts_type;
+    ghost use Rattle.replay_explanations.specs.Explainer.{ExplainerState};
+
+    ghost Value = { ExplainerState };
+
+    ghost coded = { Prim.hlevel (codes, texts_type.the_row.coded) };
+
+    ghost view = { λ e. record {
+      history = e.history;
+      texts = e.texts;
+      has_failed = e.has_failed;
+    } };
+}
+
+impl Explainer {
+    /// Creates an explainer that has seen nothing, without taking memory. `window` is how far back a
+    /// transaction may read, in versions.
+    pub fn new(alloc: Global, window: i64) -> Self
+        requires least_window { pos 1 ≤ℤ window }
+        ensures none { HasExplained result [] }
+        ensures window { result.history.window ≡ window }
+    {
+        Explainer {
+            alloc,
+            history: History::new(alloc, window),
+            texts: TextStore::new(alloc),
+            has_failed: false,
+        }
+    }
+
+    /// Returns how far back a transaction may read, in versions, as [`new`](Self::new) was given it.
+    pub fn window(&self) -> i64
+        ensures window { result ≡ self.now.history.window }
+    {
+        self.history.window()
+    }
+
+    /// Returns the lines of the batch that this proxy sent with this version, each with its line
+    /// feed. They are empty if no transaction was rejected, or if no such batch was seen.
+    pub fn explanation(&self, proxy: usize, version: i64) -> &[u8]
+        ensures text { result.now ≡ text_of self.now.texts proxy version }
+    {
+        self.texts.get(proxy, version)
+    }
+}
+
+impl Observer for Explainer {
+    ghost has_seen = { HasExplained };
+
+    fn see(&mut self, proxy: usize, batch: Batch, reply: &Reply) -> Result<(), AllocError> {
+        if self.has_failed {
+            return Err(AllocError);
+        }
+        self.has_failed = true;
+        let version = batch.version;
+        let processed = ProcessedBatch::new(proxy, batch, reply.copy(self.alloc)?);
+        self.history.push(processed)?;
+        let text = lines_of(self.alloc, &self.history, reply.entries.as_slice())?;
+        self.texts.put(proxy, version, text)?;
+        self.has_failed = false;
+        Ok(())
+    }
+}

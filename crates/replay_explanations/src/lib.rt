@@ -1,0 +1,19 @@
+//! The lines under an answer that explain why its transactions were rejected.
+//!
+//! An [`Explainer`] observes the batches that a resolver processes. It keeps the lines of each batch
+//! with a rejection by proxy and version, and [`Explainer::explanation`] returns them. The [`laws`]
+//! say that each transaction rejected as a conflict has a line.
+//!
+//! `specs/` says, in reading order, which lines a batch has (`Lines`) and what an explainer holds of
+//! the batches that it saw (`Explainer`). `forms` appends numbers, keys and ranges to a text,
+//! `lines` the lines, and `batch_lines` the lines of a batch; `texts` keeps them.
+#![tactic(auto)]
+
+mod batch_lines;
+mod explainer;
+mod forms;
+pub mod laws;
+mod lines;
+mod texts;
+
+pub use explainer::Explainer;
