@@ -5,7 +5,8 @@ use Rattle.replay_output.specs.declared.failures.Ending.{Ending}
 use Rattle.replay_output.specs.declared.failures.ProxyFailure.{ProxyFailure}
 use Rattle.replay_output.specs.declared.line.Line.{Line}
 use Rattle.replay_output.specs.Line.{TakesToSort}
-use Rattle.replay_output.specs.Lines.{lines as lines_of}
+use Rattle.replay_output.specs.Lines.{line, lines as lines_of}
+use Rattle.replay_output.proofs.callers.Texts.{are_lines_by}
 use Rattle.replay_output.specs.Failures.{failure_lines, NothingFailed}
 use Rattle.replay_workers.specs.Run.{IsRun, is_complete}
 use Rattle.replay_program.specs.Replayed.{written, Took}
@@ -55,7 +56,8 @@ returns g c =
     let error = written (g.E.Sink.given c.args.error.now) (g.E.Sink.given c.print_report.new.error)
     (g.E.Sink.failures c.args.error.now) (g.E.Sink.failures c.print_report.new.error) in
     let are = are_lines options files received failures complete account.stop run in
-    let lines = report.lines options.style are in
+    let by = are_lines_by options.style received are in
+    let lines = report.lines (line options.style) by in
     record {
       done = λ is.
           let parts = report.done.0 is in
@@ -73,7 +75,7 @@ returns g c =
             length-map c.deref_mut.result.now (vec_items {X = Line} {Z = Global}),
           ))
           report.takes
-          report.nothing (report.beginning options.style are) report.write.0
+          report.nothing (report.beginning (line options.style) by) report.write.0
           (subst (λ (e : Ending). OnOk c.print_report.result.told (Took error (failure_lines told e))) ending report.failure_lines)
           report.told.0 report.loss report.no_loss
           (λ all.
