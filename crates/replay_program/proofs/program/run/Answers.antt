@@ -11,8 +11,8 @@ use Rattle.replay_stream.specs.Sinks.{state_by}
 use Rattle.replay_program.proofs.Programs.{Ends, ends_by, ends_checked, ends_replayed, ends_streamed, ends_summarized, not_kept, not_streamed}
 use Rattle.replay_program.proofs.program.run.Goals as goal
 
-pub returns-in-Err : goal.returns-in-Err
-returns-in-Err g c =
+pub returns : goal.returns
+returns g c =
     let files = c.args.files.now in
     let state = state_by g.F.Writer.Sink.given g.F.Writer.Sink.failures in
     let recorders = c.without_recorders-in-Err.result.recorders.items in
@@ -185,8 +185,8 @@ returns-in-Some g c =
       quiet_too = ends.quiet_too;
     }
 
-pub returns-in-None : goal.returns-in-None
-returns-in-None g c =
+pub returns-in-Ok-3 : goal.returns-in-Ok-3
+returns-in-Ok-3 g c =
     let files = c.args.files.now in
     let state = state_by g.F.Writer.Sink.given g.F.Writer.Sink.failures in
     let recorders = c.without_recorders-in-None.result.recorders.items in
