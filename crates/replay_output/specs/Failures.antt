@@ -54,6 +54,10 @@ ending_line Complete = []
 ending_line Incomplete = codes "replay: incomplete\n"
 ending_line (Stopped stop) = codes "replay: stop " ++ stop_name stop ++ codes "\n"
 
+-- the line that names the shard whose resolver met the stop, after that of the stop
+abbrev pub shard_line : ℕ → List ℕ
+shard_line shard = codes "replay: shard " ++ (decimal shard ++ codes "\n")
+
 -- the lines of all proxies; a proxy's number is its index
 abbrev pub proxy_lines : List ProxyFailure → List ℕ
 proxy_lines failures = flat_map lines_of_failure (enumerate_from 0 failures)

@@ -2,8 +2,6 @@
 use Rattle.std.specs.Prelude.{◌≡◌, ◌<◌, ℕ, ℤ, List, map, Option, None, Some, slice_get}
 use Rattle.std.specs.List.{All, flat_map}
 use Rattle.keyspace.specs.declared.answer.Answer.{Answer}
-use Rattle.keyspace.specs.declared.answer.Answer.TheVariants as answer
-use Rattle.keyspace.specs.declared.reply.Reply.{Reply}
 use Rattle.keyspace.specs.Answer.{version_of_answer}
 use Rattle.checking.specs.Check.{count_at}
 use Rattle.replay_output.specs.declared.options.style.Style.{Style}
@@ -24,10 +22,8 @@ abbrev pub version_of_line : Line → ℤ
 version_of_line l = l.version
 
 -- what is kept of an answer
-abbrev pub kept_of : Form → Answer → Option Reply
-kept_of Kept (answer.Reply reply) = Some reply
-kept_of Kept (answer.Never version) = None
-kept_of Kept (answer.Held version) = None
+abbrev pub kept_of : Form → Answer → Option Answer
+kept_of Kept answer = Some answer
 kept_of Words answer = None
 kept_of Frames answer = None
 kept_of Json answer = None
@@ -37,8 +33,8 @@ pub record IsLineOf (style : Style) (proxy : ℕ) (l : Line) : Type 0 where
   -- empty if the line isn't shown
   pub text : l.text ≡ line style proxy (answer_of l)
   pub sorted_by : l.version ≡ version_of_answer (answer_of l)
-  -- the reply itself, if it is kept
-  pub kept : l.reply ≡ kept_of style.form (answer_of l)
+  -- the answer itself, if it is kept
+  pub kept : l.kept ≡ kept_of style.form (answer_of l)
 
 -- the lines at each number are those of answers to that proxy
 abbrev pub AreLines : Style → List (List Line) → Type 0

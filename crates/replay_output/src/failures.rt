@@ -6,6 +6,7 @@ ghost use Rattle.std.specs.Io.KnownBytes.{Appends, Keeps};
 ghost use Rattle.replay_output.specs.Failures.{fault_name, stop_name, fault_line, loss_line};
 ghost use Rattle.replay_output.specs.Failures.{lines_of_failure, proxy_lines, ending_line};
 ghost use Rattle.replay_output.specs.Failures.{failure_lines, with_loss, IsClean, NothingFailed};
+ghost use Rattle.replay_output.specs.Failures.{shard_line};
 
 use itoa::Buffer;
 use resolver::Stop;
@@ -164,6 +165,20 @@ fn print_ending<W: Sink>(error: &mut W, ending: Ending) -> Result<(), Failed>
         Ending::Incomplete => write_all(error, b"replay: incomplete\n"),
         Ending::Stopped(stop) => print_stop(error, stop),
     }
+}
+
+/// Prints the line that names the shard whose resolver met the stop: the second one, after that of
+/// the stop. Takes no memory.
+pub fn print_shard<W: Sink>(error: &mut W, shard: usize) -> Result<(), Failed>
+    ensures text { OnOk result (Appends (W.given error.old) (W.given error.new)
+        (shard_line shard)) }
+    ensures ok { OnOk result (W.failures error.new ≡ W.failures error.old) }
+    ensures failed { OnErr result (W.failures error.old < W.failures error.new) }
+{
+    let mut buffer = Buffer::new();
+    write_all(error, b"replay: shard ")?;
+    write_all(error, buffer.format(shard).as_bytes())?;
+    write_all(error, b"\n")
 }
 
 fn print_stop<W: Sink>(error: &mut W, stop: Stop) -> Result<(), Failed>

@@ -26,6 +26,7 @@ mod version;
 
 pub use failures::{
     Ending, ProxyFailure, begin_line, fault_text, note_loss, nothing_failed, print_failures,
+    print_shard,
 };
 pub use line::{Line, PackedText};
 pub use options::{Filter, Form, Options, Style};

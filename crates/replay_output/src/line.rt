@@ -22,17 +22,17 @@ mod packed;
 
 pub use packed::PackedText;
 
-/// The line of an answer to a proxy, ready to be printed, or the reply where it is kept.
+/// The line of an answer to a proxy, ready to be printed, or the answer where it is kept.
 #[derive(Drop)]
 pub struct Line {
     /// The answer of the line. It has no bytes.
     pub answer: Snapshot<Answer>,
     /// The version that lines are sorted by.
     pub version: i64,
-    /// The text, its newline included. Empty if the line isn't shown, or replies are kept.
+    /// The text, its newline included. Empty if the line isn't shown, or answers are kept.
     pub text: PackedText,
-    /// The reply, where replies are kept.
-    pub reply: Option<Reply>,
+    /// The answer itself, where answers are kept.
+    pub kept: Option<Answer>,
 }
 
 impl Line {
@@ -50,7 +50,7 @@ impl Line {
             answer: Snapshot::of(&answer),
             version: version_of(&answer),
             text,
-            reply: kept_of(style.form, answer),
+            kept: kept_of(style.form, answer),
         })
     }
 }
@@ -87,12 +87,12 @@ fn formed_text(alloc: Global, form: Form, proxy: usize, answer: &Answer) -> Opti
     Some(text)
 }
 
-// Returns the reply, if it must be kept.
-fn kept_of(form: Form, answer: Answer) -> Option<Reply>
+// Returns the answer, if it must be kept.
+fn kept_of(form: Form, answer: Answer) -> Option<Answer>
     ensures kept { result ≡ kept_of form answer }
 {
-    match (form, answer) {
-        (Form::Kept, Answer::Reply(reply)) => Some(reply),
+    match form {
+        Form::Kept => Some(answer),
         _ => None,
     }
 }

@@ -64,6 +64,21 @@ impl Options {
             style,
         })
     }
+
+    /// Returns the same options with another style.
+    pub fn with_style(self, style: Style) -> Self
+        ensures capacity { result.capacity ≡ self.capacity }
+        ensures window { result.window ≡ self.window }
+        ensures limit { result.limit ≡ self.limit }
+        ensures style { result.style ≡ style }
+    {
+        Options {
+            capacity: self.capacity,
+            window: self.window,
+            limit: self.limit,
+            style,
+        }
+    }
 }
 
 impl Default for Options {

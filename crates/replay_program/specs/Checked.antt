@@ -1,7 +1,8 @@
 -- What is printed of answers that are compared with recorded replies. This project's own.
-use Rattle.std.specs.Prelude.{◌≡◌, ℕ, ◌+◌, ◌≤◌, ◌⊎◌, List, [], ◌∷◌, length, map, option_to_list}
+use Rattle.std.specs.Prelude.{◌≡◌, ℕ, ◌+◌, ◌≤◌, ◌⊎◌, List, [], ◌∷◌, length, map, Option, None, Some}
 use Rattle.std.specs.List.{flat_map}
 use Rattle.keyspace.specs.declared.answer.Answer.{Answer}
+use Rattle.keyspace.specs.declared.answer.Answer.TheVariants as answer
 use Rattle.keyspace.specs.declared.reply.Reply.{Reply}
 use Rattle.checking.specs.Difference.{expected}
 use Rattle.checking.specs.Check.{check_text, count_at, count_differences}
@@ -19,9 +20,16 @@ count_lines (first ∷ rest) = length first + count_lines rest
 abbrev pub KeepReplies : List (List Line) → Type 0
 KeepReplies ls = (style : Style) × (style.form ≡ Kept) × AreLines style ls
 
+-- the reply, if the answer is one
+abbrev pub reply_in : Option Answer → List Reply
+reply_in (Some (answer.Reply reply)) = reply ∷ []
+reply_in (Some (answer.Never version)) = []
+reply_in (Some (answer.Held version)) = []
+reply_in None = []
+
 -- the replies that lines keep
 abbrev pub replies_kept : List Line → List Reply
-replies_kept ls = flat_map (λ (l : Line). option_to_list l.reply) ls
+replies_kept ls = flat_map (λ (l : Line). reply_in l.kept) ls
 
 -- Memory is taken to compare the replies of the proxy of this number: it has an answer, or a reply to it was recorded, or it is the
 -- last one, after which the last line is printed.

@@ -1,6 +1,8 @@
 -- What a worker does. This project's own.
 use Rattle.std.specs.Prelude.{◌≡◌, ◌≢◌, ℕ, ◌≤◌, ◌⊎◌, Bool, true, false, List, [], ◌∷◌, ◌++◌, length, Option, None, Some, IfSome, option_to_list}
+use Rattle.std.specs.List.{AllZip}
 use Rattle.std.specs.Io.KnownBytes.{IsAtEnd}
+use Rattle.serial.specs.Shards.{Shard}
 use Rattle.keyspace.specs.declared.batch.Batch.{Batch}
 use Rattle.keyspace.specs.declared.answer.Answer.{Answer}
 use Rattle.lane.specs.declared.port.TheConstants.{MAX_SENT}
@@ -16,6 +18,7 @@ use Rattle.replay_workers.specs.declared.worker.FileEnd.{FileEnd}
 use Rattle.replay_workers.specs.declared.worker.FileEnd.TheVariants.{Reached, Fault, Leaves}
 use Rattle.replay_workers.specs.declared.worker.Leftover.{Leftover}
 use Rattle.replay_workers.specs.declared.worker.Leftover.TheVariants.{CutShort, Worn}
+use Rattle.replay_workers.specs.Batches.{IsSentOf}
 use Rattle.replay_workers.specs.Inbox.{KeepsLines}
 
 -- the same client later: its ends are of the same lanes
@@ -55,8 +58,22 @@ TakesFrames old new [] = new ≡ old
 TakesFrames old new (batch ∷ rest) =
     (between : Option (List ℕ)) × TakesFrame old between batch × TakesFrames between new rest
 
--- What was sent before, and then the batches of the frames at the front of the bytes, in order, is what is sent now. The
--- batch read last may be unsent. If none is, and no fault was met, no bytes are left.
+-- What was sent before, and then what is sent of the batches of the frames at the front of the bytes, in order, is what is sent now. The
+-- last of it may be unsent. If none is, and no fault was met, no bytes are left. What is kept is that of the batches that were read.
+pub record SendsFramesFor (shard : Option Shard) (Keeps : List Batch → Type 0) (bytes : Option (List ℕ)) (before now : List Batch)
+    (fault : Option WireError) (unsent : Option Batch) : Type 0 where
+  pub read : List Batch
+  pub batches : List Batch
+  pub left : Option (List ℕ)
+  pub sent : now ≡ before ++ batches
+  pub frames : TakesFrames bytes left read
+  pub each : AllZip (IsSentOf shard) read (batches ++ option_to_list unsent)
+  pub kept : Keeps read
+  pub all : fault ≡ None → unsent ≡ None → IsAtEnd left
+  -- a fault other than these two is that of the bytes left
+  pub first_fault : IfSome fault (λ e. e ≢ wire.Memory → e ≢ wire.Read → IfSome left (IsFaultOf e))
+
+-- The same where each batch is sent as it was read, and nothing is kept.
 pub record SendsFrames (bytes : Option (List ℕ)) (before now : List Batch) (fault : Option WireError)
     (unsent : Option Batch) : Type 0 where
   pub batches : List Batch
@@ -87,7 +104,7 @@ LeavesLane was requests (Some batch) =
 
 -- What a worker has done that was given this proxy's client, and a reader with these bytes left: it sent the batches that it
 -- read, its lines are those of the answers that it took, and it has closed its lane and taken answers to their end.
-pub record HasWorked (style : Style) (proxy : ℕ) (bytes : Option (List ℕ)) (given : Client) (finished : Finished) :
+pub record HasWorked {B : Type 0} (style : Style) (proxy : ℕ) (bytes : Option (List ℕ)) (given : Client) (finished : Finished B) :
     Type 0 where
   pub client : ClientGoesOn given finished.client
   pub sends :
@@ -97,9 +114,20 @@ pub record HasWorked (style : Style) (proxy : ℕ) (bytes : Option (List ℕ)) (
   pub leaves : LeavesLane given.requests.closed finished.client.requests finished.unsent
   pub ended : HasEnded finished.client.replies
 
+-- The same of a worker that sends clips to a shard, or keeps something of the batches that it has read.
+pub record HasWorkedFor {B : Type 0} (shard : Option Shard) (Keeps : List Batch → Type 0) (style : Style) (proxy : ℕ)
+    (bytes : Option (List ℕ)) (given : Client) (finished : Finished B) : Type 0 where
+  pub client : ClientGoesOn given finished.client
+  pub sends :
+      SendsFramesFor shard Keeps bytes given.requests.sent finished.client.requests.sent finished.fault finished.unsent
+  pub keeps :
+      KeepsLines style proxy given.replies.taken finished.client.replies.taken finished.lines.items finished.lost
+  pub leaves : LeavesLane given.requests.closed finished.client.requests finished.unsent
+  pub ended : HasEnded finished.client.replies
+
 -- From the client that was given to the one that is returned, no batch that nobody admitted was sent while the share was used
 -- up: right after each other batch, so many batches at most were unanswered.
-pub record IsWithinShare (assignment : Assignment) (given : Client) (finished : Finished) : Type 0 where
+pub record IsWithinShare {B : Type 0} (assignment : Assignment) (given : Client) (finished : Finished B) : Type 0 where
   pub from : finished.most_unanswered.given.value ≡ given
   pub to : finished.most_unanswered.left.value ≡ finished.client
   pub proxy : finished.most_unanswered.proxy ≡ assignment.proxy

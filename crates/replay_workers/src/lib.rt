@@ -2,14 +2,15 @@
 //!
 //! [`run`] does so over any readers, and returns an [`Outcome`]: what the workers returned.
 //! [`work`] is what one worker does: it reads the batches of its file, sends them and takes the
-//! answers. A [`Gatekeeper`] says when workers may send, and a [`ShareKeeper`] whose batch goes
+//! answers. [`run_on`] and [`work_on`] do the same over any [`Batches`], as clips to a shard. A [`Gatekeeper`] says when workers may send, and a [`ShareKeeper`] whose batch goes
 //! first where all have used up their share.
 //!
-//! In reading order: `running`, `threads`, `worker`, `inbox`, `ends`, `gatekeeper`, `watch`, `outcome`,
-//! `rest`. What became of the files is `IsRun`, in `specs/Run.antt`. What one worker has done is
+//! In reading order: `running`, `threads`, `worker`, `batches`, `inbox`, `ends`, `gatekeeper`, `watch`, `outcome`,
+//! `rest`. What became of the files is `IsRun`, in `specs/Run.antt`, or `IsRunFor` of clips. What one worker has done is
 //! `HasWorked`, in `specs/Worker.antt`.
 #![tactic(auto)]
 
+mod batches;
 mod ends;
 mod gatekeeper;
 mod inbox;
@@ -20,10 +21,11 @@ mod threads;
 mod watch;
 mod worker;
 
+pub use batches::{Batches, frames_each};
 pub use ends::MostUnanswered;
 pub use gatekeeper::{AlwaysOpen, Gatekeeper, ShareKeeper, Unshared};
 pub use outcome::Outcome;
 pub use rest::pause;
-pub use running::{let_through, run};
+pub use running::{let_through, run, run_on};
 pub use watch::Watch;
-pub use worker::{Assignment, FileEnd, Finished, Leftover, work};
+pub use worker::{Assignment, FileEnd, Finished, Leftover, work, work_on};

@@ -1,16 +1,19 @@
 //! A run: the workers read, send and take, while this thread turns the resolver.
 
 ghost use Rattle.std.specs.Prelude.{◌≡◌, ℕ, ◌≤◌, true, length, map, vec_items, vec_len, Some};
-ghost use Rattle.std.specs.Prelude.{slice_get, IfOk};
+ghost use Rattle.std.specs.Prelude.{[], Option, slice_get, IfOk};
 ghost use Rattle.std.specs.List.{All};
 ghost use Rattle.flow.specs.Next.{AllWait, IsNext};
 ghost use Rattle.resolver.specs.declared.resolver_core.TheConstants.{MAX_PROXIES};
 ghost use Rattle.resolver.specs.Core.{GoesOn};
 ghost use Rattle.resolver.specs.Lanes.{Lanes, Each, LanesGoOn};
 ghost use Rattle.resolver.specs.Resolver.{IsResolving, IsThrough};
-ghost use Rattle.replay_workers.specs.Run.{HasCapacity, IsRun, is_complete};
+ghost use Rattle.serial.specs.Shards.{Shard};
+ghost use Rattle.replay_workers.specs.Batches.{AreFresh};
+ghost use Rattle.replay_workers.specs.Run.{HasCapacity, IsRun, IsRunFor, KeepsAt, is_complete};
 ghost use Rattle.replay_workers.specs.Stops.{IsAccountedFor};
 
+use crate::batches::{Batches, frames_each};
 use crate::gatekeeper::{Gatekeeper, ShareKeeper};
 use crate::outcome::Outcome;
 use crate::threads::{join_all, start_workers};
@@ -21,7 +24,7 @@ use std::alloc::Global;
 use std::sync::{Arc, Wait};
 use std::thread;
 use std::thread::Threads;
-use wire::Source;
+use wire::{Frames, Source};
 
 /// Runs a worker for each reader, each in its own thread, and turns the resolver until it is done
 /// or has stopped. Returns what the workers return, and the account of the resolver.
@@ -38,7 +41,7 @@ pub fn run<
     readers: Vec<S>,
     options: Options,
     gatekeeper: &Arc<G, Global>,
-) -> Result<(Outcome, Account), StartError>
+) -> Result<(Outcome<Frames<S>>, Account), StartError>
     requires least_readers { 1 ≤ vec_len readers }
     requires most_readers { vec_len readers ≤ MAX_PROXIES }
     ensures run { IfOk result (λ ended. IsRun options (map S.remaining readers.items)
@@ -47,7 +50,35 @@ pub fn run<
     ensures capacity { IfOk result
         (λ ended. All (HasCapacity options.capacity) ended.0.clients.items) }
 {
-    let proxies = readers.len();
+    let batches = frames_each(alloc, readers)?;
+    run_on(rt, alloc, batches, options, gatekeeper)
+}
+
+/// Runs a worker for each of these batches, as [`run`] does for those of readers. All are sent as
+/// they are, or all as clips to the same shard.
+pub fn run_on<
+    B: Batches + Send + Drop + 'static,
+    G: Gatekeeper + ShareKeeper + Send + Sync + Drop + 'static,
+    R: Threads + Wait + Copy + Send + 'static,
+>(
+    rt: &R,
+    alloc: Global,
+    batches: Vec<B>,
+    options: Options,
+    gatekeeper: &Arc<G, Global>,
+) -> Result<(Outcome<B>, Account), StartError>
+    requires least { 1 ≤ vec_len batches }
+    requires most { vec_len batches ≤ MAX_PROXIES }
+    requires fresh { AreFresh (map B.refusal batches.items) }
+    requires none_kept { All (λ own. B.keeps own []) batches.items }
+    ensures run { (shard : Option Shard) → All (λ own. B.shard own ≡ shard) batches.items
+        → IfOk result (λ ended. IsRunFor shard (KeepsAt B.keeps ended.0.batches.items) options
+        (map B.left batches.items) (map vec_items ended.0.lines.items) ended.0.failures.items
+        (is_complete ended.0 ended.1) ended.1.stop) }
+    ensures capacity { IfOk result
+        (λ ended. All (HasCapacity options.capacity) ended.0.clients.items) }
+{
+    let proxies = batches.len();
     let Options {
         capacity,
         window,
@@ -57,7 +88,7 @@ pub fn run<
     let outcome = Outcome::with_room(alloc, proxies)?;
     let mut watch = Watch::new(alloc, proxies)?;
     let (mut resolver, clients) = open(alloc, proxies, capacity, window, limit)?;
-    let workers = start_workers(rt, alloc, style, readers, clients, gatekeeper)?;
+    let workers = start_workers(rt, alloc, style, batches, clients, gatekeeper)?;
     turn_to_end(rt, &mut resolver, &**gatekeeper, &mut watch);
     let mut outcome = join_all(rt, workers, outcome);
     let account = resolver.settle(outcome.clients.as_mut_slice());

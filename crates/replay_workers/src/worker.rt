@@ -1,18 +1,19 @@
-//! A worker reads the file of one proxy, sends its batches and takes its answers, in its own
-//! thread.
+//! A worker reads the file of one proxy, sends its batches, or their clips to a shard, and takes its
+//! answers, in its own thread.
 
 ghost use Rattle.std.specs.Prelude.{◌≡◌, ◌<◌, ◌≤◌, ◌↔◌, Bool, [], ◌∷◌, ◌++◌, true, length};
 ghost use Rattle.std.specs.Prelude.{None, Some, Err, OnOk, OnErr, IfErr};
 ghost use Rattle.lane.specs.declared.port.TheConstants.{MAX_SENT};
 ghost use Rattle.lane.specs.Lane.{HasEnded};
 ghost use Rattle.lane.specs.Refused.{item_of};
-ghost use Rattle.wire.specs.Frames.{frames_reader, refusal_of};
 ghost use Rattle.replay_workers.specs.Ends.{EndsGoOn};
 ghost use Rattle.replay_workers.specs.Inbox.{Keeps, InboxGoesOn};
-ghost use Rattle.replay_workers.specs.Worker.{HasWorked, IsWithinShare, SendsFrames, CannotSend};
+ghost use Rattle.replay_workers.specs.Worker.{HasWorked, HasWorkedFor, IsWithinShare};
+ghost use Rattle.replay_workers.specs.Worker.{CannotSend, SendsFramesFor};
 ghost use Rattle.replay_workers.specs.Worker.{IfLeaves, LeavesLane, batch_of, fault_of};
 ghost use Rattle.replay_workers.specs.Worker.{is_cut_short, unsent_of};
 
+use crate::batches::Batches;
 use crate::ends::MostUnanswered;
 use crate::gatekeeper::{Gatekeeper, ShareKeeper};
 use crate::inbox::Inbox;
@@ -38,9 +39,11 @@ pub struct Assignment {
 
 /// What a worker returns.
 #[derive(Drop)]
-pub struct Finished {
+pub struct Finished<B> {
     /// The client that the worker was given.
     pub client: Client,
+    /// The batches that it was given, of which it has taken those that it read.
+    pub batches: B,
     /// The lines of the answers, in the order taken.
     pub lines: Vec<Line>,
     /// The fault of the file, which ended it.
@@ -104,14 +107,34 @@ pub fn work<S: Source + Drop, G: Gatekeeper + ShareKeeper, R: Wait>(
     client: Client,
     reader: S,
     gatekeeper: &G,
-) -> Finished
+) -> Finished<Frames<S>>
     ensures worked { HasWorked assignment.style assignment.proxy (S.remaining reader) client result }
     ensures within_share { IsWithinShare assignment client result }
 {
+    let frames = read_frames(alloc, reader);
+    work_on(rt, alloc, assignment, client, frames, gatekeeper)
+}
+
+/// Sends these batches as [`work`] does those of a file.
+pub fn work_on<B: Batches + Drop, G: Gatekeeper + ShareKeeper, R: Wait>(
+    rt: &R,
+    alloc: Global,
+    assignment: Assignment,
+    client: Client,
+    batches: B,
+    gatekeeper: &G,
+) -> Finished<B>
+    requires fresh { B.refusal batches ≡ None }
+    requires none_kept { B.keeps batches [] }
+    ensures worked { HasWorkedFor (B.shard batches) (B.keeps result.batches) assignment.style
+        assignment.proxy (B.left batches) client result }
+    ensures within_share { IsWithinShare assignment client result }
+{
+    let mut batches = batches;
     let mut worker = Worker::new(alloc, assignment, client);
-    let end = worker.send_frames(rt, gatekeeper, &mut read_frames(alloc, reader));
+    let end = worker.send_batches(rt, gatekeeper, &mut batches);
     worker.close(rt, gatekeeper, &end);
-    worker.finish(end)
+    worker.finish(end, batches)
 }
 
 impl Worker {
@@ -131,28 +154,29 @@ impl Worker {
         }
     }
 
-    // Sends the batches of the frames, in order.
+    // Sends the batches, in order.
     #[tactic(auto, using(crate::proofs::Keeping::inbox_goes_on))]
-    fn send_frames<S: Source, G: Gatekeeper + ShareKeeper, R: Wait>(
+    fn send_batches<B: Batches, G: Gatekeeper + ShareKeeper, R: Wait>(
         &mut self,
         rt: &R,
         gatekeeper: &G,
-        frames: &mut Frames<S>,
+        batches: &mut B,
     ) -> FileEnd
-        requires fresh { refusal_of frames.old ≡ None }
+        requires fresh { B.refusal batches.old ≡ None }
+        requires none_kept { B.keeps batches.old [] }
         ensures inbox { InboxGoesOn self.old.inbox self.new.inbox }
-        ensures sent { SendsFrames (S.remaining (frames_reader frames.old))
-            self.old.inbox.ends.requests.sent self.new.inbox.ends.requests.sent (fault_of result)
-            (unsent_of result) }
+        ensures sent { SendsFramesFor (B.shard batches.old) (B.keeps batches.new)
+            (B.left batches.old) self.old.inbox.ends.requests.sent
+            self.new.inbox.ends.requests.sent (fault_of result) (unsent_of result) }
         ensures closed_stays { self.new.inbox.ends.requests.closed
             ≡ self.old.inbox.ends.requests.closed }
         ensures read { fault_of result ≡ Some WireError.Read
-            ↔ (S.failures (frames_reader frames.old) < S.failures (frames_reader frames.new)) }
+            ↔ (B.failures batches.old < B.failures batches.new) }
         ensures gives_up { IfLeaves result (λ leftover. CannotSend leftover
             self.new.inbox.ends.requests self.new.inbox.ends.replies) }
     {
         for _ in rt.forever() {
-            match frames.next() {
+            match batches.next() {
                 Ok(Some(batch)) => {
                     if let Err(leftover) = self.send(rt, gatekeeper, batch) {
                         return FileEnd::Leaves(leftover);
@@ -253,9 +277,10 @@ impl Worker {
         self.inbox.take_to_end(rt, gatekeeper);
     }
 
-    fn finish(self, end: FileEnd) -> Finished
+    fn finish<B>(self, end: FileEnd, batches: B) -> Finished<B>
         ensures requests { result.client.requests ≡ self.inbox.ends.requests }
         ensures replies { result.client.replies ≡ self.inbox.ends.replies }
+        ensures batches { result.batches ≡ batches }
         ensures lines { result.lines ≡ self.inbox.lines }
         ensures lost { result.lost ≡ self.inbox.lost }
         ensures fault { result.fault ≡ fault_of end }
@@ -282,6 +307,7 @@ impl Worker {
         let (client, most_unanswered) = ends.into_parts();
         Finished {
             client,
+            batches,
             lines,
             fault,
             lost,

@@ -12,7 +12,7 @@ ghost use Rattle.replay_output.specs.Failures.{failure_lines, with_loss, Nothing
 ghost use Rattle.replay_output.specs.Line.{answers_of};
 
 use checking::{Checked, check_all};
-use keyspace::Reply;
+use keyspace::{Answer, Reply};
 use replay_output::{
     Ending, Line, PrintError, ProxyFailure, Status, note_loss, nothing_failed, print_failures,
 };
@@ -235,8 +235,8 @@ fn kept_of(alloc: Global, lines: Vec<Line>) -> Result<Vec<Reply>, AllocError>
 {
     let mut kept = Vec::new(alloc);
     for line in lines {
-        let Line { reply, .. } = line;
-        if let Some(reply) = reply {
+        let Line { kept: answer, .. } = line;
+        if let Some(Answer::Reply(reply)) = answer {
             kept.push(reply)?;
         }
     }

@@ -1,0 +1,158 @@
+//! The answers of all shards to one proxy, version by version.
+
+ghost use Rattle.std.specs.Prelude.{◌≡◌, ◌≤◌, ◌++◌, ◌∷◌, [], IfOk, IfSome, OnOk, map, vec_len};
+ghost use Rattle.std.specs.List.{All, AllZip};
+ghost use Rattle.replay_output.specs.Line.{answers_of, version_of_line, IsLineOf};
+ghost use Rattle.checking.specs.InOrder.{in_order_by};
+ghost use Rattle.replay_shards.specs.Merging.{AreMerged, KeepsAll, left_in};
+
+use crate::answer::combined_answer;
+use crate::note::Note;
+use checking::sort_by_version;
+use keyspace::Answer;
+use replay_output::{Line, Style};
+use std::alloc::{AllocError, Global};
+use std::vec;
+
+/// The answers of one shard to one proxy, in the order of their versions, and its notes.
+#[derive(Drop)]
+pub struct ShardAnswers {
+    pub lines: Vec<Line>,
+    pub notes: Vec<Note>,
+}
+
+// The answers of a shard that are left.
+#[derive(Drop)]
+struct Cursor {
+    next: Option<Line>,
+    rest: vec::IntoIter<Line>,
+}
+
+impl Cursor {
+    fn new(lines: Vec<Line>) -> Self
+        ensures all { left_in result ≡ lines.items }
+    {
+        let mut rest = lines.into_iter();
+        Cursor {
+            next: rest.next(),
+            rest,
+        }
+    }
+
+    // Passes over answers of earlier versions, and takes the next one if it has this version.
+    fn take(&mut self, version: i64) -> Option<Answer>
+        ensures taken { IsTakenAt version (left_in self.old) (left_in self.new) result }
+    {
+        while let Some(line) = &self.next {
+            if line.version > version {
+                return None;
+            }
+            let is_wanted = line.version == version;
+            let line = std::mem::replace(&mut self.next, self.rest.next());
+            if is_wanted {
+                return line?.kept;
+            }
+        }
+        None
+    }
+}
+
+/// Combines the answers of all shards to one proxy, and appends the line of each in this style. An
+/// answer is combined with the answers of the other shards of the same version: the first of a
+/// version with the first, the second with the second. One that another shard lacks, as after a
+/// stop, is left out.
+///
+/// After an error, which says that memory was refused, the lines of the first versions are
+/// appended.
+pub fn merge_answers(
+    alloc: Global,
+    style: Style,
+    proxy: usize,
+    each: Vec<ShardAnswers>,
+    lines: &mut Vec<Line>,
+) -> Result<(), AllocError>
+    requires some { 1 ≤ vec_len each }
+    requires empty { lines.old.items ≡ [] }
+    requires kept { All KeepsAll each.items }
+    ensures lines { All (IsLineOf style proxy) lines.new.items }
+    ensures merged { OnOk result (AreMerged each.items (answers_of lines.new.items)) }
+    ensures beginning { (n : ℕ) × (all : List AnswerValue) × AreMerged each.items all
+        × (answers_of lines.new.items ≡ take n all) }
+{
+    let (mut cursors, notes) = sorted_each(alloc, each)?;
+    let mut others = cursors.split_off(1)?;
+    for first in cursors {
+        // There is one.
+        merge_into(alloc, style, proxy, first, &mut others, &notes, lines)?;
+    }
+    Ok(())
+}
+
+// Sorts the answers and the notes of each shard by version.
+fn sorted_each(
+    alloc: Global,
+    each: Vec<ShardAnswers>,
+) -> Result<(Vec<Cursor>, Vec<Vec<Note>>), AllocError>
+    ensures cursors { IfOk result (λ sorted. map left_in sorted.0.items
+        ≡ map (λ own. in_order_by version_of_line own.lines.items) each.items) }
+    ensures notes { IfOk result (λ sorted. map vec_items sorted.1.items
+        ≡ map (λ own. in_order_by version_of_note own.notes.items) each.items) }
+{
+    let mut cursors = Vec::with_capacity(alloc, each.len())?;
+    let mut notes = Vec::with_capacity(alloc, each.len())?;
+    for own in each {
+        let ShardAnswers {
+            lines: mut own_lines,
+            notes: mut own_notes,
+        } = own;
+        sort_by_version(alloc, &mut own_lines)?;
+        sort_by_version(alloc, &mut own_notes)?;
+        cursors.push_reserved(Cursor::new(own_lines));
+        notes.push_reserved(own_notes);
+    }
+    Ok((cursors, notes))
+}
+
+fn merge_into(
+    alloc: Global,
+    style: Style,
+    proxy: usize,
+    first: Cursor,
+    others: &mut [Cursor],
+    notes: &[Vec<Note>],
+    lines: &mut Vec<Line>,
+) -> Result<(), AllocError> {
+    let Cursor { next, rest } = first;
+    for line in next.into_iter().chain(rest) {
+        let Some(answer) = line.kept else {
+            continue;
+        };
+        let version = line.version;
+        let Some(answers) = answers_at(alloc, version, answer, others)? else {
+            continue;
+        };
+        let combined = combined_answer(alloc, version, &answers, notes)?;
+        let line = Line::new(alloc, style, proxy, combined).ok_or(AllocError)?;
+        lines.push(line)?;
+    }
+    Ok(())
+}
+
+// Returns the answers of all shards of this version, of which this is the first, or none if another
+// shard lacks one.
+fn answers_at(
+    alloc: Global,
+    version: i64,
+    first: Answer,
+    others: &mut [Cursor],
+) -> Result<Option<Vec<Answer>>, AllocError> {
+    let mut answers = Vec::with_capacity(alloc, others.len() + 1)?;
+    answers.push_reserved(first);
+    for other in others {
+        match other.take(version) {
+            Some(answer) => answers.push_reserved(answer),
+            None => return Ok(None),
+        }
+    }
+    Ok(Some(answers))
+}
