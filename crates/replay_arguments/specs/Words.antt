@@ -14,6 +14,7 @@ use Rattle.lane.specs.declared.ends.TheConstants.{MAX_CAPACITY}
 use Rattle.conflict.specs.declared.conflict_set.TheConstants.{MAX_WINDOW}
 use Rattle.stepmap.specs.declared.step_map.TheConstants.{MAX_LIMIT}
 use Rattle.resolver.specs.declared.resolver_core.TheConstants.{MAX_PROXIES}
+use Rattle.replay_arguments.specs.declared.arguments.TheConstants.{MAX_RESOLVERS}
 use Rattle.keyspace.specs.declared.reply.Verdict.{Verdict}
 use Rattle.replay_output.specs.Filter.{least_version}
 use Rattle.replay_output.specs.Lines.{verdict_word}
@@ -41,6 +42,13 @@ window_rule = number_rule (codes "window") (codes "5000000") (Signed (pos 1) MAX
 
 abbrev pub limit_rule : Rule
 limit_rule = number_rule (codes "limit") (codes "1000000") (Unsigned 1 MAX_LIMIT)
+
+abbrev pub resolvers_rule : Rule
+resolvers_rule = number_rule (codes "resolvers") (codes "1") (Unsigned 1 MAX_RESOLVERS)
+
+-- an option `--split-points POINTS`
+abbrev pub split_points_rule : Rule
+split_points_rule = record (new_rule (codes "split-points")) { long = Some (codes "split-points"); value_names = 1 }
 
 abbrev pub frames_rule : Rule
 frames_rule = record (new_rule (codes "frames")) { long = Some (codes "frames"); action = Some SetTrue }
@@ -85,13 +93,13 @@ file_rule = record (new_rule (codes "FILE")) { action = Some Append; required = 
 abbrev pub plain_app : App
 plain_app = new_app (codes "replay")
 
--- `replay [--capacity N] [--window N] [--limit N] [--frames] [--json] [--quiet] [--only VERDICT] [--versions A..B] [--check REPLIES]..
--- [--stream] [--replies OUT].. FILE..`, with `--help` and `--version`
+-- `replay [--capacity N] [--window N] [--limit N] [--resolvers N] [--split-points POINTS] [--frames] [--json] [--quiet] [--only VERDICT]
+-- [--versions A..B] [--check REPLIES].. [--stream] [--replies OUT].. FILE..`, with `--help` and `--version`
 unfoldable pub replay_app : App
 replay_app =
     with_rule (with_rule (with_rule (with_rule (with_rule (with_rule (with_rule (with_rule (with_rule (with_rule (with_rule (with_rule
-    (record plain_app { top = record plain_app.top { has_version = true } })
-    capacity_rule) window_rule) limit_rule) frames_rule) json_rule) quiet_rule) only_rule) versions_rule)
+    (with_rule (with_rule (record plain_app { top = record plain_app.top { has_version = true } })
+    capacity_rule) window_rule) limit_rule) resolvers_rule) split_points_rule) frames_rule) json_rule) quiet_rule) only_rule) versions_rule)
     check_rule) stream_rule) replies_rule) file_rule
 
 abbrev pub is_frames : Form → Bool
@@ -257,10 +265,17 @@ abbrev pub inputs_of : Option (List (List ℕ)) → ℕ
 inputs_of None = 0
 inputs_of (Some names) = count_inputs names
 
--- Of all names that are found, of files and of files of replies, at most one is that of standard input. It can be read only
--- once.
+-- the name is that of standard input
+abbrev pub inputs_in : Option (List ℕ) → ℕ
+inputs_in None = 0
+inputs_in (Some name) = count_inputs (name ∷ [])
+
+-- Of all names that are found, of files, of files of replies and of that of split points, at most one is that of standard input. It can be
+-- read only once.
 abbrev pub HasInputOnce : List Row → Type 0
-HasInputOnce rows = inputs_of (all_of (codes "FILE") rows) + inputs_of (all_of (codes "check") rows) ≤ 1
+HasInputOnce rows =
+    inputs_of (all_of (codes "FILE") rows) + (inputs_of (all_of (codes "check") rows)
+    + inputs_in (first_of (codes "split-points") rows)) ≤ 1
 
 -- whether answers are printed as they come
 abbrev pub HoldsStream : List Row → Bool → Type 0
@@ -288,13 +303,29 @@ abbrev pub HasRecordsEach : List Row → Type 0
 HasRecordsEach rows = is_some (all_of (codes "replies") rows) ≡ true
     → IfSome (all_of (codes "FILE") rows) (λ names. HasRecords (length names) rows)
 
+-- The number of resolvers, and the name of the file of split points, if there is one. Several resolvers print no answers as they come,
+-- and read no standard input as a file; one has no split points.
+pub record HoldsSharding (rows : List Row) (is_streamed : Bool) (resolvers : ℕ) (points : Option (List ℕ)) : Type 0 where
+  pub number : option_map (λ text. digits_value 10 (without_leading_plus text)) (one_of (codes "resolvers") rows) ≡ Some resolvers
+  pub least : 1 ≤ resolvers
+  pub most : resolvers ≤ MAX_RESOLVERS
+  pub name : first_of (codes "split-points") rows ≡ points
+  pub one : resolvers ≡ 1 → points ≡ None
+  pub several : 2 ≤ resolvers → (is_streamed ≡ false) × (inputs_of (all_of (codes "FILE") rows) ≡ 0)
+
+-- some are found
+abbrev pub HasSharding : List Row → Type 0
+HasSharding rows =
+    (is_streamed : Bool) (resolvers : ℕ) (points : Option (List ℕ))
+    × HoldsStream rows is_streamed × HoldsSharding rows is_streamed resolvers points
+
 -- the arguments that are found are of no use: two forms, a filter that is none or beside a comparison, a number out of its range, no files
 -- or too many, other than one file of replies a file, standard input twice, answers that are to be compared as they come, or other than
--- one file for records a file
+-- one file for records a file, or what several resolvers, or one, can't have
 abbrev pub IsOfNoUse : List Row → Type 0
 IsOfNoUse rows = (¬ HasForm rows)
     ⊎ ((¬ HasNumbers rows) ⊎ ((¬ HasFiles rows) ⊎ ((¬ HasRepliesEach rows) ⊎ ((¬ HasInputOnce rows)
-    ⊎ ((¬ HasStream rows) ⊎ ((¬ HasRecordsEach rows) ⊎ (¬ HasFilter rows)))))))
+    ⊎ ((¬ HasStream rows) ⊎ ((¬ HasRecordsEach rows) ⊎ ((¬ HasFilter rows) ⊎ (¬ HasSharding rows))))))))
 
 -- The words are mistaken: `clap` finds a mistake, or else the arguments that it finds are of no use.
 abbrev pub IsMistaken : List (List ℕ) → Type 0

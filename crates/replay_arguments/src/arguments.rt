@@ -1,12 +1,13 @@
 //! The words of the command line.
 
 ghost use Rattle.std.specs.Prelude.{◌≡◌, ◌≢◌, ◌≤◌, ◌⊎◌, IfErr, IfOk, IfSome, OnOk, Some, codes};
-ghost use Rattle.std.specs.Prelude.{is_some, length, map, string_bytes, true, vec_len};
+ghost use Rattle.std.specs.Prelude.{is_some, length, map, option_map, string_bytes, true, vec_len};
 ghost use Rattle.clap.specs.Words.{all_of, found_of, rows_of};
 ghost use Rattle.replay_arguments.specs.Words.{AsksForAll, AsksForText, HasFiles, HasForm};
 ghost use Rattle.replay_arguments.specs.Words.{HasInputOnce, HasNumbers, HasReplies, HoldsForm};
 ghost use Rattle.replay_arguments.specs.Words.{HoldsNumbers};
-ghost use Rattle.replay_arguments.specs.Words.{HoldsOptions, IsFormOf, IsMistaken, IsRefusalBy};
+ghost use Rattle.replay_arguments.specs.Words.{HoldsOptions, HoldsSharding};
+ghost use Rattle.replay_arguments.specs.Words.{IsFormOf, IsMistaken, IsRefusalBy};
 ghost use Rattle.replay_arguments.specs.Words.{IsRefusalOf, IsTaken, faults_of, rows_of_words};
 ghost use Rattle.replay_arguments.specs.Words.{HasRecords, HasStream, HoldsStream, named};
 ghost use Rattle.clap.specs.declared.error.kind.ErrorKind.{ErrorKind};
@@ -14,6 +15,7 @@ ghost use Rattle.replay_output.specs.declared.options.form.Form.{Form as FormVal
 
 use crate::arguments::filtering::filter_of;
 use crate::arguments::input::has_input_once;
+use crate::arguments::sharding::sharding_of;
 use clap::ArgMatches;
 use clap::error::ErrorKind;
 use replay_output::{Form, Options, Style};
@@ -24,8 +26,12 @@ mod command;
 mod filtering;
 mod input;
 mod refusal;
+mod sharding;
 
 pub use refusal::Refusal;
+
+/// The greatest number of resolvers: this project's own limit.
+pub const MAX_RESOLVERS: usize = 16;
 
 /// What the command line asks for. `Options` keeps its numbers within their ranges.
 #[derive(Debug, Drop)]
@@ -41,6 +47,11 @@ pub struct CommandLine<'a> {
     /// The names of the files for records of answers, one per file if they are requested, and
     /// otherwise none.
     pub records: Vec<&'a str>,
+    /// The number of resolvers, from 1 to [`MAX_RESOLVERS`]. With several of them, answers aren't
+    /// printed as they come, and no file is standard input.
+    pub resolvers: usize,
+    /// The name of the file of split points, if there is one. Only several resolvers have it.
+    pub split_points: Option<&'a str>,
     pub options: Options,
 }
 
@@ -69,6 +80,9 @@ pub fn read_words<'a>(alloc: Global, words: &'a [String]) -> Result<CommandLine<
         ≡ named (all_of (codes "replies") (rows_of_words (map string_bytes words.entry.now)))) }
     ensures records_each { IfOk result (λ line. (vec_len line.records ≡ 0)
         ⊎ ((line.is_streamed ≡ true) × (vec_len line.records ≡ vec_len line.files))) }
+    ensures sharding { IfOk result (λ line. HoldsSharding
+        (rows_of_words (map string_bytes words.entry.now)) line.is_streamed line.resolvers
+        (option_map (λ name. name.now) line.split_points)) }
     ensures taken { OnOk result (IsTaken (map string_bytes words.entry.now)) }
     ensures shown { (text : _) → result ≡ Err (Refusal.Shown text)
         → AsksForText (map string_bytes words.entry.now) }
@@ -103,11 +117,17 @@ pub fn read_words<'a>(alloc: Global, words: &'a [String]) -> Result<CommandLine<
         return Err(refuse(alloc, ErrorKind::ArgumentConflict, message)?);
     };
     let records = records_of(alloc, &matches, is_streamed, count)?;
+    let sharding = match sharding_of(&matches, is_streamed) {
+        Ok(sharding) => sharding,
+        Err(message) => return Err(refuse(alloc, ErrorKind::ArgumentConflict, message)?),
+    };
     Ok(CommandLine {
         files: Vec::from_slice(alloc, files)?,
         replies,
         is_streamed,
         records,
+        resolvers: sharding.resolvers,
+        split_points: sharding.split_points,
         options,
     })
 }

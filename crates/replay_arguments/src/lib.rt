@@ -9,8 +9,8 @@
 mod arguments;
 mod opening;
 
-pub use arguments::{CommandLine, Refusal, read_words};
+pub use arguments::{CommandLine, MAX_RESOLVERS, Refusal, read_words};
 pub use opening::{
     FileError, Files, OpeningError, STANDARD_INPUT, create_files, fail_to_create, fail_to_open,
-    open_files,
+    first_irregular, open_files,
 };

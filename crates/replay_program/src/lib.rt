@@ -14,6 +14,7 @@ mod check;
 mod program;
 mod replay;
 mod report;
+mod sharded;
 mod stream;
 
 pub use check::{
@@ -22,8 +23,8 @@ pub use check::{
 pub use program::{check_files, replay_files, run, run_in, stream_files};
 pub use replay::replay_over;
 pub use replay_arguments::{
-    CommandLine, FileError, Files, OpeningError, Refusal, STANDARD_INPUT, create_files,
-    fail_to_create, fail_to_open, open_files, read_words,
+    CommandLine, FileError, Files, MAX_RESOLVERS, OpeningError, Refusal, STANDARD_INPUT,
+    create_files, fail_to_create, fail_to_open, open_files, read_words,
 };
 pub use replay_output::{
     AnswerError, Ending, Filter, Form, Line, Options, PackedText, PrintError, ProxyFailure, Report,
@@ -34,4 +35,5 @@ pub use replay_workers::{
     AlwaysOpen, Assignment, Finished, Gatekeeper, MostUnanswered, ShareKeeper, Unshared, work,
 };
 pub use report::RunReport;
+pub use sharded::{shard_check_over, shard_files, shard_over};
 pub use stream::stream_over;

@@ -15,6 +15,7 @@ ghost use Rattle.replay_arguments.specs.Words.{IsMistaken};
 use crate::check::{check_over, fail_to_read_replies, read_replies};
 use crate::replay::replay_over;
 use crate::report::RunReport;
+use crate::sharded::shard_files;
 use crate::stream::stream_over;
 use flow::WaitingRoom;
 use replay_arguments::{
@@ -67,6 +68,10 @@ pub fn run<R: Threads + Wait + Copy + Send + 'static, F: Files, O: Sink, E: Sink
         (written (O.given out.old) (O.given out.new) (O.failures out.old) (O.failures out.new)) }
 {
     match read_words(alloc, words) {
+        Ok(line) if line.resolvers > 1 => RunReport::without_recorders(
+            alloc,
+            shard_files(rt, alloc, files, &line, out, error),
+        ),
         Ok(line) if line.options.style.form.is_kept() => RunReport::without_recorders(
             alloc,
             check_files(rt, alloc, files, &line, out, error),

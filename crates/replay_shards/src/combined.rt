@@ -10,6 +10,7 @@ use replay_output::{Line, ProxyFailure, Style};
 use resolver::Stop;
 use std::alloc::{AllocError, Global};
 use std::mem;
+use wire::Source;
 
 /// The stop of the first shard that met one.
 #[derive(Clone, Copy, Debug, PartialEq, Eq)]
@@ -50,7 +51,7 @@ impl Combined {
 
 /// Combines what the shards have answered. If memory is refused for the lines of a proxy, that proxy
 /// has a loss, and the lines of its first versions remain.
-pub fn combine_runs<S>(
+pub fn combine_runs<S: Source>(
     alloc: Global,
     style: Style,
     runs: Vec<ShardRun<S>>,
@@ -115,7 +116,7 @@ fn first_stop<S>(runs: &[ShardRun<S>]) -> Option<ShardStop>
 }
 
 // Takes what each shard has answered to the proxy, and puts the lines of the combined answers.
-fn put_lines<S>(
+fn put_lines<S: Source>(
     alloc: Global,
     style: Style,
     proxy: usize,

@@ -12,7 +12,7 @@ use checking::sort_by_version;
 use keyspace::Answer;
 use replay_output::{Line, Style};
 use std::alloc::{AllocError, Global};
-use std::vec;
+use std::mem;
 
 /// The answers of one shard to one proxy, in the order of their versions, and its notes.
 #[derive(Drop)]
@@ -21,39 +21,27 @@ pub struct ShardAnswers {
     pub notes: Vec<Note>,
 }
 
-// The answers of a shard that are left.
+// The answers of a shard, in the order of their versions, and the index of the next one.
 #[derive(Drop)]
 struct Cursor {
-    next: Option<Line>,
-    rest: vec::IntoIter<Line>,
+    lines: Vec<Line>,
+    next: usize,
 }
 
 impl Cursor {
-    fn new(lines: Vec<Line>) -> Self
-        ensures all { left_in result ≡ lines.items }
-    {
-        let mut rest = lines.into_iter();
-        Cursor {
-            next: rest.next(),
-            rest,
-        }
-    }
-
-    // Passes over answers of earlier versions, and takes the next one if it has this version.
+    // Passes over the answers of earlier versions, and takes the next one if it has this version.
     fn take(&mut self, version: i64) -> Option<Answer>
         ensures taken { IsTakenAt version (left_in self.old) (left_in self.new) result }
     {
-        while let Some(line) = &self.next {
-            if line.version > version {
-                return None;
-            }
-            let is_wanted = line.version == version;
-            let line = std::mem::replace(&mut self.next, self.rest.next());
-            if is_wanted {
-                return line?.kept;
-            }
+        while self.next < self.lines.len() && self.lines[self.next].version < version {
+            self.next += 1;
         }
-        None
+        let line = self.lines.get_mut(self.next)?;
+        if line.version != version {
+            return None;
+        }
+        self.next += 1;
+        mem::replace(&mut line.kept, None)
     }
 }
 
@@ -80,10 +68,22 @@ pub fn merge_answers(
         × (answers_of lines.new.items ≡ take n all) }
 {
     let (mut cursors, notes) = sorted_each(alloc, each)?;
-    let mut others = cursors.split_off(1)?;
-    for first in cursors {
-        // There is one.
-        merge_into(alloc, style, proxy, first, &mut others, &notes, lines)?;
+    let Some((first, others)) = cursors.split_first_mut() else {
+        return Ok(());
+    };
+    for index in 0..first.lines.len() {
+        let version = first.lines[index].version;
+        let Some(answer) = mem::replace(&mut first.lines[index].kept, None) else {
+            continue;
+        };
+        let Some(answers) = answers_at(alloc, version, answer, others)? else {
+            continue;
+        };
+        let combined = combined_answer(alloc, version, &answers, &notes)?;
+        let Some(line) = Line::new(alloc, style, proxy, combined) else {
+            return Err(AllocError);
+        };
+        lines.push(line)?;
     }
     Ok(())
 }
@@ -107,35 +107,13 @@ fn sorted_each(
         } = own;
         sort_by_version(alloc, &mut own_lines)?;
         sort_by_version(alloc, &mut own_notes)?;
-        cursors.push_reserved(Cursor::new(own_lines));
+        cursors.push_reserved(Cursor {
+            lines: own_lines,
+            next: 0,
+        });
         notes.push_reserved(own_notes);
     }
     Ok((cursors, notes))
-}
-
-fn merge_into(
-    alloc: Global,
-    style: Style,
-    proxy: usize,
-    first: Cursor,
-    others: &mut [Cursor],
-    notes: &[Vec<Note>],
-    lines: &mut Vec<Line>,
-) -> Result<(), AllocError> {
-    let Cursor { next, rest } = first;
-    for line in next.into_iter().chain(rest) {
-        let Some(answer) = line.kept else {
-            continue;
-        };
-        let version = line.version;
-        let Some(answers) = answers_at(alloc, version, answer, others)? else {
-            continue;
-        };
-        let combined = combined_answer(alloc, version, &answers, notes)?;
-        let line = Line::new(alloc, style, proxy, combined).ok_or(AllocError)?;
-        lines.push(line)?;
-    }
-    Ok(())
 }
 
 // Returns the answers of all shards of this version, of which this is the first, or none if another
@@ -148,7 +126,7 @@ fn answers_at(
 ) -> Result<Option<Vec<Answer>>, AllocError> {
     let mut answers = Vec::with_capacity(alloc, others.len() + 1)?;
     answers.push_reserved(first);
-    for other in others {
+    for other in others.iter_mut() {
         match other.take(version) {
             Some(answer) => answers.push_reserved(answer),
             None => return Ok(None),

@@ -4,11 +4,13 @@ ghost use Rattle.std.specs.Prelude.{◌≡◌, IfOk, false};
 ghost use Rattle.clap.specs.Words.{app_of, rule_of};
 ghost use Rattle.replay_arguments.specs.Words.{capacity_rule, check_rule, file_rule, frames_rule};
 ghost use Rattle.replay_arguments.specs.Words.{json_rule, limit_rule, number_rule, only_rule};
-ghost use Rattle.replay_arguments.specs.Words.{quiet_rule, replay_app, replies_rule, stream_rule};
+ghost use Rattle.replay_arguments.specs.Words.{quiet_rule, replay_app, replies_rule};
+ghost use Rattle.replay_arguments.specs.Words.{resolvers_rule, split_points_rule, stream_rule};
 ghost use Rattle.replay_arguments.specs.Words.{versions_rule, window_rule};
 
 use clap::builder::ValueParser;
 use clap::{Arg, ArgAction, Command};
+use crate::arguments::MAX_RESOLVERS;
 use conflict::MAX_WINDOW;
 use lane::MAX_CAPACITY;
 use std::alloc::{AllocError, Global};
@@ -32,6 +34,8 @@ pub fn command<'a>(alloc: Global) -> Result<Command<'a>, AllocError>
         .arg(capacity(alloc))?
         .arg(window(alloc))?
         .arg(limit(alloc))?
+        .arg(resolvers(alloc))?
+        .arg(split_points(alloc))?
         .arg(frames(alloc))?
         .arg(json(alloc))?
         .arg(quiet(alloc))?
@@ -71,6 +75,26 @@ fn limit<'a>(alloc: Global) -> Arg<'a>
     number(alloc, "limit", "1000000", parser).help(
         "Boundaries that the conflict set keeps at most, from 1 to 16777216",
     )
+}
+
+fn resolvers<'a>(alloc: Global) -> Arg<'a>
+    ensures rule { rule_of result ≡ resolvers_rule }
+    ensures local { result.global ≡ false }
+{
+    let parser = ValueParser::unsigned(1, MAX_RESOLVERS as u64);
+    number(alloc, "resolvers", "1", parser).help(
+        "Resolvers, each of a shard of the keys and in its threads, from 1 to 16",
+    )
+}
+
+fn split_points<'a>(alloc: Global) -> Arg<'a>
+    ensures rule { rule_of result ≡ split_points_rule }
+    ensures local { result.global ≡ false }
+{
+    Arg::new(alloc, "split-points")
+        .long("split-points")
+        .value_name("POINTS")
+        .help("With --resolvers, a file of the keys that split them; else by the first batches")
 }
 
 // An option `--name N`.
