@@ -121,6 +121,7 @@ pub record HasReplayed (contents : List ℕ → Option (List ℕ)) (words : List
   pub options : Options
   pub names : List (List ℕ)
   pub asked : AsksToReplay words options names
+  pub one : HoldsSharding (rows_of_words words) false 1 None
   pub replayed : IsReplayed options (contents_each contents names) out.before out.after
 
 -- the files of these names were resolved and compared with those of replies, and the number of differences is as said
@@ -137,6 +138,7 @@ pub record HasChecked (So_many : ℕ → Type 0) (contents : List ℕ → Option
   pub names : List (List ℕ)
   pub replies : List (List ℕ)
   pub asked : AsksToCheck words options names replies
+  pub one : HoldsSharding (rows_of_words words) false 1 None
   pub checked : ChecksFiles So_many contents options names replies out.before out.after
 
 -- Each of these files for records has its writer, at the number of its proxy, and no other proxy has one. Of each writer, the bytes
@@ -196,10 +198,6 @@ FailsOnStream state_of has_opened cannot_open contents has_created cannot_create
     ⊎ (DidNotCreate has_created cannot_create records out error
     ⊎ (DidNotStart out error ⊎ StreamsAndFails state_of contents begun options names records recorders out error))
 
--- there are differences
-abbrev pub HasDifferences : (List ℕ → Option (List ℕ)) → List (List ℕ) → Written → Type 0
-HasDifferences = HasChecked (λ count. count ≢ 0)
-
 -- Several resolvers.
 
 -- the words ask for this many resolvers, of which there is more than one
@@ -253,13 +251,41 @@ pub record HasReplayedByShards (contents : List ℕ → Option (List ℕ)) (word
   pub few : length points < resolvers
   pub replayed : IsReplayedByShards points options (contents_each contents names) out.before out.after
 
+-- all files of the arguments were read, resolved by several resolvers and compared, and the number of differences is as said
+pub record HasCheckedByShards (So_many : ℕ → Type 0) (contents : List ℕ → Option (List ℕ)) (words : List (List ℕ)) (out : Written)
+    : Type 0 where
+  pub options : Options
+  pub names : List (List ℕ)
+  pub replies : List (List ℕ)
+  pub asked : AsksToCheck words options names replies
+  pub resolvers : ℕ
+  pub several : AsksForSeveral words resolvers
+  pub checked : ChecksByShards So_many contents resolvers options names replies out.before out.after
+
+-- what the words ask several resolvers for failed
+pub record HasFailedByShards (is_regular is_irregular has_opened cannot_open : List ℕ → Type 0)
+    (contents : List ℕ → Option (List ℕ)) (words : List (List ℕ)) (out error : Written) : Type 0 where
+  pub options : Options
+  pub names : List (List ℕ)
+  pub replies : List (List ℕ)
+  pub asked : AsksToReplay words options names ⊎ AsksToCheck words options names replies
+  pub resolvers : ℕ
+  pub several : AsksForSeveral words resolvers
+  pub failed : FailsByShards is_regular is_irregular has_opened cannot_open contents resolvers options names replies out error
+
+-- there are differences
+abbrev pub HasDifferences : (List ℕ → Option (List ℕ)) → List (List ℕ) → Written → Type 0
+HasDifferences contents words out =
+    HasChecked (λ count. count ≢ 0) contents words out ⊎ HasCheckedByShards (λ count. count ≢ 0) contents words out
+
 -- The program is done.
 abbrev pub IsDone : {W : Type 0} → (W → SinkState) → (List ℕ → Option (List ℕ)) → (List ℕ → Option (List ℕ)) → List (List ℕ)
     → List (Option (Recorder W)) → Written → Type 0
 IsDone state_of contents begun words recorders out =
     HasShown words out
     ⊎ (HasReplayed contents words out
-    ⊎ (HasChecked (λ count. count ≡ 0) contents words out ⊎ HasStreamed state_of contents begun words recorders out))
+    ⊎ (HasChecked (λ count. count ≡ 0) contents words out ⊎ (HasStreamed state_of contents begun words recorders out
+    ⊎ (HasReplayedByShards contents words out ⊎ HasCheckedByShards (λ count. count ≡ 0) contents words out))))
 
 -- what the words ask for failed on the files
 pub record HasFailedOnFiles (has_opened cannot_open : List ℕ → Type 0) (contents : List ℕ → Option (List ℕ))
@@ -299,11 +325,12 @@ abbrev pub HasNoMemory : Written → Written → Type 0
 HasNoMemory out error = (out.after ≡ out.before) × Told error (start_line start.Memory)
 
 -- The program has failed.
-abbrev pub IsFailed : {W : Type 0} → (W → SinkState) → (List ℕ → Type 0) → (List ℕ → Type 0) → (List ℕ → Option (List ℕ))
-    → (List ℕ → Type 0) → (List ℕ → Type 0) → (List ℕ → Option (List ℕ)) → List (List ℕ) → List (Option (Recorder W)) → Written
+abbrev pub IsFailed : {W : Type 0} → (W → SinkState) → (List ℕ → Type 0) → (List ℕ → Type 0) → (List ℕ → Type 0)
+    → (List ℕ → Type 0) → (List ℕ → Option (List ℕ)) → (List ℕ → Type 0) → (List ℕ → Type 0) → (List ℕ → Option (List ℕ)) → List (List ℕ) → List (Option (Recorder W)) → Written
     → Written → Type 0
-IsFailed state_of has_opened cannot_open contents has_created cannot_create begun words recorders out error =
+IsFailed state_of is_regular is_irregular has_opened cannot_open contents has_created cannot_create begun words recorders out error =
     HasNoMemory out error
     ⊎ (HasNotShown words out ⊎ (HasFailedOnFiles has_opened cannot_open contents words out error
     ⊎ (HasFailedToCheck has_opened cannot_open contents words out error
-    ⊎ HasFailedToStream state_of has_opened cannot_open contents has_created cannot_create begun words recorders out error)))
+    ⊎ (HasFailedToStream state_of has_opened cannot_open contents has_created cannot_create begun words recorders out error
+    ⊎ HasFailedByShards is_regular is_irregular has_opened cannot_open contents words out error))))
