@@ -105,8 +105,8 @@ abbrev pub IsCheckedByShards : (ℕ → Type 0) → List (List Reply) → List (
     → Option (List ℕ) → Option (List ℕ) → Type 0
 IsCheckedByShards So_many recorded points options files before after =
     IsReplayedByShardsBy
-      (λ together. Appends before after (check_lines recorded together) × So_many (differences_of recorded together))
-      points options files
+    (λ together. Appends before after (check_lines recorded together) × So_many (differences_of recorded together))
+    points options files
 
 -- What is given to the shards, and what becomes of them.
 
@@ -130,9 +130,9 @@ pub record ShardOutcome : Type 0 where
 abbrev pub AreShardRuns : List (List ℕ) → Options → List (Option (List ℕ)) → List ShardOutcome → Type 0
 AreShardRuns points options files outcomes =
     AllZip
-      (λ shard o. IsRunFor (Some shard) (λ proxy read. slice_get o.notes proxy ≡ Some (notes_of (Some shard) read))
-        (with_style options kept_style) files o.received o.failures o.complete o.stop)
-      (shards points) outcomes
+    (λ shard o. IsRunFor (Some shard) (λ proxy read. slice_get o.notes proxy ≡ Some (notes_of (Some shard) read))
+    (with_style options kept_style) files o.received o.failures o.complete o.stop)
+    (shards points) outcomes
 
 -- the answers of a shard to the proxy, and its notes
 abbrev pub answers_in : ℕ → ShardOutcome → List Answer
@@ -156,16 +156,16 @@ pub record IsStopIn (outcomes : List ShardOutcome) (met : ShardStop) : Type 0 wh
 
 -- the runs of all shards, and what they have answered together
 pub record AreCombinedRuns (points : List (List ℕ)) (options : Options) (files : List (Option (List ℕ))) (combined : Combined) : Type 0
-    where
-  pub outcomes : List ShardOutcome
-  pub runs : AreShardRuns points options files outcomes
-  pub each :
-      (proxy : ℕ) (lines : List Line) (failure : ProxyFailure)
-      → slice_get (map vec_items combined.lines.items) proxy ≡ Some lines → slice_get combined.failures.items proxy ≡ Some failure
-      → IsTogether outcomes proxy lines failure
-  pub count : length combined.lines.items ≡ length files
-  pub complete : combined.complete ≡ true ↔ All (λ (o : ShardOutcome). o.complete ≡ true) outcomes
-  pub stop : MatchOption combined.stop (All (λ (o : ShardOutcome). o.stop ≡ None) outcomes) (IsStopIn outcomes)
+  where
+    pub outcomes : List ShardOutcome
+    pub runs : AreShardRuns points options files outcomes
+    pub each :
+        (proxy : ℕ) (lines : List Line) (failure : ProxyFailure)
+        → slice_get (map vec_items combined.lines.items) proxy ≡ Some lines → slice_get combined.failures.items proxy ≡ Some failure
+        → IsTogether outcomes proxy lines failure
+    pub count : length combined.lines.items ≡ length files
+    pub complete : combined.complete ≡ true ↔ All (λ (o : ShardOutcome). o.complete ≡ true) outcomes
+    pub stop : MatchOption combined.stop (All (λ (o : ShardOutcome). o.stop ≡ None) outcomes) (IsStopIn outcomes)
 
 -- how the runs end together, and the line that names the shard of a stop
 abbrev pub ending_together : Combined → Ending

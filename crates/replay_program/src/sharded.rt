@@ -37,6 +37,7 @@ use std::thread::Threads;
 use wire::{Failed, Sink, Source, write_all};
 
 // Why the shards can't be run.
+#[derive(Drop)]
 enum ShardsError {
     Opening(OpeningError),
     Points(PointsError),
@@ -44,6 +45,8 @@ enum ShardsError {
 }
 
 impl From<AllocError> for ShardsError {
+    ghost use Rattle.replay_program.specs.declared.sharded.ShardsError.TheVariants.{Memory};
+
     ghost from_gives = { λ _ e. e ≡ Memory };
 
     fn from(_refused: AllocError) -> ShardsError {

@@ -29,7 +29,10 @@ pub fn combined_answer(
     ensures combined { (b : BatchValue) → b.version ≡ version → IfOk result (IsAnswerTogether b
         answers.now (map (λ own. first_note version own.items) notes.now)) }
 {
-    if answers.iter().any(|answer| matches!(answer, Answer::Never(_))) {
+    if answers
+        .iter()
+        .any(|answer| matches!(answer, Answer::Never(_)))
+    {
         return Ok(Answer::Never(version));
     }
     let Some(each) = entries_each(alloc, version, answers, notes)? else {

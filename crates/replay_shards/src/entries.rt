@@ -14,6 +14,7 @@ use shards::ReadIndices;
 use std::alloc::{AllocError, Global};
 
 /// The reply of one shard, with the original indices of its read ranges, if the batch has a note.
+#[derive(Clone, Copy)]
 pub struct ShardEntries<'a> {
     pub entries: &'a [Entry],
     pub reads: Option<&'a ReadIndices>,
