@@ -9,14 +9,14 @@ ghost use Rattle.shards.specs.Clips.{IsBatchClip};
 ghost use Rattle.replay_shards.specs.Notes.{are_notes_of, notes_of};
 ghost use Rattle.replay_shards.specs.Clips.{bytes_left, failures_of, refusal_of_clips, shard_of_clips};
 
-use crate::note::{Note, requests_report};
-use keyspace::Batch;
+use crate::note::Note;
+use keyspace::{Batch, Txns};
 use replay_workers::Batches;
-use shards::{SplitPoints, clip};
+use shards::{SplitPoints, clip_in_place};
 use std::alloc::{AllocError, Global};
 use std::mem;
 use std::sync::Arc;
-use wire::{Frames, Source, WireError, read_frames};
+use wire::{Frames, Source, Unordered, WireError, read_frames, seal};
 
 /// The clips of the batches of a file to a shard, in order. Beside each it keeps what reports need.
 #[derive(Drop)]
@@ -58,7 +58,7 @@ impl<S: Source> Clips<S> {
     }
 
     // Clips a batch, and notes the indices of its read ranges if some transaction requests a report.
-    fn clip(&mut self, batch: &Batch) -> Result<Batch, AllocError>
+    fn clip(&mut self, batch: Unordered) -> Result<Batch, AllocError>
         ensures clip { IfOk result (λ clip. IfSome (shard_of_clips self.old)
             (λ shard. IsBatchClip shard batch.now clip)) }
         ensures frames { self.new.frames ≡ self.old.frames }
@@ -67,15 +67,22 @@ impl<S: Source> Clips<S> {
             ++ notes_of (shard_of_clips self.old) (batch.now ∷ [])) }
         ensures same { OnErr result (self.new.notes.items ≡ self.old.notes.items) }
     {
-        let clipped = clip(self.alloc, batch, &self.points, self.shard)?;
-        if requests_report(batch) {
-            let note = Note {
-                version: batch.version,
-                reads: clipped.reads,
-            };
-            self.notes.push(note)?;
+        let Unordered {
+            frame,
+            previous,
+            version,
+            received,
+            spans,
+            rows,
+        } = batch;
+        let clip = clip_in_place(self.alloc, frame, spans, rows, &self.points, self.shard)?;
+        if let Some(reads) = clip.reads {
+            self.notes.push(Note { version, reads })?;
         }
-        Ok(clipped.batch)
+        let mut buffer = clip.buffer;
+        seal(&mut buffer, &clip.spans)?;
+        let txns = Txns::from_tables(self.alloc, buffer, clip.spans, clip.rows)?;
+        Ok(Batch::new(previous, version, received, txns))
     }
 }
 
@@ -94,10 +101,10 @@ impl<S: Source> Batches for Clips<S> {
         if self.is_refused {
             return Err(WireError::Memory);
         }
-        let Some(batch) = self.frames.next()? else {
+        let Some(batch) = self.frames.next_unordered()? else {
             return Ok(None);
         };
-        match self.clip(&batch) {
+        match self.clip(batch) {
             Ok(clip) => Ok(Some(clip)),
             Err(_) => {
                 self.is_refused = true;

@@ -10,7 +10,8 @@ use crate::batch::{batch_of, tables_of};
 use crate::error::WireError;
 use crate::fill::fill_frame;
 use crate::source::Source;
-use keyspace::Batch;
+use crate::tables::Tables;
+use keyspace::{Batch, Row, Span};
 use std::alloc::Global;
 
 /// Iterates over the batches of a reader, frame after frame. Reads no byte beyond the frame that is
@@ -21,6 +22,16 @@ pub struct Frames<R> {
     alloc: Global,
     // The refusal that ended the frames.
     refusal: Option<WireError>,
+}
+
+/// A batch whose ranges aren't ordered yet: its frame, and what it says. A prototype.
+pub struct Unordered {
+    pub frame: Vec<u8>,
+    pub previous: i64,
+    pub version: i64,
+    pub received: i64,
+    pub spans: Vec<Span>,
+    pub rows: Vec<Row>,
 }
 
 /// Returns the frames of a reader. Reads nothing yet.
@@ -62,7 +73,48 @@ pub fn read_next<R: Source>(alloc: Global, reader: &mut R) -> Result<Option<Batc
     Ok(Some(batch))
 }
 
+fn read_unordered<R: Source>(
+    alloc: Global,
+    reader: &mut R,
+) -> Result<Option<Unordered>, WireError> {
+    let mut frame = Vec::new(alloc);
+    fill_frame(reader, &mut frame)?;
+    if frame.is_empty() {
+        return Ok(None);
+    }
+    let (_, tables, _) = tables_of(alloc, &frame)?;
+    let Tables {
+        previous,
+        version,
+        received,
+        spans,
+        rows,
+    } = tables;
+    Ok(Some(Unordered {
+        frame,
+        previous,
+        version,
+        received,
+        spans,
+        rows,
+    }))
+}
+
 impl<R: Source> Frames<R> {
+    /// Returns the next batch without ordering its ranges. A prototype without contracts.
+    pub fn next_unordered(&mut self) -> Result<Option<Unordered>, WireError> {
+        if let Some(refusal) = self.refusal {
+            return Err(refusal);
+        }
+        match read_unordered(self.alloc, &mut self.reader) {
+            Ok(found) => Ok(found),
+            Err(refusal) => {
+                self.refusal = Some(refusal);
+                Err(refusal)
+            }
+        }
+    }
+
     /// Returns the next batch, or `None` where the input ends between two frames. Returns `Read`
     /// only where the reader failed in this call. After a refusal every later call returns the same
     /// refusal and reads nothing.
