@@ -3,4 +3,5 @@ pub mod Checked
 pub mod Replies
 pub mod Replayed
 pub mod Streamed
+pub mod Sharded
 pub mod Program

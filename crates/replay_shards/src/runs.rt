@@ -8,7 +8,7 @@ ghost use Rattle.replay_shards.specs.Clips.{bytes_left, shard_of_clips};
 
 use crate::clips::Clips;
 use replay_output::{Form, Line, Options, ProxyFailure, StartError, Style};
-use replay_workers::{Gatekeeper, Outcome, ShareKeeper, run_on};
+use replay_workers::{Gatekeeper, Outcome, Pace, ShareKeeper, run_on};
 use resolver::Stop;
 use std::alloc::Global;
 use std::snapshot::Snapshot;
@@ -143,7 +143,7 @@ fn run_shard<
 ) -> Result<ShardRun<S>, StartError>
     ensures run { IfOk result (IsRunOfShard S.remaining options clips.items) }
 {
-    let (outcome, account) = run_on(rt, alloc, clips, options, gatekeeper)?;
+    let (outcome, account) = run_on(rt, alloc, clips, options, Pace::Rests, gatekeeper)?;
     let Outcome {
         batches,
         lines,

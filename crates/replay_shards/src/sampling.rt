@@ -10,7 +10,7 @@ use std::alloc::{AllocError, Global};
 use wire::{Frames, Source, read_frames};
 
 /// At most this many ranges are sampled, but for the last batch of each file.
-pub const SAMPLE: usize = 16_384;
+pub const SAMPLE: usize = 4_096;
 
 /// Computes split points that spread the first batches of these readers evenly over this many
 /// shards, as [`balanced`] does. Each reader gives the same part of the sample. There are fewer

@@ -71,7 +71,7 @@ impl<S: Source> Batches for Frames<S> {
 }
 
 /// Returns the frames of each reader. Reads nothing yet.
-pub fn frames_each<S: Source>(
+pub fn frames_each<S: Source + Drop>(
     alloc: Global,
     readers: Vec<S>,
 ) -> Result<Vec<Frames<S>>, AllocError>

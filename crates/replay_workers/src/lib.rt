@@ -25,7 +25,7 @@ pub use batches::{Batches, frames_each};
 pub use ends::MostUnanswered;
 pub use gatekeeper::{AlwaysOpen, Gatekeeper, ShareKeeper, Unshared};
 pub use outcome::Outcome;
-pub use rest::pause;
+pub use rest::{Pace, pause};
 pub use running::{let_through, run, run_on};
 pub use watch::Watch;
 pub use worker::{Assignment, FileEnd, Finished, Leftover, work, work_on};

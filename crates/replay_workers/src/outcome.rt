@@ -27,7 +27,7 @@ pub struct Outcome<B> {
     ghost failures_room: { vec_capacity clients ≤ vec_capacity failures },
 }
 
-impl<B> Outcome<B> {
+impl<B: Drop> Outcome<B> {
     /// Creates an empty outcome with room for the results of n workers.
     pub fn with_room(alloc: Global, workers: usize) -> Result<Self, AllocError>
         ensures room { IfOk result (λ outcome. workers ≤ vec_capacity outcome.clients) }

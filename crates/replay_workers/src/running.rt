@@ -16,6 +16,7 @@ ghost use Rattle.replay_workers.specs.Stops.{IsAccountedFor};
 use crate::batches::{Batches, frames_each};
 use crate::gatekeeper::{Gatekeeper, ShareKeeper};
 use crate::outcome::Outcome;
+use crate::rest::Pace;
 use crate::threads::{join_all, start_workers};
 use crate::watch::Watch;
 use replay_output::{Options, StartError};
@@ -51,11 +52,11 @@ pub fn run<
         (λ ended. All (HasCapacity options.capacity) ended.0.clients.items) }
 {
     let batches = frames_each(alloc, readers)?;
-    run_on(rt, alloc, batches, options, gatekeeper)
+    run_on(rt, alloc, batches, options, Pace::Yields, gatekeeper)
 }
 
 /// Runs a worker for each of these batches, as [`run`] does for those of readers. All are sent as
-/// they are, or all as clips to the same shard.
+/// they are, or all as clips to the same shard. The pace is that of the resolver.
 pub fn run_on<
     B: Batches + Send + Drop + 'static,
     G: Gatekeeper + ShareKeeper + Send + Sync + Drop + 'static,
@@ -65,6 +66,7 @@ pub fn run_on<
     alloc: Global,
     batches: Vec<B>,
     options: Options,
+    pace: Pace,
     gatekeeper: &Arc<G, Global>,
 ) -> Result<(Outcome<B>, Account), StartError>
     requires least { 1 ≤ vec_len batches }
@@ -89,7 +91,7 @@ pub fn run_on<
     let mut watch = Watch::new(alloc, proxies)?;
     let (mut resolver, clients) = open(alloc, proxies, capacity, window, limit)?;
     let workers = start_workers(rt, alloc, style, batches, clients, gatekeeper)?;
-    turn_to_end(rt, &mut resolver, &**gatekeeper, &mut watch);
+    turn_to_end(rt, &mut resolver, pace, &**gatekeeper, &mut watch);
     let mut outcome = join_all(rt, workers, outcome);
     let account = resolver.settle(outcome.clients.as_mut_slice());
     Ok((outcome, account))
@@ -100,6 +102,7 @@ pub fn run_on<
 fn turn_to_end<G: ShareKeeper, R: Wait>(
     rt: &R,
     resolver: &mut Resolver,
+    pace: Pace,
     gatekeeper: &G,
     watch: &mut Watch,
 )
@@ -111,12 +114,17 @@ fn turn_to_end<G: ShareKeeper, R: Wait>(
     ensures goes_on { GoesOn resolver.old.core resolver.new.core }
     ensures lanes { Each (λ _ l m. LanesGoOn l m) resolver.old.lanes resolver.new.lanes }
 {
+    let mut idle: u32 = 0;
     for _ in rt.forever() {
         match resolver.turn() {
-            Ok(Turn::Took(_)) => watch.forget(),
+            Ok(Turn::Took(_)) => {
+                watch.forget();
+                idle = 0;
+            }
             Ok(Turn::Idle) => {
                 let_through(resolver, gatekeeper, watch);
-                thread::yield_now();
+                idle = idle.saturating_add(1);
+                pace.wait(rt, idle);
             }
             Ok(Turn::Done) => return,
             Err(_) if resolver.owed() == 0 => return,

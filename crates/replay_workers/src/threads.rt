@@ -173,7 +173,7 @@ fn start<
 }
 
 /// Joins all workers, and puts their results into the outcome, in order. Takes no memory.
-pub fn join_all<B: Batches, R: Threads>(
+pub fn join_all<B: Batches + Drop, R: Threads>(
     rt: &R,
     workers: Vec<Started<B>>,
     outcome: Outcome<B>,
