@@ -14,6 +14,8 @@ _replay() {
                 ' --capacity') wanted=OTHER ;;
                 ' --window') wanted=OTHER ;;
                 ' --limit') wanted=OTHER ;;
+                ' --resolvers') wanted=OTHER ;;
+                ' --split-points') wanted=FILE ;;
                 ' --only') wanted='committed conflict tooold' ;;
                 ' --versions') wanted=OTHER ;;
                 ' --check') wanted=FILE ;;
@@ -29,7 +31,7 @@ _replay() {
         :
     elif [[ ! $ended && $current == -* ]]; then
         case $command in
-            '') wanted='--capacity --window --limit --frames --json --quiet --only --versions --check --stream --replies -h --help -V --version' ;;
+            '') wanted='--capacity --window --limit --resolvers --split-points --frames --json --quiet --only --versions --check --stream --replies -h --help -V --version' ;;
             *) wanted=OTHER ;;
         esac
     else

@@ -61,6 +61,8 @@ impl<R: fs::Files<File = File> + AllocGlobal> Files for Disk<'_, R> {
 
     ghost is_regular = { λ _ _. ⊤ };
 
+    ghost is_irregular = { λ _ _. ⊤ };
+
     ghost begun = { λ _ _. None };
 
     ghost has_created = { λ _ _. ⊤ };

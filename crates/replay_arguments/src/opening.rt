@@ -91,8 +91,8 @@ fn open_each<F: Files>(
 pub fn first_irregular<F: Files>(files: &F, names: &[&str]) -> Option<usize>
     ensures first { MatchOption result
         (All (F.is_regular files.now) (map (λ name. name.now) names.now))
-        (λ index. IsFirstRefused (F.is_regular files.now) (λ name. ¬ F.is_regular files.now name)
-        (map (λ name. name.now) names.now) index) }
+        (IsFirstRefused (F.is_regular files.now) (F.is_irregular files.now)
+        (map (λ name. name.now) names.now)) }
 {
     names.iter().position(|name| !files.is_regular(name))
 }

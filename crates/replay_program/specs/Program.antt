@@ -1,5 +1,5 @@
 -- How the program ends, beside the words of its command line and the bytes of its files. This project's own.
-use Rattle.std.specs.Prelude.{◌≡◌, ◌≢◌, ◌⊎◌, ℕ, ◌≤◌, true, false, List, codes, length, map, Option, None, Some, option_map, slice_get}
+use Rattle.std.specs.Prelude.{◌≡◌, ◌≢◌, ◌⊎◌, ℕ, ◌≤◌, ◌<◌, ◌++◌, true, false, List, codes, length, map, Option, None, Some, option_map, slice_get}
 use Rattle.std.specs.List.{AllZip}
 use Rattle.clap.specs.Words.{all_of}
 use Rattle.keyspace.specs.declared.reply.Reply.{Reply}
@@ -12,9 +12,10 @@ use Rattle.replay_output.specs.declared.start.StartError.TheVariants as start
 use Rattle.replay_arguments.specs.Opening.{IsFirstRefused, contents_each, creating_line, opening_line}
 use Rattle.replay_program.specs.Checked.{TakesToCompare, check_lines}
 use Rattle.replay_program.specs.Replayed.{DidNotStart, FailsToPrint, FailsToReplay, HasFailed, IsChecked, IsReplayed, Took, Written}
+use Rattle.replay_program.specs.Sharded.{FailsToCheckByShards, FailsToReplayByShards, IsCheckedByShards, IsReplayedByShards, irregular_line}
 use Rattle.replay_program.specs.Replies.{IsCauseOf, IsReplyFile, replies_line}
 use Rattle.replay_output.specs.Start.{start_line}
-use Rattle.replay_arguments.specs.Words.{AsksForText, HasInputOnce, HoldsOptions, HoldsStream, IsTaken, is_kept, named, rows_of_words}
+use Rattle.replay_arguments.specs.Words.{AsksForText, HasInputOnce, HoldsOptions, HoldsSharding, HoldsStream, IsTaken, is_kept, named, rows_of_words}
 use Rattle.replay_stream.specs.declared.recorder.Recorder.{Recorder}
 use Rattle.replay_stream.specs.Sinks.{SinkState}
 use Rattle.replay_program.specs.Streamed.{IsStreamDone, StreamedAndFailed}
@@ -120,6 +121,7 @@ pub record HasReplayed (contents : List ℕ → Option (List ℕ)) (words : List
   pub options : Options
   pub names : List (List ℕ)
   pub asked : AsksToReplay words options names
+  pub one : HoldsSharding (rows_of_words words) false 1 None
   pub replayed : IsReplayed options (contents_each contents names) out.before out.after
 
 -- the files of these names were resolved and compared with those of replies, and the number of differences is as said
@@ -136,6 +138,7 @@ pub record HasChecked (So_many : ℕ → Type 0) (contents : List ℕ → Option
   pub names : List (List ℕ)
   pub replies : List (List ℕ)
   pub asked : AsksToCheck words options names replies
+  pub one : HoldsSharding (rows_of_words words) false 1 None
   pub checked : ChecksFiles So_many contents options names replies out.before out.after
 
 -- Each of these files for records has its writer, at the number of its proxy, and no other proxy has one. Of each writer, the bytes
@@ -195,9 +198,85 @@ FailsOnStream state_of has_opened cannot_open contents has_created cannot_create
     ⊎ (DidNotCreate has_created cannot_create records out error
     ⊎ (DidNotStart out error ⊎ StreamsAndFails state_of contents begun options names records recorders out error))
 
+-- Several resolvers.
+
+-- the words ask for this many resolvers, of which there is more than one
+pub record AsksForSeveral (words : List (List ℕ)) (resolvers : ℕ) : Type 0 where
+  pub several : 2 ≤ resolvers
+  pub points : Option (List ℕ)
+  pub sharding : HoldsSharding (rows_of_words words) false resolvers points
+
+-- a file isn't a regular one: nothing was printed, and the first such file was reported
+pub record IsNotRegular (is_regular is_irregular : List ℕ → Type 0) (names : List (List ℕ)) (out error : Written) : Type 0 where
+  pub proxy : ℕ
+  pub first : IsFirstRefused is_regular is_irregular names proxy
+  pub nothing_printed : out.after ≡ out.before
+  pub told : Told error (irregular_line proxy)
+
+-- there are no split points: nothing was printed, and why was reported
+pub record HasNoPoints (out error : Written) : Type 0 where
+  pub text : List ℕ
+  pub nothing_printed : out.after ≡ out.before
+  pub told : Told error (codes "replay: split points: " ++ text)
+
+-- all files were read, resolved by fewer split points than there are resolvers, and the combined answers were compared
+pub record ChecksByShards (So_many : ℕ → Type 0) (contents : List ℕ → Option (List ℕ)) (resolvers : ℕ) (options : Options)
+    (names replies : List (List ℕ)) (before after : Option (List ℕ)) : Type 0 where
+  pub recorded : List (List Reply)
+  pub read : AreRecorded contents replies recorded
+  pub points : List (List ℕ)
+  pub few : length points < resolvers
+  pub checked : IsCheckedByShards So_many recorded points options (contents_each contents names) before after
+
+-- the files were not replayed by the shards, or something failed
+abbrev pub FailsByShards : (List ℕ → Type 0) → (List ℕ → Type 0) → (List ℕ → Type 0) → (List ℕ → Type 0)
+    → (List ℕ → Option (List ℕ)) → ℕ → Options → List (List ℕ) → List (List ℕ) → Written → Written → Type 0
+FailsByShards is_regular is_irregular has_opened cannot_open contents resolvers options names replies out error =
+    IsNotRegular is_regular is_irregular names out error
+    ⊎ (DidNotReadReplies has_opened cannot_open contents replies out error
+    ⊎ (HasNoPoints out error ⊎ (DidNotOpen has_opened cannot_open names out error
+    ⊎ ((points : List (List ℕ)) × (length points < resolvers)
+    × (FailsToReplayByShards points options (contents_each contents names) out error
+    ⊎ ((recorded : List (List Reply)) × AreRecorded contents replies recorded
+    × FailsToCheckByShards recorded points options (contents_each contents names) out error))))))
+
+-- all that the words ask several resolvers for was read, resolved and printed
+pub record HasReplayedByShards (contents : List ℕ → Option (List ℕ)) (words : List (List ℕ)) (out : Written) : Type 0 where
+  pub options : Options
+  pub names : List (List ℕ)
+  pub asked : AsksToReplay words options names
+  pub resolvers : ℕ
+  pub several : AsksForSeveral words resolvers
+  pub points : List (List ℕ)
+  pub few : length points < resolvers
+  pub replayed : IsReplayedByShards points options (contents_each contents names) out.before out.after
+
+-- all files of the arguments were read, resolved by several resolvers and compared, and the number of differences is as said
+pub record HasCheckedByShards (So_many : ℕ → Type 0) (contents : List ℕ → Option (List ℕ)) (words : List (List ℕ)) (out : Written)
+    : Type 0 where
+  pub options : Options
+  pub names : List (List ℕ)
+  pub replies : List (List ℕ)
+  pub asked : AsksToCheck words options names replies
+  pub resolvers : ℕ
+  pub several : AsksForSeveral words resolvers
+  pub checked : ChecksByShards So_many contents resolvers options names replies out.before out.after
+
+-- what the words ask several resolvers for failed
+pub record HasFailedByShards (is_regular is_irregular has_opened cannot_open : List ℕ → Type 0)
+    (contents : List ℕ → Option (List ℕ)) (words : List (List ℕ)) (out error : Written) : Type 0 where
+  pub options : Options
+  pub names : List (List ℕ)
+  pub replies : List (List ℕ)
+  pub asked : AsksToReplay words options names ⊎ AsksToCheck words options names replies
+  pub resolvers : ℕ
+  pub several : AsksForSeveral words resolvers
+  pub failed : FailsByShards is_regular is_irregular has_opened cannot_open contents resolvers options names replies out error
+
 -- there are differences
 abbrev pub HasDifferences : (List ℕ → Option (List ℕ)) → List (List ℕ) → Written → Type 0
-HasDifferences = HasChecked (λ count. count ≢ 0)
+HasDifferences contents words out =
+    HasChecked (λ count. count ≢ 0) contents words out ⊎ HasCheckedByShards (λ count. count ≢ 0) contents words out
 
 -- The program is done.
 abbrev pub IsDone : {W : Type 0} → (W → SinkState) → (List ℕ → Option (List ℕ)) → (List ℕ → Option (List ℕ)) → List (List ℕ)
@@ -205,7 +284,8 @@ abbrev pub IsDone : {W : Type 0} → (W → SinkState) → (List ℕ → Option 
 IsDone state_of contents begun words recorders out =
     HasShown words out
     ⊎ (HasReplayed contents words out
-    ⊎ (HasChecked (λ count. count ≡ 0) contents words out ⊎ HasStreamed state_of contents begun words recorders out))
+    ⊎ (HasChecked (λ count. count ≡ 0) contents words out ⊎ (HasStreamed state_of contents begun words recorders out
+    ⊎ (HasReplayedByShards contents words out ⊎ HasCheckedByShards (λ count. count ≡ 0) contents words out))))
 
 -- what the words ask for failed on the files
 pub record HasFailedOnFiles (has_opened cannot_open : List ℕ → Type 0) (contents : List ℕ → Option (List ℕ))
@@ -245,11 +325,12 @@ abbrev pub HasNoMemory : Written → Written → Type 0
 HasNoMemory out error = (out.after ≡ out.before) × Told error (start_line start.Memory)
 
 -- The program has failed.
-abbrev pub IsFailed : {W : Type 0} → (W → SinkState) → (List ℕ → Type 0) → (List ℕ → Type 0) → (List ℕ → Option (List ℕ))
-    → (List ℕ → Type 0) → (List ℕ → Type 0) → (List ℕ → Option (List ℕ)) → List (List ℕ) → List (Option (Recorder W)) → Written
+abbrev pub IsFailed : {W : Type 0} → (W → SinkState) → (List ℕ → Type 0) → (List ℕ → Type 0) → (List ℕ → Type 0)
+    → (List ℕ → Type 0) → (List ℕ → Option (List ℕ)) → (List ℕ → Type 0) → (List ℕ → Type 0) → (List ℕ → Option (List ℕ)) → List (List ℕ) → List (Option (Recorder W)) → Written
     → Written → Type 0
-IsFailed state_of has_opened cannot_open contents has_created cannot_create begun words recorders out error =
+IsFailed state_of is_regular is_irregular has_opened cannot_open contents has_created cannot_create begun words recorders out error =
     HasNoMemory out error
     ⊎ (HasNotShown words out ⊎ (HasFailedOnFiles has_opened cannot_open contents words out error
     ⊎ (HasFailedToCheck has_opened cannot_open contents words out error
-    ⊎ HasFailedToStream state_of has_opened cannot_open contents has_created cannot_create begun words recorders out error)))
+    ⊎ (HasFailedToStream state_of has_opened cannot_open contents has_created cannot_create begun words recorders out error
+    ⊎ HasFailedByShards is_regular is_irregular has_opened cannot_open contents words out error))))

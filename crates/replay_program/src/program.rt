@@ -51,7 +51,8 @@ pub fn run<R: Threads + Wait + Copy + Send + 'static, F: Files, O: Sink, E: Sink
     ensures quiet_too { result.status ≡ Status.Differs
         → Keeps (E.given error.old) (E.given error.new) }
     ensures failed { result.status ≡ Status.Failed
-        → IsFailed (state_by F.Writer.given F.Writer.failures) (F.has_opened files.now)
+        → IsFailed (state_by F.Writer.given F.Writer.failures) (F.is_regular files.now)
+        (F.is_irregular files.now) (F.has_opened files.now)
         (F.cannot_open files.now) (F.contents files.now) (F.has_created files.now)
         (F.cannot_create files.now) (F.begun files.now) (map string_bytes words.now)
         result.recorders.items

@@ -1,14 +1,19 @@
 //! The program with several resolvers: each has a shard of the keys, and its own run of all files.
 
-ghost use Rattle.std.specs.Prelude.{◌≡◌, ◌≢◌, ◌≤◌, ◌<◌, IfErr, IfOk, length, map, option_map};
-ghost use Rattle.std.specs.Prelude.{vec_items, vec_len};
-ghost use Rattle.std.specs.Io.KnownBytes.{Keeps};
+ghost use Rattle.std.specs.Prelude.{◌≡◌, ◌≢◌, ◌⊎◌, ◌≤◌, ◌<◌, ◌+◌, ℕ, List, Option, None, IfOk, OnOk};
+ghost use Rattle.std.specs.Prelude.{length, map, vec_items, vec_len};
+ghost use Rattle.std.specs.List.{All};
+ghost use Rattle.std.specs.Io.KnownBytes.{Appends, Keeps};
 ghost use Rattle.resolver.specs.declared.resolver_core.TheConstants.{MAX_PROXIES};
 ghost use Rattle.replay_arguments.specs.Opening.{contents_each};
 ghost use Rattle.replay_arguments.specs.declared.arguments.TheConstants.{MAX_RESOLVERS};
+ghost use Rattle.replay_output.specs.declared.options.form.Form.TheVariants.{Kept};
 ghost use Rattle.replay_program.specs.Replayed.{written};
-ghost use Rattle.replay_program.specs.Sharded.{ChecksByShards, FailsByShards, IsReplayedByShards};
-ghost use Rattle.serial.specs.Shards.{shards};
+ghost use Rattle.replay_program.specs.Program.{ChecksByShards, FailsByShards};
+ghost use Rattle.replay_program.specs.Sharded.{AreCombinedRuns, AreOfShards, FailsToCheckByShards};
+ghost use Rattle.replay_program.specs.Sharded.{FailsToReplayByShards, IsCheckedByShards};
+ghost use Rattle.replay_program.specs.Sharded.{IsReplayedByShards, irregular_line, shard_lines};
+ghost use Rattle.replay_shards.specs.Runs.{AreNew};
 
 use crate::check::{fail_to_read_replies, print_check, read_replies};
 use flow::WaitingRoom;
@@ -32,6 +37,7 @@ use std::thread::Threads;
 use wire::{Failed, Sink, Source, write_all};
 
 // Why the shards can't be run.
+#[derive(Drop)]
 enum ShardsError {
     Opening(OpeningError),
     Points(PointsError),
@@ -39,6 +45,8 @@ enum ShardsError {
 }
 
 impl From<AllocError> for ShardsError {
+    ghost use Rattle.replay_program.specs.declared.sharded.ShardsError.TheVariants.{Memory};
+
     ghost from_gives = { λ _ e. e ≡ Memory };
 
     fn from(_refused: AllocError) -> ShardsError {
@@ -61,13 +69,27 @@ pub fn shard_files<R: Threads + Wait + Copy + Send + 'static, F: Files, O: Sink,
     requires most_files { vec_len line.now.files ≤ MAX_PROXIES }
     requires several { 2 ≤ line.now.resolvers }
     requires most_resolvers { line.now.resolvers ≤ MAX_RESOLVERS }
+    requires as_many { line.now.options.style.form ≡ Kept
+        → vec_len line.now.replies ≡ vec_len line.now.files }
     ensures done { result ≡ Status.Done → line.now.options.style.form ≢ Kept
         → (points : List (List ℕ)) × (length points < line.now.resolvers)
         × IsReplayedByShards points line.now.options
         (contents_each (F.contents files.now) (map (λ name. name.now) line.now.files.items))
         (O.given out.old) (O.given out.new) }
     ensures quiet { result ≢ Status.Failed → Keeps (E.given error.old) (E.given error.new) }
-    ensures failed { result ≡ Status.Failed → FailsByShards files.now line.now
+    ensures checked { result ≡ Status.Done → line.now.options.style.form ≡ Kept
+        → ChecksByShards (λ count. count ≡ 0) (F.contents files.now) line.now.resolvers
+        line.now.options (map (λ name. name.now) line.now.files.items)
+        (map (λ name. name.now) line.now.replies.items) (O.given out.old) (O.given out.new) }
+    ensures differs { result ≡ Status.Differs
+        → ChecksByShards (λ count. count ≢ 0) (F.contents files.now) line.now.resolvers
+        line.now.options (map (λ name. name.now) line.now.files.items)
+        (map (λ name. name.now) line.now.replies.items) (O.given out.old) (O.given out.new) }
+    ensures failed { result ≡ Status.Failed → FailsByShards (F.is_regular files.now)
+        (F.is_irregular files.now) (F.has_opened files.now) (F.cannot_open files.now)
+        (F.contents files.now) line.now.resolvers line.now.options
+        (map (λ name. name.now) line.now.files.items)
+        (map (λ name. name.now) line.now.replies.items)
         (written (O.given out.old) (O.given out.new) (O.failures out.old) (O.failures out.new))
         (written (E.given error.old) (E.given error.new) (E.failures error.old)
         (E.failures error.new)) }
@@ -128,12 +150,14 @@ pub fn shard_over<
     requires as_many { vec_len gatekeepers ≡ vec_len each }
     requires proxies { All (λ clips. (1 ≤ vec_len clips) × (vec_len clips ≤ MAX_PROXIES)) each.items }
     requires fresh { All AreNew (map vec_items each.items) }
-    ensures done { result ≡ Status.Done → (points : List (List ℕ)) → AreOfShards points each
-        → IsReplayedByShards points options (files_of S.remaining each)
-        (O.given out.old) (O.given out.new) }
+    ensures done { (points : List (List ℕ)) (files : List (Option (List ℕ))) → result ≡ Status.Done
+        → AreOfShards S.remaining points files (map vec_items each.items)
+        → IsReplayedByShards points options files (O.given out.old) (O.given out.new) }
     ensures quiet { result ≡ Status.Done → Keeps (E.given error.old) (E.given error.new) }
-    ensures failed { result ≡ Status.Failed → (points : List (List ℕ)) → AreOfShards points each
-        → FailsToReplayByShards points options (files_of S.remaining each)
+    ensures failed { (points : List (List ℕ)) (files : List (Option (List ℕ)))
+        → result ≡ Status.Failed
+        → AreOfShards S.remaining points files (map vec_items each.items)
+        → FailsToReplayByShards points options files
         (written (O.given out.old) (O.given out.new) (O.failures out.old) (O.failures out.new))
         (written (E.given error.old) (E.given error.new) (E.failures error.old)
         (E.failures error.new)) }
@@ -180,13 +204,22 @@ pub fn shard_check_over<
     requires most { vec_len recorded ≤ MAX_PROXIES }
     requires fresh { All AreNew (map vec_items each.items) }
     requires kept { options.style.form ≡ Kept }
-    ensures done { result ≡ Status.Done → (points : List (List ℕ)) → AreOfShards points each
-        → IsCheckedByShards (λ count. count ≡ 0) (map vec_items recorded.items) points options
-        (files_of S.remaining each) (O.given out.old) (O.given out.new) }
-    ensures differs { result ≡ Status.Differs → (points : List (List ℕ))
-        → AreOfShards points each
-        → IsCheckedByShards (λ count. count ≢ 0) (map vec_items recorded.items) points options
-        (files_of S.remaining each) (O.given out.old) (O.given out.new) }
+    ensures done { (points : List (List ℕ)) (files : List (Option (List ℕ))) → result ≡ Status.Done
+        → AreOfShards S.remaining points files (map vec_items each.items)
+        → IsCheckedByShards (λ count. count ≡ 0) (map vec_items recorded.items) points options files
+        (O.given out.old) (O.given out.new) }
+    ensures differs { (points : List (List ℕ)) (files : List (Option (List ℕ)))
+        → result ≡ Status.Differs
+        → AreOfShards S.remaining points files (map vec_items each.items)
+        → IsCheckedByShards (λ count. count ≢ 0) (map vec_items recorded.items) points options files
+        (O.given out.old) (O.given out.new) }
+    ensures failed { (points : List (List ℕ)) (files : List (Option (List ℕ)))
+        → result ≡ Status.Failed
+        → AreOfShards S.remaining points files (map vec_items each.items)
+        → FailsToCheckByShards (map vec_items recorded.items) points options files
+        (written (O.given out.old) (O.given out.new) (O.failures out.old) (O.failures out.new))
+        (written (E.given error.old) (E.given error.new) (E.failures error.old)
+        (E.failures error.new)) }
     ensures quiet { result ≢ Status.Failed → Keeps (E.given error.old) (E.given error.new) }
     ensures ends { result ≢ Status.Usage }
 {
@@ -220,7 +253,11 @@ fn run_combined<
 ) -> Result<Combined, StartError>
     requires some { 1 ≤ vec_len each }
     requires as_many { vec_len gatekeepers ≡ vec_len each }
-    ensures combined { IfOk result (AreCombinedRuns S.remaining options (map vec_items each.items)) }
+    requires proxies { All (λ clips. (1 ≤ vec_len clips) × (vec_len clips ≤ MAX_PROXIES)) each.items }
+    requires fresh { All AreNew (map vec_items each.items) }
+    ensures combined { (points : List (List ℕ)) (files : List (Option (List ℕ)))
+        → AreOfShards S.remaining points files (map vec_items each.items)
+        → IfOk result (AreCombinedRuns points options files) }
 {
     let proxies = match each.first() {
         Some(clips) => clips.len(),
@@ -236,6 +273,8 @@ fn run_combined<
 fn print_stopped<E: Sink>(error: &mut E, stop: Option<ShardStop>, status: Status) -> Status
     ensures status { result ≡ status }
     ensures none { stop ≡ None → E.given error.new ≡ E.given error.old }
+    ensures line { (E.failures error.old < E.failures error.new)
+        ⊎ Appends (E.given error.old) (E.given error.new) (shard_lines stop) }
 {
     if let Some(met) = stop {
         let _ = print_shard(error, met.shard);
@@ -277,9 +316,10 @@ fn clips_of_shards<F: Files>(
     line: &CommandLine,
     points: SplitPoints,
 ) -> Result<Vec<Vec<Clips<F::Reader>>>, ShardsError>
-    ensures each { IfOk result (AreOfShards points) }
-    ensures files { IfOk result (λ each. files_of F.Reader.remaining each
-        ≡ contents_each (F.contents files.now) (map (λ name. name.now) line.now.files.items)) }
+    ensures each { IfOk result (λ each. AreOfShards F.Reader.remaining points
+        (contents_each (F.contents files.now) (map (λ name. name.now) line.now.files.items))
+        (map vec_items each.items)) }
+    ensures count { IfOk result (λ each. vec_len each ≡ length points + 1) }
     ensures fresh { IfOk result (λ each. All AreNew (map vec_items each.items)) }
 {
     let count = points.shard_count();

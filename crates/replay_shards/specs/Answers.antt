@@ -1,6 +1,6 @@
 -- The answers of all shards to a batch as one. That a transaction commits if all resolvers admit it is FoundationDB's. What becomes of
 -- a batch that some shard doesn't reply to is this project's own.
-use Rattle.std.specs.Prelude.{◌≡◌, ◌⊎◌, ℕ, ℤ, List, [], Option, None, Some, IfSome, IfNone, map, option_map}
+use Rattle.std.specs.Prelude.{◌≡◌, ◌⊎◌, ℕ, ℤ, List, [], Option, None, Some, IfSome, IfNone, map, option_map, ⊤, ⊥}
 use Rattle.std.specs.List.{All, Any, AllZip}
 use Rattle.keyspace.specs.declared.answer.Answer.{Answer}
 use Rattle.keyspace.specs.declared.answer.Answer.TheVariants as answer
@@ -16,8 +16,11 @@ pub record EntriesOf : Type 0 where
   pub entries : List Entry
   pub reads : Option (List (List ℕ))
 
+abbrev pub entries_in : ShardEntries → EntriesOf
+entries_in own = record { entries = own.entries.now; reads = option_map (λ reads. reads.now) own.reads }
+
 abbrev pub entries_of : List ShardEntries → List EntriesOf
-entries_of each = map (λ own. record { entries = own.entries.now; reads = option_map (λ reads. reads.now) own.reads }) each
+entries_of each = map entries_in each
 
 -- this is the reply of the shard: without a note, nothing is reported
 pub record AgreesWith (own : EntriesOf) (s : ShardReply) : Type 0 where
@@ -32,20 +35,20 @@ pub record DoFit (version : ℤ) (each : List EntriesOf) (b : Batch) (replies : 
   pub fit : All (Fits b) replies
 
 abbrev pub IsNever : Answer → Type 0
-IsNever (answer.Reply reply) = (⊥)
+IsNever (answer.Reply reply) = ⊥
 IsNever (answer.Never version) = ⊤
-IsNever (answer.Held version) = (⊥)
+IsNever (answer.Held version) = ⊥
 
 abbrev pub IsHeld : Answer → Type 0
-IsHeld (answer.Reply reply) = (⊥)
-IsHeld (answer.Never version) = (⊥)
+IsHeld (answer.Reply reply) = ⊥
+IsHeld (answer.Never version) = ⊥
 IsHeld (answer.Held version) = ⊤
 
 -- the answer is this reply
 abbrev pub Replies : Answer → EntriesOf → Type 0
 Replies (answer.Reply reply) own = reply.entries ≡ own.entries
-Replies (answer.Never version) own = (⊥)
-Replies (answer.Held version) own = (⊥)
+Replies (answer.Never version) own = ⊥
+Replies (answer.Held version) own = ⊥
 
 -- the shards have replied with these entries, beside these notes of the batch
 abbrev pub HaveReplied : List Answer → List (Option (List (List ℕ))) → List EntriesOf → Type 0

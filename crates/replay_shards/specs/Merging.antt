@@ -1,6 +1,6 @@
 -- Answers of several shards to one proxy, matched by version: the first of a version with the first, the second with the second. Their
 -- order among the answers of a shard doesn't matter. This project's own.
-use Rattle.std.specs.Prelude.{◌≡◌, ℕ, ℤ, ◌<ℤ◌, List, [], ◌∷◌, ◌++◌, length, map, flat_map, drop, Option, None, Some, int_eq, if◌then◌else◌, slice_get}
+use Rattle.std.specs.Prelude.{◌≡◌, ℕ, ℤ, ◌<ℤ◌, List, [], ◌∷◌, ◌++◌, length, map, flat_map, drop, take, min, Option, None, Some, IfSome, option_to_list, int_eq, if◌then◌else◌, slice_get, ⊤, ⊥}
 use Rattle.std.specs.List.{All, AllZip}
 use Rattle.keyspace.specs.declared.answer.Answer.{Answer}
 use Rattle.keyspace.specs.declared.batch.Batch.{Batch}
@@ -9,6 +9,7 @@ use Rattle.checking.specs.InOrder.{in_order_by}
 use Rattle.replay_output.specs.declared.line.Line.{Line}
 use Rattle.replay_output.specs.Line.{answer_of}
 use Rattle.replay_shards.specs.declared.note.Note.{Note}
+use Rattle.replay_shards.specs.declared.merging.Cursor.{Cursor}
 use Rattle.replay_shards.specs.declared.merging.ShardAnswers.{ShardAnswers}
 use Rattle.replay_shards.specs.Notes.{first_note}
 use Rattle.replay_shards.specs.Answers.{IsAnswerTogether}
@@ -42,6 +43,24 @@ pub record AreMerged (each : List (List Answer)) (notes : List (List Note)) (tog
   pub in_order : together ≡ in_order_by version_of_answer together
   pub each_version :
       (version : ℤ) (b : Batch) → b.version ≡ version → AreTogetherAt version b each notes (at_version version together)
+
+-- the answers of a shard that are left
+abbrev pub left_in : Cursor → List Answer
+left_in cursor = map answer_of (drop cursor.next cursor.lines.items)
+
+-- Answers of earlier versions were passed over, and the next one was taken if it has this version.
+pub record IsTakenAt (version : ℤ) (old new : List Answer) (taken : Option Answer) : Type 0 where
+  pub passed : List Answer
+  pub earlier : All (λ a. version_of_answer a <ℤ version) passed
+  pub rest : old ≡ passed ++ (option_to_list taken ++ new)
+  pub of_version : IfSome taken (λ a. version_of_answer a ≡ version)
+  pub none : taken ≡ None → All (λ a. ¬ (version_of_answer a ≡ version)) (take 1 new)
+
+-- the next answer of this version was taken of each shard
+abbrev pub AreTakenAt : ℤ → List (List Answer) → List (List Answer) → List Answer → Type 0
+AreTakenAt version [] [] [] = ⊤
+AreTakenAt version (old ∷ olds) (new ∷ news) (a ∷ answers) = IsTakenAt version old new (Some a) × AreTakenAt version olds news answers
+AreTakenAt version _ _ _ = ⊥
 
 -- the answer is kept beside each line
 abbrev pub KeepsAll : ShardAnswers → Type 0

@@ -1,8 +1,11 @@
 //! The answers of all shards to a batch as one.
 
-ghost use Rattle.std.specs.Prelude.{◌≡◌, IfOk, IsSome, IfSome, IsTrue, map, ◌↔◌};
+ghost use Rattle.std.specs.Prelude.{◌≡◌, ◌<◌, ◌⊎◌, IfOk, IfSome, None, length, map};
 ghost use Rattle.std.specs.List.{Any};
-ghost use Rattle.replay_shards.specs.Answers.{IsCombinedAnswer, IsHeld, IsNever};
+ghost use Rattle.keyspace.specs.declared.batch.Batch.{Batch as BatchValue};
+ghost use Rattle.replay_shards.specs.Answers.{HaveReplied, IsAnswerTogether, IsHeld, IsNever};
+ghost use Rattle.replay_shards.specs.Answers.{entries_of};
+ghost use Rattle.replay_shards.specs.Notes.{first_note};
 
 use crate::entries::{ShardEntries, combined_reply};
 use crate::note::{Note, note_of};
@@ -22,9 +25,14 @@ pub fn combined_answer(
     notes: &[Vec<Note>],
 ) -> Result<Answer, AllocError>
     requires as_many { length answers.now ≡ length notes.now }
-    ensures combined { IfOk result (IsCombinedAnswer version answers.now (map vec_items notes.now)) }
+    requires some { 0 < length answers.now }
+    ensures combined { (b : BatchValue) → b.version ≡ version → IfOk result (IsAnswerTogether b
+        answers.now (map (λ own. first_note version own.items) notes.now)) }
 {
-    if answers.iter().any(|answer| matches!(answer, Answer::Never(_))) {
+    if answers
+        .iter()
+        .any(|answer| matches!(answer, Answer::Never(_)))
+    {
         return Ok(Answer::Never(version));
     }
     let Some(each) = entries_each(alloc, version, answers, notes)? else {
@@ -44,9 +52,10 @@ fn entries_each<'a>(
     notes: &'a [Vec<Note>],
 ) -> Result<Option<Vec<ShardEntries<'a>>>, AllocError>
     requires as_many { length answers.now ≡ length notes.now }
-    ensures all { IfOk result (λ found. IfSome found (λ each.
-        AreEntriesOf version answers.now (map vec_items notes.now) (entries_of each.items))) }
-    ensures none { result ≡ Ok None → Any (λ answer. ¬ IsReply answer) answers.now }
+    ensures all { IfOk result (λ found. IfSome found (λ each. HaveReplied answers.now
+        (map (λ own. first_note version own.items) notes.now) (entries_of each.items))) }
+    ensures none { result ≡ Ok None
+        → Any (λ answer. IsNever answer ⊎ IsHeld answer) answers.now }
 {
     let mut each = Vec::with_capacity(alloc, answers.len())?;
     for (shard, answer) in answers.iter().enumerate() {

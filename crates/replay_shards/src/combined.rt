@@ -1,7 +1,9 @@
 //! What all shards have answered together.
 
-ghost use Rattle.std.specs.Prelude.{◌≡◌, ◌≤◌, IfOk, IfSome, map, vec_items, vec_len};
-ghost use Rattle.replay_output.specs.Line.{answers_of};
+ghost use Rattle.std.specs.Prelude.{◌≡◌, ◌≤◌, ◌↔◌, [], IfOk, map, true, vec_capacity, vec_items};
+ghost use Rattle.std.specs.Prelude.{vec_len};
+ghost use Rattle.std.specs.List.{All};
+ghost use Rattle.replay_output.specs.Line.{AreLines, answers_of};
 ghost use Rattle.replay_shards.specs.Combined.{AreAnswersTogether, IsFirstStop, IsFailureTogether};
 
 use crate::merging::{ShardAnswers, merge_answers};

@@ -1,31 +1,38 @@
 //! The replies of all shards to a batch as one.
 
-ghost use Rattle.std.specs.Prelude.{◌≡◌, ◌<◌, ◌↔◌, ℕ, All, Any, Contains, Some, length, slice_get};
-ghost use Rattle.std.specs.Prelude.{IfOk, IfSome, IsTrue, OnOk};
+ghost use Rattle.std.specs.Prelude.{◌≡◌, ◌<◌, ◌≤◌, ◌↔◌, ◌⊎◌, ℕ, List, All, Any, Contains, length};
+ghost use Rattle.std.specs.Prelude.{IfOk, IfSome, IsSomeAnd, OnOk};
+ghost use Rattle.std.specs.List.{AllZip};
 ghost use Rattle.std.specs.List.Sorted.{IsStrictlyIncreasing};
-ghost use Rattle.replay_shards.specs.Answers.{AreEntries, DoFit, IsEntry, IsLeastVerdict, Reports};
-ghost use Rattle.replay_shards.specs.Answers.{RepliesOf, entries_of, rank};
+ghost use Rattle.keyspace.specs.declared.batch.Batch.{Batch as BatchValue};
+ghost use Rattle.shards.specs.Combined.{FitsAt, IsCombined, IsCombinedEntry, Reports, rank};
+ghost use Rattle.shards.specs.declared.shard_reply.ShardReply.{ShardReply};
+ghost use Rattle.replay_shards.specs.Answers.{AgreesWith, DoFit, entries_in, entries_of};
 
 use keyspace::{Entry, Places, Reply, Sequence, Verdict};
 use shards::ReadIndices;
 use std::alloc::{AllocError, Global};
 
 /// The reply of one shard, with the original indices of its read ranges, if the batch has a note.
+#[derive(Clone, Copy)]
 pub struct ShardEntries<'a> {
     pub entries: &'a [Entry],
     pub reads: Option<&'a ReadIndices>,
 }
 
-/// Combines the replies of all shards to the batch of this version, or returns none if they are
-/// replies to different batches. An error is that memory was refused.
+/// Combines the replies of all shards to the batch of this version, as [`combine`](shards::combine)
+/// does, or returns none if they are replies to different batches. An error is that memory was
+/// refused.
 pub fn combined_reply(
     alloc: Global,
     version: i64,
     each: &[ShardEntries],
 ) -> Result<Option<Reply>, AllocError>
-    ensures combined { IfOk result (λ reply. IfSome reply
-        (λ reply. (reply.version ≡ version) × AreEntries (entries_of each.now) reply.entries)) }
-    ensures none { result ≡ Ok None → ¬ DoFit (entries_of each.now) }
+    requires some { 0 < length each.now }
+    ensures combined { (b : BatchValue) (replies : List ShardReply)
+        → DoFit version (entries_of each.now) b replies
+        → IfOk result (λ found. IsSomeAnd found (IsCombined b replies)) }
+    ensures version { IfOk result (λ found. IfSome found (λ reply. reply.version ≡ version)) }
 {
     let Some(first) = each.first() else {
         return Ok(None);
@@ -51,8 +58,9 @@ fn combined_entry(
     index: usize,
 ) -> Result<Option<Entry>, AllocError>
     requires within { All (λ own. index < length own.entries) (entries_of each.now) }
-    ensures entry { IfOk result (λ found. IfSome found (IsEntry (entries_of each.now) index)) }
-    ensures none { result ≡ Ok None → ¬ DoFit (entries_of each.now) }
+    ensures entry { (replies : List ShardReply) → AllZip AgreesWith (entries_of each.now) replies
+        → All (FitsAt index) replies
+        → IfOk result (λ found. IsSomeAnd found (IsCombinedEntry replies index)) }
 {
     let mut least = Verdict::Committed;
     let mut is_reported = false;
@@ -91,9 +99,9 @@ fn united_places(
 ) -> Result<Option<Places>, AllocError>
     requires within { All (λ own. index < length own.entries) (entries_of each.now) }
     ensures rising { IfOk result (λ found. IfSome found IsStrictlyIncreasing) }
-    ensures union { IfOk result (λ found. IfSome found (λ places. (read : ℕ)
-        → Contains places read ↔ Any (Reports index read) (entries_of each.now))) }
-    ensures none { result ≡ Ok None → ¬ DoFit (entries_of each.now) }
+    ensures union { (replies : List ShardReply) → AllZip AgreesWith (entries_of each.now) replies
+        → All (FitsAt index) replies → IfOk result (λ found. IsSomeAnd found (λ places.
+        (read : ℕ) → Contains places read ↔ Any (Reports index read) replies)) }
 {
     let mut places = Vec::new(alloc);
     for own in each {
@@ -115,8 +123,9 @@ fn put_reported(
     reported: &[u16],
     places: &mut Vec<u16>,
 ) -> Result<bool, AllocError>
-    ensures put { OnOk result (result ≡ Ok true → (read : ℕ) → Contains places.new.items read
-        ↔ (Contains places.old.items read ⊎ Reports index read (RepliesOf own.now))) }
+    ensures put { (s : ShardReply) → AgreesWith (entries_in own.now) s → FitsAt index s
+        → OnOk result ((result ≡ Ok true) × ((read : ℕ) → Contains places.new.items read
+        ↔ (Contains places.old.items read ⊎ Reports index read s))) }
 {
     let Some(reads) = own.reads else {
         return Ok(false);

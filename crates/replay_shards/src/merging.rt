@@ -1,10 +1,15 @@
 //! The answers of all shards to one proxy, version by version.
 
-ghost use Rattle.std.specs.Prelude.{◌≡◌, ◌≤◌, ◌++◌, ◌∷◌, [], IfOk, IfSome, OnOk, map, vec_len};
+ghost use Rattle.std.specs.Prelude.{◌≡◌, ◌≤◌, ◌∷◌, [], ℕ, List, IfOk, IfSome, OnOk, map, take};
+ghost use Rattle.std.specs.Prelude.{vec_items, vec_len};
 ghost use Rattle.std.specs.List.{All, AllZip};
-ghost use Rattle.replay_output.specs.Line.{answers_of, version_of_line, IsLineOf};
+ghost use Rattle.keyspace.specs.declared.answer.Answer.{Answer as AnswerValue};
+ghost use Rattle.keyspace.specs.Answer.{version_of_answer};
+ghost use Rattle.replay_output.specs.Line.{answers_of, IsLineOf};
 ghost use Rattle.checking.specs.InOrder.{in_order_by};
-ghost use Rattle.replay_shards.specs.Merging.{AreMerged, KeepsAll, left_in};
+ghost use Rattle.replay_shards.specs.Merging.{AreMerged, AreTakenAt, IsTakenAt, KeepsAll};
+ghost use Rattle.replay_shards.specs.Merging.{answers_each, left_in, notes_each};
+ghost use Rattle.replay_shards.specs.Notes.{version_of_note};
 
 use crate::answer::combined_answer;
 use crate::note::Note;
@@ -63,9 +68,11 @@ pub fn merge_answers(
     requires empty { lines.old.items ≡ [] }
     requires kept { All KeepsAll each.items }
     ensures lines { All (IsLineOf style proxy) lines.new.items }
-    ensures merged { OnOk result (AreMerged each.items (answers_of lines.new.items)) }
-    ensures beginning { (n : ℕ) × (all : List AnswerValue) × AreMerged each.items all
-        × (answers_of lines.new.items ≡ take n all) }
+    ensures merged { OnOk result (AreMerged (answers_each each.items) (notes_each each.items)
+        (answers_of lines.new.items)) }
+    ensures beginning { (all : List AnswerValue)
+        × AreMerged (answers_each each.items) (notes_each each.items) all
+        × ((n : ℕ) × (answers_of lines.new.items ≡ take n all)) }
 {
     let (mut cursors, notes) = sorted_each(alloc, each)?;
     let Some((first, others)) = cursors.split_first_mut() else {
@@ -94,7 +101,7 @@ fn sorted_each(
     each: Vec<ShardAnswers>,
 ) -> Result<(Vec<Cursor>, Vec<Vec<Note>>), AllocError>
     ensures cursors { IfOk result (λ sorted. map left_in sorted.0.items
-        ≡ map (λ own. in_order_by version_of_line own.lines.items) each.items) }
+        ≡ map (in_order_by version_of_answer) (answers_each each.items)) }
     ensures notes { IfOk result (λ sorted. map vec_items sorted.1.items
         ≡ map (λ own. in_order_by version_of_note own.notes.items) each.items) }
 {
@@ -123,7 +130,11 @@ fn answers_at(
     version: i64,
     first: Answer,
     others: &mut [Cursor],
-) -> Result<Option<Vec<Answer>>, AllocError> {
+) -> Result<Option<Vec<Answer>>, AllocError>
+    ensures all { IfOk result (λ found. IfSome found (λ answers. (rest : List AnswerValue)
+        × (answers.items ≡ first ∷ rest)
+        × AreTakenAt version (map left_in others.old) (map left_in others.new) rest)) }
+{
     let mut answers = Vec::with_capacity(alloc, others.len() + 1)?;
     answers.push_reserved(first);
     for other in others.iter_mut() {

@@ -1,8 +1,8 @@
 //! What is kept beside the clip of a batch, so that reports get the indices of the original batch.
 
-ghost use Rattle.std.specs.Prelude.{◌≡◌, IfSome, IsTrue, None, ◌↔◌};
-ghost use Rattle.std.specs.List.{Any};
-ghost use Rattle.replay_shards.specs.Notes.{HasNote, first_note, requests_report, version_of_note};
+ghost use Rattle.std.specs.Prelude.{◌≡◌, IfSome, None, Some, list_any};
+ghost use Rattle.checking.specs.InOrder.{Rise};
+ghost use Rattle.replay_shards.specs.Notes.{first_note, requests_report, version_of_note};
 
 use checking::Versioned;
 use keyspace::Batch;
@@ -27,7 +27,7 @@ impl Versioned for Note {
 
 /// Returns whether some transaction of the batch requests a report.
 pub fn requests_report(batch: &Batch) -> bool
-    ensures some { IsTrue result ↔ Any requests_report batch.now.txns }
+    ensures some { result ≡ list_any requests_report batch.now.txns }
 {
     for index in 0..batch.txns.len() {
         if batch.txns.txn(index).marked {
@@ -40,6 +40,7 @@ pub fn requests_report(batch: &Batch) -> bool
 /// Returns the indices of the first batch of this version, if it has a note. The notes are in the
 /// order of their versions.
 pub fn note_of(notes: &[Note], version: i64) -> Option<&ReadIndices>
+    requires in_order { Rise version_of_note notes.now }
     ensures first { IfSome result (λ reads. first_note version notes.now ≡ Some reads.now) }
     ensures none { result ≡ None → first_note version notes.now ≡ None }
 {

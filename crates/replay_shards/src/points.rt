@@ -1,8 +1,8 @@
 //! Split points as lines of a file.
 
-ghost use Rattle.std.specs.Prelude.{◌≡◌, ◌<◌, ◌⊎◌, IfOk, IfSome, OnOk, string_bytes};
-ghost use Rattle.std.specs.Io.KnownBytes.{Appends, IsAtEnd};
+ghost use Rattle.std.specs.Prelude.{◌≡◌, ◌+◌, IfOk, IfSome, length};
 ghost use Rattle.replay_shards.specs.Points.{ArePointLines};
+ghost use Rattle.replay_shards.specs.declared.points.PointsError.TheVariants.{Memory};
 
 use json_lines::{Cause, Refusal, read_key};
 use keys::Key;

@@ -1,10 +1,9 @@
 //! The runs of all shards, each in its own thread.
 
-ghost use Rattle.std.specs.Prelude.{◌≡◌, ◌≤◌, IfErr, IfOk, IfSome, Option, map, vec_items, vec_len};
-ghost use Rattle.std.specs.List.{All, AllZip};
+ghost use Rattle.std.specs.Prelude.{◌≡◌, ◌≤◌, IfErr, IfOk, map, vec_items, vec_len};
+ghost use Rattle.std.specs.List.{All};
 ghost use Rattle.resolver.specs.declared.resolver_core.TheConstants.{MAX_PROXIES};
-ghost use Rattle.replay_shards.specs.Runs.{AreRuns, IsRunOfShard};
-ghost use Rattle.replay_shards.specs.Clips.{bytes_left, shard_of_clips};
+ghost use Rattle.replay_shards.specs.Runs.{AreNew, AreRuns, IsRunOfShard};
 
 use crate::clips::Clips;
 use replay_output::{Form, Line, Options, ProxyFailure, StartError, Style};

@@ -1,6 +1,7 @@
 //! Split points by the first batches of files.
 
-ghost use Rattle.std.specs.Prelude.{◌≡◌, ◌≤◌, IfOk, length, vec_len};
+ghost use Rattle.std.specs.Prelude.{◌≡◌, ◌≤◌, ◌+◌, IfOk, List, length, vec_len};
+ghost use Rattle.keyspace.specs.declared.batch.Batch.{Batch as BatchValue};
 ghost use Rattle.shards.specs.Balanced.{begins_of, IsBalanced};
 ghost use Rattle.shards.specs.declared.split_points.TheConstants.{MAX_SPLIT_POINTS};
 

@@ -114,6 +114,10 @@ impl Files for Shelf {
 
     ghost lacks_memory = { λ _ _. ⊤ };
 
+    ghost is_regular = { λ _ _. ⊤ };
+
+    ghost is_irregular = { λ _ _. ⊤ };
+
     ghost begun = { λ _ _. Some [] };
 
     ghost has_created = { λ _ _. ⊤ };
@@ -126,6 +130,10 @@ impl Files for Shelf {
         };
         let bytes = bytes.clone().map_err(|_| FileError::Memory)?;
         Ok(StdSource::new(Recorded(Cursor::new(bytes))))
+    }
+
+    fn is_regular(&self, name: &str) -> bool {
+        self.files.iter().any(|(known, _)| *known == name)
     }
 
     fn create(&self, _name: &str) -> Result<StdSink<Vec<u8>>, FileError> {

@@ -59,7 +59,7 @@ fn connect(alloc: Global) -> Result<Connected, Unmade> {
 
 // Writes what a worker returns: the lines of its answers, whether one was lost, the fault of its
 // file and the batch unsent.
-fn handed_back(alloc: Global, finished: &Finished) -> Result<String, Unmade> {
+fn handed_back<B>(alloc: Global, finished: &Finished<B>) -> Result<String, Unmade> {
     let mut out = StdSink::new(Vec::new(alloc));
     for line in &finished.lines {
         line.text.print(&mut out).map_err(|_failed| Unmade::Memory)?;

@@ -1,6 +1,6 @@
 //! The opening of the program's files.
 
-ghost use Rattle.std.specs.Prelude.{◌≡◌, ◌↔◌, ℕ, List, Option, IfOk, IsTrue, OnOk};
+ghost use Rattle.std.specs.Prelude.{◌≡◌, ℕ, List, Option, IfOk, OnOk, false, true};
 
 use wire::{Sink, Source};
 
@@ -37,6 +37,9 @@ pub trait Files {
     // The name is that of a regular file: each opening gives its bytes from the beginning.
     ghost is_regular: { Self → List ℕ → Type 0 };
 
+    // The name is that of no regular file.
+    ghost is_irregular: { Self → List ℕ → Type 0 };
+
     // The bytes that a new writer of the file of this name was given, if they are reported.
     ghost begun: { Self → List ℕ → Option (List ℕ) };
 
@@ -57,7 +60,8 @@ pub trait Files {
     /// Returns whether the name is that of a regular file, which can be opened several times, and not
     /// that of a pipe, of a folder, or of no file.
     fn is_regular(&self, name: &str) -> bool
-        ensures regular { IsTrue result ↔ is_regular self.now name.now };
+        ensures regular { result ≡ true → is_regular self.now name.now }
+        ensures irregular { result ≡ false → is_irregular self.now name.now };
 
     /// Opens the file of this name, to be written from its beginning. Creates it, if there is none.
     fn create(&self, name: &str) -> Result<Self::Writer, FileError>

@@ -53,7 +53,7 @@ pub fn run_in<R: Threads + Wait + Copy + Send + 'static, V: Env, F: Files, O: Si
         (written (O.given out.old) (O.given out.new) (O.failures out.old) (O.failures out.new))
         (written (E.given error.old) (E.given error.new) (E.failures error.old) (E.failures error.new))
         ⊎ ((words : List (List ℕ)) × IsFailed (state_by F.Writer.given F.Writer.failures)
-        (F.has_opened files.now) (F.cannot_open files.now) (F.contents files.now)
+        (F.is_regular files.now) (F.is_irregular files.now) (F.has_opened files.now) (F.cannot_open files.now) (F.contents files.now)
         (F.has_created files.now) (F.cannot_create files.now) (F.begun files.now) words
         result.recorders.items
         (written (O.given out.old) (O.given out.new) (O.failures out.old) (O.failures out.new))
