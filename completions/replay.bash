@@ -29,7 +29,7 @@ _replay() {
         :
     elif [[ ! $ended && $current == -* ]]; then
         case $command in
-            '') wanted='--capacity --window --limit --frames --json --quiet --only --versions --summary --check --stream --replies -h --help -V --version' ;;
+            '') wanted='--capacity --window --limit --frames --json --quiet --only --versions --explain --summary --check --stream --replies -h --help -V --version' ;;
             *) wanted=OTHER ;;
         esac
     else

@@ -20,6 +20,7 @@ def replay_outcome(
     replies: Sequence[bytes] | None = None,
     shown: Filter = ALL_LINES,
     is_summary: bool = False,
+    explains: bool = False,
 ) -> Outcome | None:
     """Returns what `replay` prints for these files, or nothing if the run would meet a stop."""
     recorded, replies_faults = [], []
@@ -31,7 +32,7 @@ def replay_outcome(
         return Outcome(1, b"", fault_lines(replies_faults, "replies").splitlines(keepends=True)[0].encode())
     batches, faults = zip(*(frames(content, read_batch) for content in files))
     try:
-        answers = resolve(batches, window)
+        answers = resolve(batches, window, explains)
     except Unspecified:
         return None
     if is_summary:

@@ -8,6 +8,7 @@ from bisect import bisect_left, bisect_right
 from collections.abc import Sequence
 from dataclasses import dataclass, field
 
+from .explaining import Explainer
 from .lines import entry_json
 from .wire import Batch, Entry, Range, Reply, Txn, reply_frame
 
@@ -25,6 +26,8 @@ class Answer:
     # `never` or `held` if there is no reply.
     reply: Reply | None
     word: str = ""
+    # The lines that explain the rejections of a reply.
+    note: str = ""
 
 
 @dataclass(frozen=True)
@@ -79,6 +82,8 @@ class Resolver:
     held: list[tuple[int, Batch]] = field(default_factory=list)
     kept: dict[tuple[int, int], Reply] = field(default_factory=dict)
     answers: dict[int, list[Answer]] = field(default_factory=dict)
+    explainer: Explainer | None = None
+    notes: dict[tuple[int, int], str] = field(default_factory=dict)
 
     def admit(self, proxy: int, batch: Batch) -> None:
         """Takes a batch, and each held one that is due after it."""
@@ -112,10 +117,13 @@ class Resolver:
             if other == proxy and version <= batch.received:
                 del self.kept[other, version]
         self.kept[proxy, batch.version] = reply
+        if self.explainer is not None:
+            self.notes[proxy, batch.version] = self.explainer.process(proxy, batch, reply)
         self.answer(proxy, batch.version, reply)
 
     def answer(self, proxy: int, version: int, reply: Reply | None, word: str = "") -> None:
-        self.answers.setdefault(proxy, []).append(Answer(version, reply, word))
+        note = "" if reply is None else self.notes.get((proxy, version), "")
+        self.answers.setdefault(proxy, []).append(Answer(version, reply, word, note))
 
     def judge(self, batch: Batch) -> Reply:
         edge = max(0, batch.version - self.window)
@@ -146,9 +154,9 @@ class Resolver:
         self.held.clear()
 
 
-def resolve(files: Sequence[Sequence[Batch]], window: int = WINDOW) -> list[list[Answer]]:
+def resolve(files: Sequence[Sequence[Batch]], window: int = WINDOW, explains: bool = False) -> list[list[Answer]]:
     """Returns the answers to each proxy, sorted by version. The files are read in sequence."""
-    resolver = Resolver(window)
+    resolver = Resolver(window, explainer=Explainer(window) if explains else None)
     for proxy, batches in enumerate(files):
         for batch in batches:
             resolver.admit(proxy, batch)
@@ -163,7 +171,7 @@ def words_of(reply: Reply) -> str:
 
 
 def line_of(proxy: int, answer: Answer, form: str) -> str:
-    """Returns the line of an answer: in the form `words`, `frames` or `json`."""
+    """Returns the line of an answer, and what explains it: in the form `words`, `frames` or `json`."""
     if form == "json":
         body = f'"answer":"{answer.word}"'
         if answer.reply is not None:
@@ -172,7 +180,7 @@ def line_of(proxy: int, answer: Answer, form: str) -> str:
     if answer.reply is None:
         return f"{proxy} {answer.version} {answer.word}\n"
     shown = reply_frame(answer.reply).hex() if form == "frames" else words_of(answer.reply)
-    return f"{proxy} {answer.version} {shown}\n"
+    return f"{proxy} {answer.version} {shown}\n{answer.note}"
 
 
 def lines_of(answers: Sequence[Sequence[Answer]], form: str, shown: Filter = ALL_LINES) -> str:

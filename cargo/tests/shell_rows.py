@@ -19,6 +19,14 @@ BATCHES: dict[str, Parts] = {
     "late": (*(f"{version - 1}>{version}" for version in range(20, 36)), "-1>0"),
     "empty": (),
     "overtaken": ("-1>0", "150>300", "100>200: W[a,b)", "0>100"),
+    "rejected": (
+        "-1>0",
+        "0>100: W[k]; W[j,l); W[\\x01\"]",
+        "100>200 received 0: m R[x] R[k] @50; R[\\x01\"] @50; W[k] @200; R[k] @200; R[a,z) @0",
+        "100>200",
+        "50>150",
+        "0>100",
+    ),
     "again": ("-1>0", "0>100: W[a,b)", "0>100: W[a,b)", "-1>0", "0>100: W[a,b)"),
     "--frames": (FIRST_RUN,),
     "n\u00e4me of words": (FIRST_RUN,),
@@ -280,7 +288,41 @@ SUMMARIES = (
     ShellRow(("--summary", "first", "none"), "", "replay: proxy 1: cannot open\n", 1),
 )
 
-ROWS = ANSWERS + FAILURES + CHECKS + STREAMS + RECORDS + FILTERS + ARGUMENTS + SUMMARIES
+# The lines that explain the rejections of some batches.
+SECOND_EXPLAINED = '  txn 0 read 0 ["a","b") conflicts with write ["a","b") of proxy 0, version 100, txn 0 (history)\n'
+HELD_EXPLAINED = '  txn 0 read 0 ["a","b") conflicts with write ["a","b") of proxy 1, version 100, txn 0 (history)\n'
+TOO_OLD_EXPLAINED = "  txn 0 too old: snapshot 99, oldest readable version 100\n"
+REJECTED = (
+    "0 200 conflict:1 conflict committed conflict conflict\n"
+    '  txn 0 read 1 ["k","k\\x00") conflicts with write ["j","l") of proxy 0, version 100, txn 1 (history), and 1 more\n'
+    '  txn 1 read 0 ["\\x01"","\\x01"\\x00") conflicts with write ["\\x01"","\\x01"\\x00") of proxy 0, version 100, txn 2 (history)\n'
+    '  txn 3 read 0 ["k","k\\x00") conflicts with write ["k","k\\x00") of proxy 0, version 200, txn 2 (same batch)\n'
+    '  txn 4 read 0 ["a","z") conflicts with write ["k","k\\x00") of proxy 0, version 200, txn 2 (same batch), and 2 more\n'
+)
+THREE = "0 100 committed committed committed\n"
+EXPLAINS = (
+    ShellRow(("--explain", "first"), FIRST),
+    ShellRow(("first", "second", "--explain"), FIRST + "1 200 conflict\n" + SECOND_EXPLAINED),
+    ShellRow(("--explain", "second", "first"), "0 200 conflict\n" + HELD_EXPLAINED + "1 0 empty\n1 100 committed\n"),
+    ShellRow(("--explain", "conflict"), FIRST + "0 101 conflict committed\n" + SECOND_EXPLAINED),
+    ShellRow(("--explain", "--window", "1", "conflict"), FIRST + "0 101 tooold committed\n" + TOO_OLD_EXPLAINED),
+    # A repeat has the same lines again. One whose reply is no longer kept has none.
+    ShellRow(("--explain", "rejected"), "0 0 empty\n" + 2 * THREE + "0 150 never\n" + 2 * REJECTED),
+    ShellRow(("--explain", "overtaken"), "0 0 empty\n0 100 empty\n0 200 committed\n0 300 never\n"),
+    ShellRow(("--explain", "second", "third"), "0 200 held\n1 300 held\n"),
+    ShellRow(("--explain", "empty"), ""),
+    # What isn't shown isn't explained.
+    ShellRow(("--explain", "--only", "committed", "first", "second"), "0 100 committed\n"),
+    ShellRow(("--explain", "--only", "conflict", "first", "second"), "1 200 conflict\n" + SECOND_EXPLAINED),
+    ShellRow(("--versions", "200..", "--explain", "first", "second"), "1 200 conflict\n" + SECOND_EXPLAINED),
+    ShellRow(("--versions", "..200", "--explain", "first", "second"), FIRST),
+    ShellRow(("--explain", "--quiet", "first", "second"), ""),
+    ShellRow(("--explain", "cut"), "0 0 empty\n", SHORT, 1),
+    ShellRow(("--explain", "writes", "--limit", "3"), FIRST, "replay: stop 3 ArenaFull\n", 1),
+    ShellRow(("--explain", "first", "none"), "", "replay: proxy 1: cannot open\n", 1),
+)
+
+ROWS = ANSWERS + FAILURES + CHECKS + STREAMS + RECORDS + FILTERS + ARGUMENTS + SUMMARIES + EXPLAINS
 
 # Refused with status 2 and a text of `clap` on standard error. Nothing is on standard output.
 REFUSED: tuple[tuple[str | bytes, ...], ...] = (
@@ -367,6 +409,16 @@ REFUSED: tuple[tuple[str | bytes, ...], ...] = (
     ("--versions", "..", "--check", "same", "first"),
     ("--quiet", "--json", "--frames", "first"),
     ("--quiet", "--replies", "out", "first"),
+    ("--explain",),
+    ("--explain", "--explain", "first"),
+    ("--explain=yes", "first"),
+    ("--explain", "--check", "same", "first"),
+    ("--explain", "--stream", "first"),
+    ("--explain", "--stream", "--replies", "out", "first"),
+    ("--explain", "--replies", "out", "first"),
+    ("--explain", "--frames", "first"),
+    ("--explain", "--json", "first"),
+    ("--explain", "--summary", "first"),
     ("--summary",),
     ("--summary", "--summary", "first"),
     ("--summary=yes", "first"),

@@ -7,7 +7,7 @@
 
 mod unobserved;
 
-ghost use Rattle.std.specs.Prelude.{◌≡◌, ◌++◌, ◌∷◌, [], List, length, OnErr, OnOk};
+ghost use Rattle.std.specs.Prelude.{◌≡◌, ℤ, ◌++◌, ◌∷◌, [], List, length, OnErr, OnOk};
 ghost use Rattle.keyspace.specs.Processed.{Processed};
 
 use keyspace::{Batch, Reply};
@@ -19,6 +19,9 @@ pub trait Observer {
     // What is true of an observer that saw these batches, in the order of processing, and no others.
     ghost has_seen: { Self → List Processed → Type 0 };
 
+    // What stays the same of an observer, whatever it sees.
+    ghost setting: { Self → ℤ };
+
     /// Sees a batch that was just processed, with the number of the proxy that sent it, and its
     /// reply. If memory is refused, the observer has seen no more than before.
     fn see(&mut self, proxy: usize, batch: Batch, reply: &Reply) -> Result<(), AllocError>
@@ -26,5 +29,6 @@ pub trait Observer {
         ensures seen { OnOk result ((ps : List Processed) → has_seen self.old ps
             → has_seen self.new (ps ++ record { proxy = proxy; batch = batch; reply = reply.now } ∷ [])) }
         ensures unseen { OnErr result ((ps : List Processed) → has_seen self.old ps
-            → has_seen self.new ps) };
+            → has_seen self.new ps) }
+        ensures setting { setting self.new ≡ setting self.old };
 }

@@ -4,3 +4,4 @@ pub mod Filters
 pub mod Refusals
 pub mod Summaries
 pub mod Openings
+pub mod Explaining

@@ -61,6 +61,9 @@ only_rule = record (new_rule (codes "only")) { long = Some (codes "only"); value
 abbrev pub versions_rule : Rule
 versions_rule = record (new_rule (codes "versions")) { long = Some (codes "versions"); value_names = 1 }
 
+abbrev pub explain_rule : Rule
+explain_rule = record (new_rule (codes "explain")) { long = Some (codes "explain"); action = Some SetTrue }
+
 abbrev pub summary_rule : Rule
 summary_rule = record (new_rule (codes "summary")) { long = Some (codes "summary"); action = Some SetTrue }
 
@@ -90,14 +93,14 @@ file_rule = record (new_rule (codes "FILE")) { action = Some Append; required = 
 abbrev pub plain_app : App
 plain_app = new_app (codes "replay")
 
--- `replay [--capacity N] [--window N] [--limit N] [--frames] [--json] [--quiet] [--only VERDICT] [--versions A..B] [--summary]
--- [--check REPLIES].. [--stream] [--replies OUT].. FILE..`, with `--help` and `--version`
+-- `replay [--capacity N] [--window N] [--limit N] [--frames] [--json] [--quiet] [--only VERDICT] [--versions A..B] [--explain]
+-- [--summary] [--check REPLIES].. [--stream] [--replies OUT].. FILE..`, with `--help` and `--version`
 unfoldable pub replay_app : App
 replay_app =
     with_rule (with_rule (with_rule (with_rule (with_rule (with_rule (with_rule (with_rule (with_rule (with_rule (with_rule (with_rule
-    (with_rule (record plain_app { top = record plain_app.top { has_version = true } })
+    (with_rule (with_rule (record plain_app { top = record plain_app.top { has_version = true } })
     capacity_rule) window_rule) limit_rule) frames_rule) json_rule) quiet_rule) only_rule) versions_rule)
-    summary_rule) check_rule) stream_rule) replies_rule) file_rule
+    explain_rule) summary_rule) check_rule) stream_rule) replies_rule) file_rule
 
 abbrev pub is_frames : Form → Bool
 is_frames Frames = true
@@ -316,13 +319,29 @@ pub record IsAlone (rows : List Row) : Type 0 where
 abbrev pub HasSummary : List Row → Type 0
 HasSummary rows = (asked : Bool) × (one_of (codes "summary") rows ≡ Some (bool_text asked)) × (asked ≡ true → IsAlone rows)
 
+-- whether rejections are found to be explained
+abbrev pub HoldsExplain : List Row → Bool → Type 0
+HoldsExplain rows explains = one_of (codes "explain") rows ≡ Some (bool_text explains)
+
+-- the answers are found to be printed by lines of words, once all was resolved
+pub record IsPlain (rows : List Row) : Type 0 where
+  pub frames : one_of (codes "frames") rows ≡ Some (bool_text false)
+  pub json : one_of (codes "json") rows ≡ Some (bool_text false)
+  pub check : is_some (all_of (codes "check") rows) ≡ false
+  pub stream : HoldsStream rows false
+  pub summary : one_of (codes "summary") rows ≡ Some (bool_text false)
+
+-- rejections are found to be explained or not, and if they are, by lines among lines of words
+abbrev pub HasExplain : List Row → Type 0
+HasExplain rows = (explains : Bool) × HoldsExplain rows explains × (explains ≡ true → IsPlain rows)
+
 -- the arguments that are found are of no use: two forms, a filter that is none or beside a comparison, a number out of its range, no files
 -- or too many, other than one file of replies a file, standard input twice, answers that are to be compared as they come, other than one
--- file for records a file, or a summary beside another option that says what to print
+-- file for records a file, a summary beside another option that says what to print, or explanations without lines of words
 abbrev pub IsOfNoUse : List Row → Type 0
 IsOfNoUse rows = (¬ HasForm rows)
     ⊎ ((¬ HasNumbers rows) ⊎ ((¬ HasFiles rows) ⊎ ((¬ HasRepliesEach rows) ⊎ ((¬ HasInputOnce rows)
-    ⊎ ((¬ HasStream rows) ⊎ ((¬ HasRecordsEach rows) ⊎ ((¬ HasFilter rows) ⊎ (¬ HasSummary rows))))))))
+    ⊎ ((¬ HasStream rows) ⊎ ((¬ HasRecordsEach rows) ⊎ ((¬ HasFilter rows) ⊎ ((¬ HasSummary rows) ⊎ (¬ HasExplain rows)))))))))
 
 -- The words are mistaken: `clap` finds a mistake, or else the arguments that it finds are of no use.
 abbrev pub IsMistaken : List (List ℕ) → Type 0

@@ -9,10 +9,11 @@ ghost use Rattle.replay_arguments.specs.Words.{HoldsNumbers};
 ghost use Rattle.replay_arguments.specs.Words.{HoldsOptions, IsFormOf, IsMistaken, IsRefusalBy};
 ghost use Rattle.replay_arguments.specs.Words.{IsRefusalOf, IsTaken, faults_of, rows_of_words};
 ghost use Rattle.replay_arguments.specs.Words.{HasRecords, HasStream, HoldsStream, HoldsSummary};
-ghost use Rattle.replay_arguments.specs.Words.{IsAlone, named};
+ghost use Rattle.replay_arguments.specs.Words.{HoldsExplain, IsAlone, IsPlain, named};
 ghost use Rattle.clap.specs.declared.error.kind.ErrorKind.{ErrorKind};
 ghost use Rattle.replay_output.specs.declared.options.form.Form.{Form as FormValue};
 
+use crate::arguments::explaining::explains;
 use crate::arguments::filtering::filter_of;
 use crate::arguments::input::has_input_once;
 use crate::arguments::summary::summary_of;
@@ -24,6 +25,7 @@ use resolver::MAX_PROXIES;
 use std::alloc::{AllocError, Global};
 
 mod command;
+mod explaining;
 mod filtering;
 mod input;
 mod refusal;
@@ -47,6 +49,8 @@ pub struct CommandLine<'a> {
     pub records: Vec<&'a str>,
     /// The form of the summary that is printed in place of answers, if one is requested.
     pub summary: Option<SummaryForm>,
+    /// Rejections are explained.
+    pub explains: bool,
     pub options: Options,
 }
 
@@ -79,6 +83,10 @@ pub fn read_words<'a>(alloc: Global, words: &'a [String]) -> Result<CommandLine<
         (rows_of_words (map string_bytes words.entry.now)) line.options.style.form line.summary) }
     ensures alone { IfOk result (λ line. is_some line.summary ≡ true
         → IsAlone (rows_of_words (map string_bytes words.entry.now))) }
+    ensures explains { IfOk result (λ line.
+        HoldsExplain (rows_of_words (map string_bytes words.entry.now)) line.explains) }
+    ensures explained_plain { IfOk result (λ line. line.explains ≡ true
+        → IsPlain (rows_of_words (map string_bytes words.entry.now))) }
     ensures taken { OnOk result (IsTaken (map string_bytes words.entry.now)) }
     ensures shown { (text : _) → result ≡ Err (Refusal.Shown text)
         → AsksForText (map string_bytes words.entry.now) }
@@ -118,12 +126,18 @@ pub fn read_words<'a>(alloc: Global, words: &'a [String]) -> Result<CommandLine<
             "--summary is wanted without --check, --stream, --frames, --quiet, --only and --versions";
         return Err(refuse(alloc, ErrorKind::ArgumentConflict, message)?);
     };
+    let Some(explains) = explains(&matches, form, is_streamed, summary) else {
+        let message =
+            "--explain is wanted without --check, --stream, --summary, --frames and --json";
+        return Err(refuse(alloc, ErrorKind::ArgumentConflict, message)?);
+    };
     Ok(CommandLine {
         files: Vec::from_slice(alloc, files)?,
         replies,
         is_streamed,
         records,
         summary,
+        explains,
         options,
     })
 }

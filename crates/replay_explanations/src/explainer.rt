@@ -76,6 +76,8 @@ impl Explainer {
 impl Observer for Explainer {
     ghost has_seen = { HasExplained };
 
+    ghost setting = { λ e. e.history.window };
+
     fn see(&mut self, proxy: usize, batch: Batch, reply: &Reply) -> Result<(), AllocError> {
         if self.has_failed {
             return Err(AllocError);

@@ -5,3 +5,5 @@ pub mod Writers
 pub mod Programs
 pub mod ReadingReplies
 pub mod KeptReplies
+pub mod Noting
+pub mod Explaining

@@ -15,10 +15,12 @@ use Rattle.replay_output.specs.declared.status.Status.TheVariants.{Done, Failed,
 use Rattle.replay_arguments.specs.Opening.{IsFirstRefused, contents_each, creating_line, opening_line}
 use Rattle.replay_program.specs.Program.{
   AsksToCheck,
+  AsksToExplain,
   AsksToReplay,
   AsksToStream,
   AsksToSummarize,
   ChecksFiles,
+  FailsOnExplaining,
   FailsOnFiles,
   FailsOnStream,
   FailsOnSummary,
@@ -29,6 +31,7 @@ use Rattle.replay_program.specs.Program.{
   StreamsFiles,
   Told,
 }
+use Rattle.replay_program.specs.Explained.{IsExplained}
 use Rattle.replay_program.specs.Replayed.{HasFailed, IsReplayed, IsSummarized, Took, Written}
 use Rattle.replay_output.specs.Quieted.{quieted}
 use Rattle.replay_output.specs.Start.{start_line}
@@ -62,6 +65,15 @@ module _ (has_opened cannot_open : List ℕ → Type 0) (contents : List ℕ →
   fails_on_files options names (opening.CannotOpen proxy) first nothing told =
       inl (record { proxy = proxy; first = first proxy refl; nothing_printed = nothing; told = told })
   fails_on_files options names opening.Memory first nothing told =
+      inr (inl (record { cause = start.Memory; nothing_printed = nothing; told = told }))
+
+  pub fails_on_explaining : (options : Options) (names : List (List ℕ)) (cause : OpeningError)
+      → ((proxy : ℕ) → cause ≡ opening.CannotOpen proxy → IsFirstRefused has_opened cannot_open names proxy)
+      → out.after ≡ out.before → Told error (opening_line cause)
+      → FailsOnExplaining has_opened cannot_open contents options names out error
+  fails_on_explaining options names (opening.CannotOpen proxy) first nothing told =
+      inl (record { proxy = proxy; first = first proxy refl; nothing_printed = nothing; told = told })
+  fails_on_explaining options names opening.Memory first nothing told =
       inr (inl (record { cause = start.Memory; nothing_printed = nothing; told = told }))
 
   pub fails_on_summary : (form : SummaryForm) (options : Options) (names : List (List ℕ)) (cause : OpeningError)
@@ -231,10 +243,28 @@ module _ (has_opened cannot_open : List ℕ → Type 0) (contents : List ℕ →
         → status ≢ Usage → status ≢ Differs → Ends
     ends_summarized form options names asked done quiet failed ends same = record {
       done = λ is.
-          inr (inr (inr (inr (record { form = form; options = options; names = names; asked = asked; summarized = done is }))));
+          inr (inr (inr (inr (inl (record { form = form; options = options; names = names; asked = asked; summarized = done is })))));
       quiet = quiet;
       failed = λ is.
-          inr (inr (inr (inr (inr (record { form = form; options = options; names = names; asked = asked; failed = failed is })))));
+          inr (inr (inr (inr (inr (inl (record { form = form; options = options; names = names; asked = asked; failed = failed is }))))));
+      mistaken = λ is. absurd (ends is);
+      nothing = λ is. absurd (ends is);
+      usage = λ is. absurd (ends is);
+      differs = λ is. absurd (same is);
+      quiet_too = λ is. absurd (same is);
+    }
+
+    pub ends_explained : (options : Options) (names : List (List ℕ)) → AsksToExplain words options names
+        → (status ≡ Done → IsExplained options (contents_each contents names) out.before out.after)
+        → (status ≡ Done → Keeps error.before error.after)
+        → (status ≡ Failed → FailsOnExplaining has_opened cannot_open contents options names out error)
+        → status ≢ Usage → status ≢ Differs → Ends
+    ends_explained options names asked done quiet failed ends same = record {
+      done = λ is.
+          inr (inr (inr (inr (inr (record { options = options; names = names; asked = asked; explained = done is })))));
+      quiet = quiet;
+      failed = λ is.
+          inr (inr (inr (inr (inr (inr (record { options = options; names = names; asked = asked; failed = failed is }))))));
       mistaken = λ is. absurd (ends is);
       nothing = λ is. absurd (ends is);
       usage = λ is. absurd (ends is);

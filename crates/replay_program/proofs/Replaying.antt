@@ -5,7 +5,7 @@ use Rattle.std.proofs.Common.{refl, sym, ap, subst, ◌∙◌, inl, inr, append-
 use Rattle.std.proofs.lemmas.Bool.{false≢true}
 use Rattle.keyspace.specs.declared.answer.Answer.{Answer}
 use Rattle.keyspace.specs.declared.batch.Batch.{Batch}
-use Rattle.keyspace.specs.Run.{answers, part}
+use Rattle.keyspace.specs.Run.{Step, answers, part}
 use Rattle.serial.specs.Replies.{AnswersTellVerdicts}
 use Rattle.resolver.specs.declared.stop.Stop.{Stop}
 use Rattle.replay_output.specs.declared.failures.Ending.{Ending}
@@ -18,7 +18,7 @@ use Rattle.replay_output.specs.declared.options.Options.{Options}
 use Rattle.replay_output.specs.Failures.{failure_lines, with_loss, IsClean, NothingFailed}
 use Rattle.replay_output.specs.Line.{answers_of, AreLines}
 use Rattle.replay_workers.specs.Run.{IsRun}
-use Rattle.replay_program.specs.Replayed.{IsReplayedBy, Written, HasFailed, Took, TookBeginning, ending_of, RanAndFailed}
+use Rattle.replay_program.specs.Replayed.{IsReplayedBy, IsReplayedOver, Written, HasFailed, Took, TookBeginning, ending_of, RanAndFailed}
 use Rattle.replay_workers.specs.Worker.{TakesFrames}
 use Rattle.replay_workers.proofs.callers.Lists.{all_at, found}
 use Rattle.replay_program.proofs.Reporting.{from_one, each_said, all_said}
@@ -70,9 +70,10 @@ module _ (options : Options) (files : List (Option (List ℕ))) (received : List
       let failure = found received failures proxy of_proxy (run.failures_count ∙ sym run.received_count) at in
       (run.each proxy bytes.0 of_proxy failure.0 bytes.1 at failure.1).lines_told
 
-  pub is_replayed : (Printed : List (List Answer) → Type 0) → AnswersTellVerdicts → NothingFailed failures (ending_of complete stop)
-      → Printed (map answers_of received) → IsReplayedBy Printed options files
-  is_replayed Printed tell nothing printed =
+  pub is_replayed_over : (Printed : List Step → List (List Answer) → Type 0) → AnswersTellVerdicts
+      → NothingFailed failures (ending_of complete stop) → Printed run.log (map answers_of received)
+      → IsReplayedOver Printed options files
+  is_replayed_over Printed tell nothing printed =
       let whole = complete_from complete stop nothing.complete in
       let proxies = length files in
       record {
@@ -99,7 +100,7 @@ module _ (options : Options) (files : List (Option (List ℕ))) (received : List
         all_words = all_said options.window run.log proxies run.proxies tell options.style.form;
         finish = run.finish (run.no_stop whole);
         printed =
-            subst Printed
+            subst (Printed run.log)
             (same_answers (answers options.window run.log) received 0 (length files) run.received_count
             (λ place ls at.
             let bytes = found received files place ls (sym run.received_count) at in
@@ -110,7 +111,12 @@ module _ (options : Options) (files : List (Option (List ℕ))) (received : List
             printed;
       }
 
-  module _ (text_of : List (List Answer) → List ℕ) (Takes : List (List Line) → ℕ → Type 0) (out error : Written)
+  pub is_replayed : (Printed : List (List Answer) → Type 0) → AnswersTellVerdicts → NothingFailed failures (ending_of complete stop)
+      → Printed (map answers_of received) → IsReplayedBy Printed options files
+  is_replayed Printed tell nothing printed = is_replayed_over (λ log answers. Printed answers) tell nothing printed
+
+  module _ (Ran : List (List Line) → List ProxyFailure → Bool → Option Stop → Type 0) (ran : Ran received failures complete stop)
+      (text_of : List (List Answer) → List ℕ) (Takes : List (List Line) → ℕ → Type 0) (out error : Written)
       (told : List ProxyFailure) where
     abbrev text : List ℕ
     text = text_of (map answers_of received)
@@ -127,7 +133,7 @@ module _ (options : Options) (files : List (Option (List ℕ))) (received : List
     told_of (Ok u) took failed = inr took
     told_of (Err e) took failed = inl (failed refl)
 
-    pub ran_and_failed : {T U F : Type 0} (printed : Result T PrintError) (wrote : Result U F) → OnOk printed (Took out text)
+    pub ran_as_and_failed : {T U F : Type 0} (printed : Result T PrintError) (wrote : Result U F) → OnOk printed (Took out text)
         → ((proxy : ℕ) → printed ≡ Err (print.Memory proxy) → proxy < length received)
         → ((proxy : ℕ) → printed ≡ Err (print.Memory proxy) → Takes received proxy)
         → ((proxy : ℕ) → printed ≡ Err (print.Memory proxy) → out.after ≡ out.before)
@@ -136,15 +142,15 @@ module _ (options : Options) (files : List (Option (List ℕ))) (received : List
         → ((proxy : ℕ) → printed ≡ Err (print.Memory proxy) → told ≡ with_loss proxy failures)
         → (((proxy : ℕ) → printed ≢ Err (print.Memory proxy)) → told ≡ failures)
         → ¬ (IsOk printed × IsOk wrote × NothingFailed failures (ending_of complete stop))
-        → RanAndFailed text_of Takes options files out error
-    ran_and_failed (Ok u) wrote took inside takes nothing beginning failed told_lines told_failed loss no_loss not_done =
+        → RanAndFailed Ran text_of Takes (length files) out error
+    ran_as_and_failed (Ok u) wrote took inside takes nothing beginning failed told_lines told_failed loss no_loss not_done =
         let same : told ≡ failures = no_loss (λ proxy is. cc) in
         record {
           received = received;
           failures = failures;
           complete = complete;
           stop = stop;
-          run = run;
+          run = ran;
           told = told;
           failures_told = inl same;
           printed = inr (inl (same, took));
@@ -152,7 +158,7 @@ module _ (options : Options) (files : List (Option (List ℕ))) (received : List
           why = why_failed wrote told_failed
               (λ ok none. not_done (refl, ok, subst (λ (f : List ProxyFailure). NothingFailed f (ending_of complete stop)) same none));
         }
-    ran_and_failed (Err (print.Memory proxy)) wrote took inside takes nothing beginning failed told_lines told_failed loss no_loss not_done =
+    ran_as_and_failed (Err (print.Memory proxy)) wrote took inside takes nothing beginning failed told_lines told_failed loss no_loss not_done =
         let is = loss proxy refl in
         let known : proxy < length failures =
         omega (arith, inside proxy refl, run.received_count, run.failures_count) in
@@ -163,7 +169,7 @@ module _ (options : Options) (files : List (Option (List ℕ))) (received : List
           failures = failures;
           complete = complete;
           stop = stop;
-          run = run;
+          run = ran;
           told = told;
           failures_told = inr with;
           printed = inr (inr (with, nothing proxy refl));
@@ -171,20 +177,37 @@ module _ (options : Options) (files : List (Option (List ℕ))) (received : List
           why = inr (inr (λ none.
               loss_is_no_clean proxy failures known (subst (λ (f : List ProxyFailure). All IsClean f) is none.proxies)));
         }
-    ran_and_failed (Err print.Write) wrote took inside takes nothing beginning failed told_lines told_failed loss no_loss not_done =
+    ran_as_and_failed (Err print.Write) wrote took inside takes nothing beginning failed told_lines told_failed loss no_loss not_done =
         let same : told ≡ failures = no_loss (λ proxy is. cc) in
         record {
           received = received;
           failures = failures;
           complete = complete;
           stop = stop;
-          run = run;
+          run = ran;
           told = told;
           failures_told = inl same;
           printed = inl (failed refl, beginning refl);
           lines_of_failures = told_of wrote told_lines told_failed;
           why = inl (failed refl);
         }
+
+  -- the same where what became of the files is all that is said
+  pub ran_and_failed : (text_of : List (List Answer) → List ℕ) (Takes : List (List Line) → ℕ → Type 0) (out error : Written)
+      (told : List ProxyFailure) {T U F : Type 0} (printed : Result T PrintError) (wrote : Result U F)
+      → OnOk printed (Took out (text_of (map answers_of received)))
+      → ((proxy : ℕ) → printed ≡ Err (print.Memory proxy) → proxy < length received)
+      → ((proxy : ℕ) → printed ≡ Err (print.Memory proxy) → Takes received proxy)
+      → ((proxy : ℕ) → printed ≡ Err (print.Memory proxy) → out.after ≡ out.before)
+      → (printed ≡ Err print.Write → TookBeginning out (text_of (map answers_of received)))
+      → (printed ≡ Err print.Write → HasFailed out)
+      → OnOk wrote (Took error (failure_lines told (ending_of complete stop))) → (IsErr wrote → HasFailed error)
+      → ((proxy : ℕ) → printed ≡ Err (print.Memory proxy) → told ≡ with_loss proxy failures)
+      → (((proxy : ℕ) → printed ≢ Err (print.Memory proxy)) → told ≡ failures)
+      → ¬ (IsOk printed × IsOk wrote × NothingFailed failures (ending_of complete stop))
+      → RanAndFailed (IsRun options files) text_of Takes (length files) out error
+  ran_and_failed text_of Takes out error told printed wrote =
+      ran_as_and_failed (IsRun options files) run text_of Takes out error told printed wrote
 
 pub ok_at : {T E : Type 0} (r : Result T E) (t : T) → r ≡ Ok t → IsOk r
 ok_at {T} {E} r t is = subst (λ (s : Result T E). IsOk s) (sym is) refl

@@ -3,5 +3,6 @@ pub mod Checked
 pub mod Summarized
 pub mod Replies
 pub mod Replayed
+pub mod Explained
 pub mod Streamed
 pub mod Program

@@ -11,6 +11,7 @@ use Rattle.replay_program.specs.declared.check.replies.RepliesError.{RepliesErro
 use Rattle.replay_output.specs.declared.start.StartError.TheVariants as start
 use Rattle.replay_arguments.specs.Opening.{IsFirstRefused, contents_each, creating_line, opening_line}
 use Rattle.replay_program.specs.Checked.{TakesToCompare, check_lines}
+use Rattle.replay_program.specs.Explained.{FailsToExplain, IsExplained}
 use Rattle.replay_program.specs.Replayed.{
   DidNotStart,
   FailsToPrint,
@@ -30,10 +31,12 @@ use Rattle.replay_summary.specs.declared.text.SummaryForm.{SummaryForm}
 use Rattle.replay_arguments.specs.Words.{
   AsksForText,
   HasInputOnce,
+  HoldsExplain,
   HoldsOptions,
   HoldsStream,
   HoldsSummary,
   IsAlone,
+  IsPlain,
   IsTaken,
   is_kept,
   named,
@@ -69,6 +72,13 @@ abbrev pub FailsOnFiles : (List ℕ → Type 0) → (List ℕ → Type 0) → (L
 FailsOnFiles has_opened cannot_open contents options names out error =
     DidNotOpen has_opened cannot_open names out error
     ⊎ FailsToReplay options (contents_each contents names) out error
+
+-- the files of these names were not replayed with explanations, or something failed
+abbrev pub FailsOnExplaining : (List ℕ → Type 0) → (List ℕ → Type 0) → (List ℕ → Option (List ℕ)) → Options
+    → List (List ℕ) → Written → Written → Type 0
+FailsOnExplaining has_opened cannot_open contents options names out error =
+    DidNotOpen has_opened cannot_open names out error
+    ⊎ FailsToExplain options (contents_each contents names) out error
 
 -- the files of these names were not summarized, or something failed
 abbrev pub FailsOnSummary : SummaryForm → (List ℕ → Type 0) → (List ℕ → Type 0) → (List ℕ → Option (List ℕ)) → Options
@@ -107,6 +117,18 @@ pub record AsksToReplay (words : List (List ℕ)) (options : Options) (names : L
   pub plain : is_kept options.style.form ≡ false
   pub at_the_end : HoldsStream (rows_of_words words) false
   pub no_summary : HoldsSummary (rows_of_words words) options.style.form None
+  pub no_explanations : HoldsExplain (rows_of_words words) false
+
+-- the words are taken, and ask for a replay of the files of these names with these options, in which rejections are explained
+pub record AsksToExplain (words : List (List ℕ)) (options : Options) (names : List (List ℕ)) : Type 0 where
+  pub taken : IsTaken words
+  pub holds_options : HoldsOptions (rows_of_words words) options
+  pub holds_names : all_of (codes "FILE") (rows_of_words words) ≡ Some names
+  pub least : 1 ≤ length names
+  pub most : length names ≤ MAX_PROXIES
+  pub input : HasInputOnce (rows_of_words words)
+  pub explanations : HoldsExplain (rows_of_words words) true
+  pub plain : IsPlain (rows_of_words words)
 
 -- the words are taken, and ask for a summary, in this form, of a replay of the files of these names with these options
 pub record AsksToSummarize (words : List (List ℕ)) (form : SummaryForm) (options : Options) (names : List (List ℕ)) :
@@ -119,6 +141,7 @@ pub record AsksToSummarize (words : List (List ℕ)) (form : SummaryForm) (optio
   pub input : HasInputOnce (rows_of_words words)
   pub holds_summary : HoldsSummary (rows_of_words words) options.style.form (Some form)
   pub alone : IsAlone (rows_of_words words)
+  pub no_explanations : HoldsExplain (rows_of_words words) false
 
 -- the words are taken, and ask that the answers to the files of these names are printed as they come, and recorded in files of these
 -- names, if there are any
@@ -133,6 +156,7 @@ pub record AsksToStream (words : List (List ℕ)) (options : Options) (names rec
   pub plain : is_kept options.style.form ≡ false
   pub as_they_come : HoldsStream (rows_of_words words) true
   pub no_summary : HoldsSummary (rows_of_words words) options.style.form None
+  pub no_explanations : HoldsExplain (rows_of_words words) false
   pub records_each : (length records ≡ 0) ⊎ (length records ≡ length names)
 
 -- the words are taken, and ask for a check of the files of these names beside those of replies
@@ -148,6 +172,7 @@ pub record AsksToCheck (words : List (List ℕ)) (options : Options) (names repl
   pub kept : options.style.form ≡ Kept
   pub at_the_end : HoldsStream (rows_of_words words) false
   pub no_summary : HoldsSummary (rows_of_words words) options.style.form None
+  pub no_explanations : HoldsExplain (rows_of_words words) false
 
 -- the message about arguments that aren't text
 abbrev pub not_text : List ℕ
@@ -167,6 +192,13 @@ pub record HasReplayed (contents : List ℕ → Option (List ℕ)) (words : List
   pub names : List (List ℕ)
   pub asked : AsksToReplay words options names
   pub replayed : IsReplayed options (contents_each contents names) out.before out.after
+
+-- all that the words ask for was read, resolved and printed, and the rejections explained
+pub record HasReplayedWithExplanations (contents : List ℕ → Option (List ℕ)) (words : List (List ℕ)) (out : Written) : Type 0 where
+  pub options : Options
+  pub names : List (List ℕ)
+  pub asked : AsksToExplain words options names
+  pub explained : IsExplained options (contents_each contents names) out.before out.after
 
 -- All that the words ask for was read, resolved and summarized. The options are those of the words, with which no line is shown.
 pub record HasSummarized (contents : List ℕ → Option (List ℕ)) (words : List (List ℕ)) (out : Written) : Type 0 where
@@ -260,7 +292,8 @@ IsDone state_of contents begun words recorders out =
     HasShown words out
     ⊎ (HasReplayed contents words out
     ⊎ (HasChecked (λ count. count ≡ 0) contents words out
-    ⊎ (HasStreamed state_of contents begun words recorders out ⊎ HasSummarized contents words out)))
+    ⊎ (HasStreamed state_of contents begun words recorders out
+    ⊎ (HasSummarized contents words out ⊎ HasReplayedWithExplanations contents words out))))
 
 -- what the words ask for failed on the files
 pub record HasFailedOnFiles (has_opened cannot_open : List ℕ → Type 0) (contents : List ℕ → Option (List ℕ))
@@ -300,6 +333,14 @@ pub record HasFailedToSummarize (has_opened cannot_open : List ℕ → Type 0) (
   pub asked : AsksToSummarize words form options names
   pub failed : FailsOnSummary form has_opened cannot_open contents options names out error
 
+-- what the words ask to be explained failed
+pub record HasFailedToExplain (has_opened cannot_open : List ℕ → Type 0) (contents : List ℕ → Option (List ℕ))
+    (words : List (List ℕ)) (out error : Written) : Type 0 where
+  pub options : Options
+  pub names : List (List ℕ)
+  pub asked : AsksToExplain words options names
+  pub failed : FailsOnExplaining has_opened cannot_open contents options names out error
+
 -- help or the version was asked for, and standard output failed
 abbrev pub HasNotShown : List (List ℕ) → Written → Type 0
 HasNotShown words out = AsksForText words × HasFailed out
@@ -317,4 +358,5 @@ IsFailed state_of has_opened cannot_open contents has_created cannot_create begu
     ⊎ (HasNotShown words out ⊎ (HasFailedOnFiles has_opened cannot_open contents words out error
     ⊎ (HasFailedToCheck has_opened cannot_open contents words out error
     ⊎ (HasFailedToStream state_of has_opened cannot_open contents has_created cannot_create begun words recorders out error
-    ⊎ HasFailedToSummarize has_opened cannot_open contents words out error))))
+    ⊎ (HasFailedToSummarize has_opened cannot_open contents words out error
+    ⊎ HasFailedToExplain has_opened cannot_open contents words out error)))))

@@ -60,9 +60,10 @@ pub record LineSaysCommitted (form : Form) (answers : List (List Answer)) (proxy
   pub at_index : IsSomeAnd (slice_get reply.entries index) (SaysCommitted form)
 
 -- All was read and resolved, and the text of the answers was printed. There is one log of the reference resolver that
--- holds the batches of each file once, in order, and no others. What was printed is of its answers: all of them that are shown.
-pub record IsReplayedBy (Printed : List (List Answer) → Type 0) (options : Options) (files : List (Option (List ℕ))) :
-    Type 0 where
+-- holds the batches of each file once, in order, and no others. What was printed is of that log and its answers: all of them that are
+-- shown.
+pub record IsReplayedOver (Printed : List Step → List (List Answer) → Type 0) (options : Options)
+    (files : List (Option (List ℕ))) : Type 0 where
   pub log : List Step
   -- The transactions whose words say that they were committed can be run one at a time, in the order of commit, and each reads what it
   -- has read. The words say so of every committed transaction. They are those of all answers, whether or not their lines are shown.
@@ -89,7 +90,11 @@ pub record IsReplayedBy (Printed : List (List Answer) → Type 0) (options : Opt
   pub chain : IsChain options.window (run options.window log).processed
   -- no batch is left unanswered
   pub finish : FinishesLast log
-  pub printed : Printed (answers_each options.window log (length files))
+  pub printed : Printed log (answers_each options.window log (length files))
+
+-- the same where what was printed is of the answers alone
+abbrev pub IsReplayedBy : (List (List Answer) → Type 0) → Options → List (Option (List ℕ)) → Type 0
+IsReplayedBy Printed options files = IsReplayedOver (λ log answers. Printed answers) options files
 
 -- all was read, resolved and printed: the text printed is the lines of the answers that are shown
 abbrev pub IsReplayed : Options → List (Option (List ℕ)) → Option (List ℕ) → Option (List ℕ) → Type 0
@@ -152,22 +157,26 @@ abbrev pub IsWithLoss : ℕ → (ℕ → Type 0) → List ProxyFailure → List 
 IsWithLoss proxies Takes failures told =
     (proxy : ℕ) × (proxy < proxies) × Takes proxy × (told ≡ with_loss proxy failures)
 
--- The files were replayed, and something failed. `told` is what failed, with the loss of a proxy whose lines could not
--- be sorted, whose replies could not be compared, or that is the last to be summarized; then nothing was printed. `text` is what is to be printed of answers, and
--- `Takes` says of which proxies' lines memory is taken for it.
-pub record RanAndFailed (text : List (List Answer) → List ℕ) (Takes : List (List Line) → ℕ → Type 0) (options : Options)
-    (files : List (Option (List ℕ))) (out error : Written) : Type 0 where
+-- what is said of a run: of the lines and the failures of each proxy, whether it is complete, and the stop that it met
+abbrev pub OfRun : Type 1
+OfRun = List (List Line) → List ProxyFailure → Bool → Option Stop → Type 0
+
+-- The files of n proxies were replayed, and something failed. `Ran` says what became of the files. `told` is what failed, with the loss
+-- of a proxy whose lines could not be sorted or explained, whose replies could not be compared, or that is the last to be summarized;
+-- then nothing was printed. `text` is what is to be printed of answers, and `Takes` says of which proxies' lines memory is taken for it.
+pub record RanAndFailed (Ran : OfRun) (text : List (List Answer) → List ℕ) (Takes : List (List Line) → ℕ → Type 0) (proxies : ℕ)
+    (out error : Written) : Type 0 where
   pub received : List (List Line)
   pub failures : List ProxyFailure
   pub complete : Bool
   pub stop : Option Stop
-  pub run : IsRun options files received failures complete stop
+  pub run : Ran received failures complete stop
   pub told : List ProxyFailure
-  pub failures_told : (told ≡ failures) ⊎ IsWithLoss (length files) (Takes received) failures told
+  pub failures_told : (told ≡ failures) ⊎ IsWithLoss proxies (Takes received) failures told
   pub printed :
       (HasFailed out × TookBeginning out (text (map answers_of received)))
       ⊎ (((told ≡ failures) × Took out (text (map answers_of received)))
-      ⊎ (IsWithLoss (length files) (Takes received) failures told × (out.after ≡ out.before)))
+      ⊎ (IsWithLoss proxies (Takes received) failures told × (out.after ≡ out.before)))
   pub lines_of_failures : HasFailed error ⊎ Took error (failure_lines told (ending_of complete stop))
   pub why : HasFailed out ⊎ (HasFailed error ⊎ ¬ (NothingFailed told (ending_of complete stop)))
 
@@ -175,7 +184,7 @@ pub record RanAndFailed (text : List (List Answer) → List ℕ) (Takes : List (
 abbrev pub FailsToPrint : (List (List Answer) → List ℕ) → (List (List Line) → ℕ → Type 0) → Options
     → List (Option (List ℕ)) → Written → Written → Type 0
 FailsToPrint text Takes options files out error =
-    DidNotStart out error ⊎ RanAndFailed text Takes options files out error
+    DidNotStart out error ⊎ RanAndFailed (IsRun options files) text Takes (length files) out error
 
 -- The program failed.
 abbrev pub FailsToReplay : Options → List (Option (List ℕ)) → Written → Written → Type 0

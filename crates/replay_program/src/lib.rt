@@ -3,8 +3,8 @@
 //!
 //! [`run`] is the program `replay` over any words, files and streams, and [`run_in`] takes the
 //! words from an environment. Both are in `program`. `replay` does all that follows the opening of
-//! the files if the answers are printed, `check` if they are compared, and `summary` if they are
-//! summarized.
+//! the files if the answers are printed, `explain` if their rejections are explained too, `check` if
+//! they are compared, and `summary` if they are summarized.
 //!
 //! What is printed is defined by `IsReplayed`, in `specs/Replayed.antt`, and how the program ends
 //! in `specs/Program.antt`. The public names of the crates below, which the program is made of, are
@@ -12,6 +12,7 @@
 #![tactic(auto)]
 
 mod check;
+mod explain;
 mod program;
 mod replay;
 mod report;
@@ -21,7 +22,10 @@ mod summary;
 pub use check::{
     CheckReport, RepliesError, check_over, fail_to_read_replies, print_check, read_replies,
 };
-pub use program::{check_files, replay_files, run, run_in, stream_files, summarize_files};
+pub use explain::{explain_lines, explain_over, print_explained};
+pub use program::{
+    check_files, explain_files, replay_files, run, run_in, stream_files, summarize_files,
+};
 pub use replay::replay_over;
 pub use replay_arguments::{
     CommandLine, FileError, Files, OpeningError, Refusal, STANDARD_INPUT, create_files,

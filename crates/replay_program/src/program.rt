@@ -5,7 +5,9 @@ ghost use Rattle.std.specs.Prelude.{option_map, vec_len};
 ghost use Rattle.std.specs.Io.KnownBytes.{Keeps};
 ghost use Rattle.resolver.specs.declared.resolver_core.TheConstants.{MAX_PROXIES};
 ghost use Rattle.replay_arguments.specs.Opening.{IsFirstRefused, contents_each};
-ghost use Rattle.replay_program.specs.Program.{ChecksFiles, FailsOnFiles, FailsToCheck};
+ghost use Rattle.replay_program.specs.Explained.{IsExplained};
+ghost use Rattle.replay_program.specs.Program.{ChecksFiles, FailsOnExplaining, FailsOnFiles};
+ghost use Rattle.replay_program.specs.Program.{FailsToCheck};
 ghost use Rattle.replay_program.specs.Program.{FailsOnStream, HasDifferences, IsDone, IsFailed};
 ghost use Rattle.replay_program.specs.Program.{FailsOnSummary, HaveWriters, StreamsFiles, Told};
 ghost use Rattle.replay_output.specs.Quieted.{quieted};
@@ -14,6 +16,7 @@ ghost use Rattle.replay_program.specs.Replayed.{IsReplayed, IsSummarized, writte
 ghost use Rattle.replay_arguments.specs.Words.{IsMistaken};
 
 use crate::check::{check_over, fail_to_read_replies, read_replies};
+use crate::explain::explain_over;
 use crate::replay::replay_over;
 use crate::report::RunReport;
 use crate::stream::stream_over;
@@ -36,7 +39,7 @@ pub use environment::run_in;
 
 /// Runs the program on the words of its command line, of which the first is the program's name.
 /// Help is printed to `out`, and why words are refused to `error`; else the files are replayed, as
-/// [`replay_files`], [`check_files`], [`stream_files`] or [`summarize_files`] does.
+/// [`replay_files`], [`explain_files`], [`check_files`], [`stream_files`] or [`summarize_files`] does.
 pub fn run<R: Threads + Wait + Copy + Send + 'static, F: Files, O: Sink, E: Sink>(
     rt: &R,
     alloc: Global,
@@ -75,6 +78,10 @@ pub fn run<R: Threads + Wait + Copy + Send + 'static, F: Files, O: Sink, E: Sink
             check_files(rt, alloc, files, &line, out, error),
         ),
         Ok(line) if line.is_streamed => stream_files(rt, alloc, files, &line, out, error),
+        Ok(line) if line.explains => RunReport::without_recorders(
+            alloc,
+            explain_files(rt, alloc, files, &line, out, error),
+        ),
         Ok(line) => match line.summary {
             Some(form) => RunReport::without_recorders(
                 alloc,
@@ -277,6 +284,42 @@ pub fn summarize_files<R: Threads + Wait + Copy + Send + 'static, F: Files, O: S
     };
     let options = line.options.quieted();
     summarize_over(rt, alloc, readers, options, form, &gatekeeper, out, error)
+}
+
+/// Opens the files of a command line, replays them and explains the rejections, as [`explain_over`]
+/// does. If a file can't be opened, nothing is printed to `out`, and the first such file is reported
+/// to `error`.
+pub fn explain_files<R: Threads + Wait + Copy + Send + 'static, F: Files, O: Sink, E: Sink>(
+    rt: &R,
+    alloc: Global,
+    files: &F,
+    line: &CommandLine,
+    out: &mut O,
+    error: &mut E,
+) -> Status
+    requires least_files { 1 ≤ vec_len line.now.files }
+    requires most_files { vec_len line.now.files ≤ MAX_PROXIES }
+    ensures done { result ≡ Status.Done → IsExplained line.now.options
+        (contents_each (F.contents files.now) (map (λ name. name.now) line.now.files.items))
+        (O.given out.old) (O.given out.new) }
+    ensures quiet { result ≡ Status.Done → Keeps (E.given error.old) (E.given error.new) }
+    ensures failed { result ≡ Status.Failed
+        → FailsOnExplaining (F.has_opened files.now) (F.cannot_open files.now)
+        (F.contents files.now) line.now.options (map (λ name. name.now) line.now.files.items)
+        (written (O.given out.old) (O.given out.new) (O.failures out.old) (O.failures out.new))
+        (written (E.given error.old) (E.given error.new) (E.failures error.old)
+        (E.failures error.new)) }
+    ensures ends { result ≢ Status.Usage }
+    ensures same { result ≢ Status.Differs }
+{
+    let readers = match open_files(alloc, files, &line.files) {
+        Ok(readers) => readers,
+        Err(cause) => return fail_to_open(error, cause),
+    };
+    let Ok(gatekeeper) = gatekeeper(alloc, &readers) else {
+        return fail_to_start(error, StartError::Memory);
+    };
+    explain_over(rt, alloc, readers, line.options, &gatekeeper, out, error)
 }
 
 // Opens the files for records, and returns the writer of each proxy, if there is one.

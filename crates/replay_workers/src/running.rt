@@ -80,6 +80,7 @@ pub fn run_observed<
         ended.0.failures.items (is_complete ended.0 ended.1) ended.1.stop) }
     ensures capacity { IfOk result
         (λ ended. All (HasCapacity options.capacity) ended.0.clients.items) }
+    ensures setting { O.setting observer.new ≡ O.setting observer.old }
 {
     let proxies = readers.len();
     let Options {
@@ -113,6 +114,7 @@ fn turn_to_end<G: ShareKeeper, R: Wait, O: Observer>(
     ensures accounted { IsAccountedFor resolver.old → IsAccountedFor resolver.new }
     ensures observed { IsObserved (O.has_seen observer.old) resolver.old
         → IsObserved (O.has_seen observer.new) resolver.new }
+    ensures setting { O.setting observer.new ≡ O.setting observer.old }
     ensures resolving { IsResolving resolver.old → IsResolving resolver.new }
     ensures goes_on { GoesOn resolver.old.core resolver.new.core }
     ensures lanes { Each (λ _ l m. LanesGoOn l m) resolver.old.lanes resolver.new.lanes }

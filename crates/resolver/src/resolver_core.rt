@@ -194,6 +194,7 @@ impl Core {
             → HasSeen (O.has_seen observer.new) self.new.stop self.old.set.window
             (log ++ Take proxy batch ∷ []) }
         ensures unseen { IfSome self.old.stop (λ _. observer.new ≡ observer.old) }
+        ensures setting { O.setting observer.new ≡ O.setting observer.old }
     {
         if let Some(stop) = self.stop {
             return Err(stop);

@@ -2,10 +2,11 @@
 
 ghost use Rattle.std.specs.Prelude.{◌≡◌, IfOk, false};
 ghost use Rattle.clap.specs.Words.{app_of, rule_of};
-ghost use Rattle.replay_arguments.specs.Words.{capacity_rule, check_rule, file_rule, frames_rule};
-ghost use Rattle.replay_arguments.specs.Words.{json_rule, limit_rule, number_rule, only_rule};
-ghost use Rattle.replay_arguments.specs.Words.{quiet_rule, replay_app, replies_rule, stream_rule};
-ghost use Rattle.replay_arguments.specs.Words.{summary_rule, versions_rule, window_rule};
+ghost use Rattle.replay_arguments.specs.Words.{capacity_rule, check_rule, explain_rule, file_rule};
+ghost use Rattle.replay_arguments.specs.Words.{frames_rule, json_rule, limit_rule, number_rule};
+ghost use Rattle.replay_arguments.specs.Words.{only_rule, quiet_rule, replay_app, replies_rule};
+ghost use Rattle.replay_arguments.specs.Words.{stream_rule, summary_rule, versions_rule};
+ghost use Rattle.replay_arguments.specs.Words.{window_rule};
 
 use clap::builder::ValueParser;
 use clap::{Arg, ArgAction, Command};
@@ -37,6 +38,7 @@ pub fn command<'a>(alloc: Global) -> Result<Command<'a>, AllocError>
         .arg(quiet(alloc))?
         .arg(only(alloc))?
         .arg(versions(alloc))?
+        .arg(explain(alloc))?
         .arg(summary(alloc))?
         .arg(check(alloc))?
         .arg(stream(alloc))?
@@ -134,6 +136,16 @@ fn versions<'a>(alloc: Global) -> Arg<'a>
         .long("versions")
         .value_name("A..B")
         .help("Prints only versions from A to below B; each can be omitted")
+}
+
+fn explain<'a>(alloc: Global) -> Arg<'a>
+    ensures rule { rule_of result ≡ explain_rule }
+    ensures local { result.global ≡ false }
+{
+    Arg::new(alloc, "explain")
+        .long("explain")
+        .action(ArgAction::SetTrue)
+        .help("Prints under each line why its transactions were rejected")
 }
 
 fn summary<'a>(alloc: Global) -> Arg<'a>

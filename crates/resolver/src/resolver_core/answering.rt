@@ -54,6 +54,7 @@ impl Core {
             → O.has_seen observer.old state.processed
             → HasSeenBetween (O.has_seen observer.new) state.processed
             (step self.old.set.window (Take proxy batch) state).processed) }
+        ensures setting { O.setting observer.new ≡ O.setting observer.old }
     {
         if batch.previous > self.version {
             self.hold(proxy, batch)?;
@@ -126,6 +127,7 @@ impl Core {
             → O.has_seen observer.new (reference.admit self.old.set.window proxy batch state).processed) }
         ensures unseen { OnErr result ((ps : List Processed) → O.has_seen observer.old ps
             → O.has_seen observer.new ps) }
+        ensures setting { O.setting observer.new ≡ O.setting observer.old }
     {
         if batch.previous < self.version {
             self.repeat(proxy, batch.version)
@@ -178,6 +180,7 @@ impl Core {
             → O.has_seen observer.new (process self.old.set.window proxy batch state).processed) }
         ensures unseen { OnErr result ((ps : List Processed) → O.has_seen observer.old ps
             → O.has_seen observer.new ps) }
+        ensures setting { O.setting observer.new ≡ O.setting observer.old }
     {
         laws::one_reply();
         self.owed.reserve(proxy)?;
@@ -218,6 +221,7 @@ impl Core {
             → O.has_seen observer.old state.processed
             → HasSeenBetween (O.has_seen observer.new) state.processed
             (leave_all self.old.set.window state).processed) }
+        ensures setting { O.setting observer.new ≡ O.setting observer.old }
     {
         laws::leaving();
         while let Some((proxy, batch)) = self.gate.next_for(self.version) {

@@ -4,6 +4,7 @@ use Rattle.std.proofs.lemmas.List.{length-map}
 use Rattle.replay_arguments.specs.declared.arguments.refusal.Refusal.TheVariants.{Refused}
 use Rattle.clap.specs.Words.{Row, found_of, rows_of}
 use Rattle.replay_arguments.specs.Words.{
+  HasExplain,
   HasFiles,
   HasFilter,
   HasInputOnce,
@@ -15,6 +16,7 @@ use Rattle.replay_arguments.specs.Words.{
   HasStream,
   HasSummary,
   IsAlone,
+  IsPlain,
   is_kept,
 }
 use Rattle.replay_arguments.proofs.Refusals.{no_records_each, not_each}
@@ -49,8 +51,8 @@ returns-in_err-records-clause-refused c = λ text is.
 
 pub returns-in_default-summary_of-clause-refused : goal.returns-in_default-summary_of-clause-refused
 returns-in_default-summary_of-clause-refused c = λ text is.
-    inr (inr (inr (inr (inr (inr (inr (inr (inr (subst (λ (rows : List Row). ¬ (HasSummary rows)) c.in_ok-matches.ensures.rows
-    (c.summary_of.ensures.none c.in-Some.ensures.form c.in-Some-is_streamed.ensures.stream c.in_default-summary_of.is))))))))))
+    inr (inr (inr (inr (inr (inr (inr (inr (inr (inl (subst (λ (rows : List Row). ¬ (HasSummary rows)) c.in_ok-matches.ensures.rows
+    (c.summary_of.ensures.none c.in-Some.ensures.form c.in-Some-is_streamed.ensures.stream c.in_default-summary_of.is)))))))))))
 
 pub returns-clause-alone : goal.returns-clause-alone
 returns-clause-alone c = λ some.
@@ -79,3 +81,15 @@ returns-in_err-replies-clause-refused c = λ text is.
     let check = c.in-Some.ensures.form.check ∙ ap is_kept refused.0 in
     inr (inr (inr (inr (inl (subst (λ (rows : List Row). ¬ (HasRepliesEach rows)) c.in_ok-matches.ensures.rows
     (not_each found names c.in-Some-files_of.ensures.files check none))))))
+
+pub returns-in_default-explains-clause-refused : goal.returns-in_default-explains-clause-refused
+returns-in_default-explains-clause-refused c = λ text is.
+    inr (inr (inr (inr (inr (inr (inr (inr (inr (inr (subst (λ (rows : List Row). ¬ (HasExplain rows)) c.in_ok-matches.ensures.rows
+    (c.explains.ensures.none c.in-Some.ensures.form c.in-Some-is_streamed.ensures.stream c.in-Some-summary_of.ensures.summary
+    c.in_default-explains.is)))))))))))
+
+pub returns-clause-explained_plain : goal.returns-clause-explained_plain
+returns-clause-explained_plain c = λ asked.
+    subst IsPlain c.in_ok-matches.ensures.rows
+    (c.in-Some-explains.ensures.plain c.in-Some.ensures.form c.in-Some-is_streamed.ensures.stream
+    c.in-Some-summary_of.ensures.summary asked)

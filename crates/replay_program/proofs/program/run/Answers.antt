@@ -4,11 +4,12 @@ use Rattle.stepmap.proofs.callers.Booleans.{is_false}
 use Rattle.std.proofs.lemmas.List.{length-map}
 use Rattle.replay_arguments.specs.Words.{HoldsStream, rows_of_words}
 use Rattle.replay_program.specs.Replayed.{written}
-use Rattle.replay_arguments.specs.Words.{HoldsSummary}
+use Rattle.replay_arguments.specs.Words.{HoldsExplain, HoldsSummary}
+use Rattle.replay_arguments.proofs.Explaining.{no_explanations, plain_without_check, plain_without_stream}
 use Rattle.replay_arguments.proofs.Summaries.{no_summary, not_beside_check, not_beside_stream}
 use Rattle.replay_output.specs.declared.status.Status.{Status}
 use Rattle.replay_stream.specs.Sinks.{state_by}
-use Rattle.replay_program.proofs.Programs.{Ends, ends_by, ends_checked, ends_replayed, ends_streamed, ends_summarized, not_kept, not_streamed}
+use Rattle.replay_program.proofs.Programs.{Ends, ends_by, ends_checked, ends_explained, ends_replayed, ends_streamed, ends_summarized, not_kept, not_streamed}
 use Rattle.replay_program.proofs.program.run.Goals as goal
 
 pub returns : goal.returns
@@ -71,6 +72,8 @@ returns-in-Ok g c =
           c.in-Ok.ensures.streamed;
       no_summary = no_summary (rows_of_words words) line.options.style.form line.summary c.in-Ok.ensures.summary
           (λ some. not_beside_check (rows_of_words words) replies (c.in-Ok.ensures.replies kept) (c.in-Ok.ensures.alone some));
+      no_explanations = no_explanations (rows_of_words words) line.explains c.in-Ok.ensures.explains (λ explains.
+          plain_without_check (rows_of_words words) replies (c.in-Ok.ensures.replies kept) (c.in-Ok.ensures.explained_plain explains));
     })
     checked.done checked.differs checked.quiet checked.failed checked.ends in
     let ends = subst (λ (s : Status). Ends (g.F.Files.has_opened files) (g.F.Files.cannot_open files) (g.F.Files.contents files) out error
@@ -131,8 +134,52 @@ returns-in-Ok-2 g c =
       no_summary = no_summary (rows_of_words words) line.options.style.form line.summary c.in-Ok.ensures.summary (λ some.
           not_beside_stream (rows_of_words words) (subst (HoldsStream (rows_of_words words)) on c.in-Ok.ensures.streamed)
           (c.in-Ok.ensures.alone some));
+      no_explanations = no_explanations (rows_of_words words) line.explains c.in-Ok.ensures.explains (λ explains.
+          plain_without_stream (rows_of_words words) (subst (HoldsStream (rows_of_words words)) on c.in-Ok.ensures.streamed)
+          (c.in-Ok.ensures.explained_plain explains));
     })
     streamed.done streamed.quiet streamed.failed streamed.ends streamed.same in
+    record {
+      done = ends.done;
+      quiet = ends.quiet;
+      failed = ends.failed;
+      mistaken = ends.mistaken;
+      nothing = ends.nothing;
+      usage = ends.usage;
+      differs = ends.differs;
+      quiet_too = ends.quiet_too;
+    }
+
+pub returns-in-Ok-3 : goal.returns-in-Ok-3
+returns-in-Ok-3 g c =
+    let files = c.args.files.now in
+    let state = state_by g.F.Writer.Sink.given g.F.Writer.Sink.failures in
+    let recorders = c.without_recorders-2.result.recorders.items in
+    let words : List (List ℕ) = map string_bytes c.args.words.now in
+    let line = c.in-Ok.line in
+    let names : List (List ℕ) = map (λ name. name.now) line.files.items in
+    let out = written (g.O.Sink.given c.args.out.now) (g.O.Sink.given c.explain_files.new.out)
+    (g.O.Sink.failures c.args.out.now) (g.O.Sink.failures c.explain_files.new.out) in
+    let error = written (g.E.Sink.given c.args.error.now) (g.E.Sink.given c.explain_files.new.error)
+    (g.E.Sink.failures c.args.error.now) (g.E.Sink.failures c.explain_files.new.error) in
+    let explained = c.explain_files.ensures in
+    let on : line.explains ≡ true = search rules in
+    let ends_by_status = ends_explained (g.F.Files.has_opened files) (g.F.Files.cannot_open files) (g.F.Files.contents files) out error
+    state (g.F.Files.has_created files) (g.F.Files.cannot_create files) (g.F.Files.begun files) recorders words c.explain_files.result line.options names
+    (record {
+      taken = c.in-Ok.ensures.taken;
+      holds_options = c.in-Ok.ensures.options;
+      holds_names = c.in-Ok.ensures.files;
+      least = omega (arith, c.in-Ok.ensures.least, length-map line.files.items (λ name. name.now));
+      most = omega (arith, c.in-Ok.ensures.most, length-map line.files.items (λ name. name.now));
+      input = c.in-Ok.ensures.input;
+      explanations = subst (HoldsExplain (rows_of_words words)) on c.in-Ok.ensures.explains;
+      plain = c.in-Ok.ensures.explained_plain on;
+    })
+    explained.done explained.quiet explained.failed explained.ends explained.same in
+    let ends = subst (λ (s : Status). Ends (g.F.Files.has_opened files) (g.F.Files.cannot_open files) (g.F.Files.contents files) out error
+    state (g.F.Files.has_created files) (g.F.Files.cannot_create files) (g.F.Files.begun files) recorders words s)
+    (sym c.without_recorders-2.ensures.status) ends_by_status in
     record {
       done = ends.done;
       quiet = ends.quiet;
@@ -158,6 +205,7 @@ returns-in-Some g c =
     (g.E.Sink.failures c.args.error.now) (g.E.Sink.failures c.summarize_files.new.error) in
     let summarized = c.summarize_files.ensures in
     let form = c.in-Some.form in
+    let unexplained : line.explains ≡ false = search rules in
     let ends_by_status = ends_summarized (g.F.Files.has_opened files) (g.F.Files.cannot_open files) (g.F.Files.contents files) out error
     state (g.F.Files.has_created files) (g.F.Files.cannot_create files) (g.F.Files.begun files) recorders words c.summarize_files.result form line.options names
     (record {
@@ -169,6 +217,7 @@ returns-in-Some g c =
       input = c.in-Ok.ensures.input;
       holds_summary = subst (HoldsSummary (rows_of_words words) line.options.style.form) c.in-Some.is c.in-Ok.ensures.summary;
       alone = c.in-Ok.ensures.alone (ap is_some c.in-Some.is);
+      no_explanations = subst (HoldsExplain (rows_of_words words)) unexplained c.in-Ok.ensures.explains;
     })
     summarized.done summarized.quiet summarized.failed summarized.ends summarized.same in
     let ends = subst (λ (s : Status). Ends (g.F.Files.has_opened files) (g.F.Files.cannot_open files) (g.F.Files.contents files) out error
@@ -198,6 +247,7 @@ returns-in-Ok-3 g c =
     let error = written (g.E.Sink.given c.args.error.now) (g.E.Sink.given c.replay_files.new.error)
     (g.E.Sink.failures c.args.error.now) (g.E.Sink.failures c.replay_files.new.error) in
     let replayed = c.replay_files.ensures in
+    let unexplained : line.explains ≡ false = search rules in
     let off : line.is_streamed ≡ false = search rules in
     let no : ¬ IsTrue c.is_kept.result = is_false c.is_kept.result c.if-is_kept.false in
     let ends_by_status = ends_replayed (g.F.Files.has_opened files) (g.F.Files.cannot_open files) (g.F.Files.contents files) out error
@@ -212,6 +262,7 @@ returns-in-Ok-3 g c =
       at_the_end = subst (HoldsStream (rows_of_words words)) off c.in-Ok.ensures.streamed;
       plain = not_kept line.options.style.form (λ is. no (c.is_kept.ensures.kept.1 is));
       no_summary = subst (HoldsSummary (rows_of_words words) line.options.style.form) c.in-None.is c.in-Ok.ensures.summary;
+      no_explanations = subst (HoldsExplain (rows_of_words words)) unexplained c.in-Ok.ensures.explains;
     })
     replayed.done replayed.quiet replayed.failed replayed.ends replayed.same in
     let ends = subst (λ (s : Status). Ends (g.F.Files.has_opened files) (g.F.Files.cannot_open files) (g.F.Files.contents files) out error

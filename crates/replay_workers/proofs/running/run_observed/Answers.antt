@@ -125,6 +125,7 @@ returns g c =
                 (subst (λ (stop : Option Stop). HasSeen Seen stop resolver.core.set.window saw.log)
                 (sym c.settle-account.ensures.stop) saw.seen));
           };
+      setting = c.turn_to_end.ensures.setting;
       capacity = subst (All (HasCapacity c.args.options.capacity))
           (sym (written_back outcome.clients.len now outcome.clients.items same_clients.count outcome.clients.ok.0))
           (capacities_stay c.args.options.capacity outcome.clients.items now same_clients

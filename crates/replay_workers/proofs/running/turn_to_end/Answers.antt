@@ -1,4 +1,5 @@
 use Rattle.std.specs.Prelude.{negsuc}
+use Rattle.std.proofs.Common.{◌∙◌}
 use Rattle.replay_workers.proofs.callers.SameLanes.{lanes_go_on}
 use Rattle.replay_workers.proofs.callers.Stopping.{accounted_turn, core_goes_on, observed_turn}
 use Rattle.replay_workers.proofs.running.turn_to_end.Goals as goal
@@ -16,6 +17,7 @@ loop-preserved-in-Ok-Took g c =
           (g.O.Observer.has_seen c.loop.observer) (g.O.Observer.has_seen c.turn_observed.new.observer)
           c.turn_observed.ensures.sees_taken c.turn_observed.ensures.sees_finish c.turn_observed.ensures.sees_nothing
           (c.loop.invariant.observed first);
+      setting = c.turn_observed.ensures.setting ∙ c.loop.invariant.setting;
       goes_on = core_goes_on _ c.loop.resolver.core _ c.loop.invariant.goes_on turns.goes_on;
       lanes = lanes_go_on _ c.loop.resolver.lanes _ c.loop.invariant.lanes turns.lanes;
     }
@@ -33,6 +35,7 @@ loop-preserved-in-Ok-Idle g c =
           (g.O.Observer.has_seen c.loop.observer) (g.O.Observer.has_seen c.turn_observed.new.observer)
           c.turn_observed.ensures.sees_taken c.turn_observed.ensures.sees_finish c.turn_observed.ensures.sees_nothing
           (c.loop.invariant.observed first);
+      setting = c.turn_observed.ensures.setting ∙ c.loop.invariant.setting;
       goes_on = core_goes_on _ c.loop.resolver.core _ c.loop.invariant.goes_on turns.goes_on;
       lanes = lanes_go_on _ c.loop.resolver.lanes _ c.loop.invariant.lanes turns.lanes;
     }
@@ -50,6 +53,7 @@ loop-preserved g c =
           (g.O.Observer.has_seen c.loop.observer) (g.O.Observer.has_seen c.turn_observed.new.observer)
           c.turn_observed.ensures.sees_taken c.turn_observed.ensures.sees_finish c.turn_observed.ensures.sees_nothing
           (c.loop.invariant.observed first);
+      setting = c.turn_observed.ensures.setting ∙ c.loop.invariant.setting;
       goes_on = core_goes_on _ c.loop.resolver.core _ c.loop.invariant.goes_on turns.goes_on;
       lanes = lanes_go_on _ c.loop.resolver.lanes _ c.loop.invariant.lanes turns.lanes;
     }

@@ -1,3 +1,4 @@
+use Rattle.std.proofs.Common.{◌≡◌}
 use Rattle.resolver.specs.Core.{GoesOn}
 use Rattle.resolver.specs.Lanes.{Each, LanesGoOn}
 use Rattle.resolver.specs.Resolver.{IsResolving}
@@ -11,6 +12,7 @@ invariant-loop g l = record {
   observed :
       IsObserved (g.O.Observer.has_seen l.fn.observer) l.fn.resolver
       → IsObserved (g.O.Observer.has_seen l.observer) l.resolver;
+  setting : g.O.Observer.setting l.observer ≡ g.O.Observer.setting l.fn.observer;
   goes_on : GoesOn l.fn.resolver.core l.resolver.core;
   lanes : Each (λ _ l m. LanesGoOn l m) l.fn.resolver.lanes l.resolver.lanes;
 }

@@ -26,12 +26,13 @@ returns c =
     let six = c.in_ok-arg-6.ensures.shape c.quiet.ensures.local ∙ ap₂ with_rule five c.quiet.ensures.rule in
     let seven = c.in_ok-arg-7.ensures.shape c.only.ensures.local ∙ ap₂ with_rule six c.only.ensures.rule in
     let eight = c.in_ok-arg-8.ensures.shape c.versions.ensures.local ∙ ap₂ with_rule seven c.versions.ensures.rule in
-    let nine = c.in_ok-arg-9.ensures.shape c.summary.ensures.local ∙ ap₂ with_rule eight c.summary.ensures.rule in
-    let ten = c.in_ok-arg-10.ensures.shape c.check.ensures.local ∙ ap₂ with_rule nine c.check.ensures.rule in
-    let eleven = c.in_ok-arg-11.ensures.shape c.stream.ensures.local ∙ ap₂ with_rule ten c.stream.ensures.rule in
-    let twelve = c.in_ok-arg-12.ensures.shape c.replies.ensures.local ∙ ap₂ with_rule eleven c.replies.ensures.rule in
+    let nine = c.in_ok-arg-9.ensures.shape c.explain.ensures.local ∙ ap₂ with_rule eight c.explain.ensures.rule in
+    let ten = c.in_ok-arg-10.ensures.shape c.summary.ensures.local ∙ ap₂ with_rule nine c.summary.ensures.rule in
+    let eleven = c.in_ok-arg-11.ensures.shape c.check.ensures.local ∙ ap₂ with_rule ten c.check.ensures.rule in
+    let twelve = c.in_ok-arg-12.ensures.shape c.stream.ensures.local ∙ ap₂ with_rule eleven c.stream.ensures.rule in
+    let thirteen = c.in_ok-arg-13.ensures.shape c.replies.ensures.local ∙ ap₂ with_rule twelve c.replies.ensures.rule in
     record {
-      app = IfOk-weaker c.arg-13.result _ _
-          (λ command added. added.shape c.file.ensures.local ∙ ap₂ with_rule twelve c.file.ensures.rule)
-          c.arg-13.ensures;
+      app = IfOk-weaker c.arg-14.result _ _
+          (λ command added. added.shape c.file.ensures.local ∙ ap₂ with_rule thirteen c.file.ensures.rule)
+          c.arg-14.ensures;
     }

@@ -133,6 +133,7 @@ loop-proxy-preserved g c =
           (goes_on g d).window (c.in_ok-answer.ensures.seen s given at));
       goes_on = GoesOn-then c.args.self.now (without g d) new (goes_on g d) c.answer.ensures.goes_on;
       still = c.in_ok-answer.ensures.«open»;
+      setting = c.answer.ensures.setting ∙ c.loop-proxy.invariant.setting;
     }
 
 pub returns-in_err-answer-clause-seen_between : goal.returns-in_err-answer-clause-seen_between

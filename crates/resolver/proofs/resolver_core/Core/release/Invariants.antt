@@ -11,6 +11,7 @@ invariant-loop-proxy g l = record {
       (g.O.Observer.has_seen l.observer);
   goes_on : GoesOn l.initial.self l.self;
   still : l.self.stop ≡ None;
+  setting : g.O.Observer.setting l.observer ≡ g.O.Observer.setting l.initial.observer;
 }
 
 abbrev pub decreases-loop-proxy : goal.decreases-loop-proxy

@@ -1,0 +1,65 @@
+"""What `--explain` prints under the line of a batch, by a scan of all writes."""
+
+from collections.abc import Iterator, Sequence
+from dataclasses import dataclass, field
+
+from .lines import key_form
+from .wire import Batch, Entry, Range, Reply, Txn
+
+
+@dataclass(frozen=True)
+class Write:
+    """A write range of a committed transaction."""
+
+    proxy: int
+    version: int
+    txn: int
+    of: Range
+
+
+def range_form(of: Range) -> str:
+    return f'["{key_form(of.begin)}","{key_form(of.end)}")'
+
+
+def write_form(write: Write, version: int) -> str:
+    origin = "same batch" if write.version == version else "history"
+    return f"{range_form(write.of)} of proxy {write.proxy}, version {write.version}, txn {write.txn} ({origin})"
+
+
+@dataclass
+class Explainer:
+    """The batches that were processed, in order."""
+
+    window: int
+    processed: list[tuple[int, Batch, Reply]] = field(default_factory=list)
+
+    def process(self, proxy: int, batch: Batch, reply: Reply) -> str:
+        """Takes the batch that was processed last, and returns the lines that explain its rejections."""
+        self.processed.append((proxy, batch, reply))
+        txns = zip(batch.txns, reply.entries)
+        return "".join(line for index, (txn, entry) in enumerate(txns) for line in self.lines(index, txn, entry, batch.version))
+
+    def lines(self, index: int, txn: Txn, entry: Entry, version: int) -> Iterator[str]:
+        if entry.verdict == "tooold":
+            oldest = max(0, version - self.window)
+            yield f"  txn {index} too old: snapshot {txn.snapshot}, oldest readable version {oldest}\n"
+        elif entry.verdict == "conflict":
+            for read in entry.indices or range(len(txn.reads)):
+                writes = self.writes(index, txn, txn.reads[read], version)
+                if writes:
+                    yield self.line(index, read, txn.reads[read], writes, version)
+
+    def line(self, index: int, read: int, of: Range, writes: Sequence[Write], version: int) -> str:
+        further = f", and {len(writes) - 1} more" if len(writes) > 1 else ""
+        return f"  txn {index} read {read} {range_form(of)} conflicts with write {write_form(writes[-1], version)}{further}\n"
+
+    def writes(self, index: int, txn: Txn, read: Range, version: int) -> list[Write]:
+        """Returns the writes that explain the conflict of a read, in order."""
+        found = []
+        for proxy, batch, reply in self.processed:
+            if batch.version != version and batch.version <= txn.snapshot:
+                continue
+            for other, (writer, entry) in enumerate(zip(batch.txns, reply.entries)):
+                if entry.verdict == "committed" and (batch.version != version or other < index):
+                    found += [Write(proxy, batch.version, other, of) for of in writer.writes if read.meets(of)]
+        return found

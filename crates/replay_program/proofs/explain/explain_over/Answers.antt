@@ -1,0 +1,119 @@
+use Rattle.std.proofs.Common.{◌≡◌, Bool, ◌&&◌, List, map, refl, ap, sym, subst, inr, inl, ◌∙◌, arith, rules, w64, to_z, of_z, Vec, Global}
+use Rattle.std.specs.Prelude.{OnOk, vec_items}
+use Rattle.std.proofs.lemmas.Int.{ints, to_z-of_z}
+use Rattle.std.proofs.lemmas.List.{length-map}
+use Rattle.keyspace.specs.Processed.{Processed}
+use Rattle.keyspace.specs.Run.{run as run_of}
+use Rattle.replay_explanations.specs.Explainer.{HasExplained}
+use Rattle.replay_explanations.specs.Lines.{explanation_at}
+use Rattle.replay_output.specs.declared.failures.Ending.{Ending}
+use Rattle.replay_output.specs.declared.failures.ProxyFailure.{ProxyFailure}
+use Rattle.replay_output.specs.declared.line.Line.{Line}
+use Rattle.replay_output.specs.Line.{answers_of}
+use Rattle.replay_output.specs.Lines.{lines_by}
+use Rattle.replay_output.specs.Failures.{failure_lines, NothingFailed}
+use Rattle.replay_workers.specs.Run.{IsObservedRun, is_complete}
+use Rattle.replay_program.specs.Explained.{Explained, TakesToExplain, explained_line, explained_lines}
+use Rattle.replay_program.specs.Replayed.{written, Took, TookBeginning}
+use Rattle.replay_program.proofs.Explaining.{seen_as, texts_are}
+use Rattle.replay_program.proofs.Replaying.{complete_from, ending_is, held_ok, are_lines, is_replayed_over, ran_as_and_failed}
+use Rattle.replay_program.proofs.explain.explain_over.Goals.{then-account, else-account}
+use Rattle.replay_program.proofs.explain.explain_over.Goals as goal
+
+pub returns-in-Err : goal.returns-in-Err
+returns-in-Err g c = record {
+  done = λ is. cc (c.fail_to_start.ensures.status, is);
+  quiet = λ is. cc (c.fail_to_start.ensures.status, is);
+  failed = λ is. inl (record {
+    cause = c.in-Err.cause;
+    nothing_printed = refl;
+    told = c.fail_to_start.ensures.line;
+  });
+  ends = λ is. cc (c.fail_to_start.ensures.status, is);
+  same = λ is. cc (c.fail_to_start.ensures.status, is);
+}
+
+pub returns : goal.returns
+returns g c =
+    let outcome = c.in-Ok.ended.0 in
+    let account = c.in-Ok.ended.1 in
+    let options = c.args.options in
+    let files = map g.S.Source.remaining c.args.readers.items in
+    let received = map (vec_items {X = Line} {Z = Global}) c.deref_mut.result.now in
+    let failures = c.deref_mut-2.result.now in
+    let complete = c.if-account.new in
+    let explainer = c.run_observed-run.new.observer in
+    let Seen = HasExplained explainer in
+    let whole : c.if-account.new ≡ is_complete outcome account =
+    elim c.if-account.branch [
+      | then-account w ↦ w.new-is ∙ sym (ap (λ (b : Bool). b && outcome.all_sent) w.if-account.true)
+      | else-account w ↦
+          w.new-is ∙ w.if-account.false ∙ sym (ap (λ (b : Bool). b && outcome.all_sent) w.if-account.false)
+    ] in
+    let of_lines = subst
+    (λ (l : List (Vec Line Global)). IsObservedRun Seen options files (map (vec_items {X = Line} {Z = Global}) l) outcome.failures.items (is_complete outcome account) account.stop)
+    (sym c.deref_mut.ensures.value) (c.in-Ok.ensures.observed c.new-explainer.ensures.none) in
+    let of_both = subst
+    (λ (f : List ProxyFailure). IsObservedRun Seen options files received f (is_complete outcome account) account.stop)
+    (sym c.deref_mut-2.ensures.value) of_lines in
+    let observed = subst (λ (b : Bool). IsObservedRun Seen options files received failures b account.stop) (sym whole) of_both in
+    let run = observed.run in
+    let list = observed.seen.list in
+    let kept : to_z w64 (of_z w64 options.window) ≡ options.window =
+    first_of (search rules, grind (arith, ints, to_z-of_z)) in
+    let window_is = c.run_observed-run.ensures.setting ∙ c.new-explainer.ensures.window ∙ kept in
+    let texts = texts_are explainer account.stop options.window run.log run.chain observed.seen window_is in
+    let ran : IsObservedRun (λ seen. seen ≡ list) options files received failures complete account.stop = record {
+      run = run;
+      seen = seen_as explainer account.stop options.window run.log run.chain observed.seen window_is;
+    } in
+    let ending = ending_is complete account.stop c.new-ending.result c.new-ending.ensures.ending in
+    let report = c.print_explained.ensures in
+    let told = c.print_explained.new.failures in
+    let out = written (g.O.Sink.given c.args.out.now) (g.O.Sink.given c.print_explained.new.out)
+    (g.O.Sink.failures c.args.out.now) (g.O.Sink.failures c.print_explained.new.out) in
+    let error = written (g.E.Sink.given c.args.error.now) (g.E.Sink.given c.print_explained.new.error)
+    (g.E.Sink.failures c.args.error.now) (g.E.Sink.failures c.print_explained.new.error) in
+    let are = are_lines options files received failures complete account.stop run in
+    let lines = subst (λ (explained : Explained). OnOk c.print_explained.result.printed
+    (Took out (lines_by (explained_line options.style explained) (map answers_of received)))) texts (report.lines options.style are) in
+    record {
+      done = λ is.
+          let parts = report.done.0 is in
+          let nothing = subst (λ (e : Ending). NothingFailed failures e) ending parts.2 in
+          let all = observed.seen.all (run.no_stop (complete_from complete account.stop nothing.complete)) in
+          is_replayed_over options files received failures complete account.stop run
+          (λ log answers. Took out (explained_lines options (run_of options.window log).processed answers))
+          c.answers_tell_verdicts.ensures.tell nothing
+          (subst (λ (ps : List Processed). Took out (explained_lines options ps (map answers_of received))) all
+          (held_ok c.print_explained.result.printed _ lines parts.0));
+      quiet = report.quiet;
+      failed = λ is.
+          inr (record {
+            explained = list;
+            failed = ran_as_and_failed options files received failures complete account.stop run
+                (IsObservedRun (λ seen. seen ≡ list) options files) ran (explained_lines options list)
+                (TakesToExplain (explanation_at options.window list)) out error told
+                c.print_explained.result.printed c.print_explained.result.told lines
+                (λ proxy memory. omega (
+                  arith,
+                  report.memory proxy memory,
+                  length-map c.deref_mut.result.now (vec_items {X = Line} {Z = Global}),
+                ))
+                (λ proxy memory. subst (λ (explained : Explained). TakesToExplain explained received proxy) texts
+                (report.takes proxy memory))
+                report.nothing
+                (λ wrote. subst (λ (explained : Explained).
+                TookBeginning out (lines_by (explained_line options.style explained) (map answers_of received))) texts
+                (report.beginning options.style are wrote))
+                report.write.0
+                (subst (λ (e : Ending). OnOk c.print_explained.result.told (Took error (failure_lines told e))) ending report.failure_lines)
+                report.told.0 report.loss report.no_loss
+                (λ all.
+                let done =
+                report.done.1 (all.0, all.1, subst (λ (e : Ending). NothingFailed failures e) (sym ending) all.2) in
+                cc (done, is));
+          });
+      ends = report.ends;
+      same = report.same;
+    }

@@ -1,0 +1,77 @@
+-- What is printed of answers whose rejections are explained. This project's own.
+use Rattle.std.specs.Prelude.{◌≡◌, ◌≢◌, ◌⊎◌, ℕ, ℤ, List, [], length, map, Option}
+use Rattle.std.specs.List.{enumerate_from}
+use Rattle.std.specs.Io.KnownBytes.{Appends}
+use Rattle.keyspace.specs.declared.answer.Answer.{Answer}
+use Rattle.keyspace.specs.declared.answer.Answer.TheVariants as answer
+use Rattle.keyspace.specs.Processed.{Processed}
+use Rattle.keyspace.specs.Run.{run}
+use Rattle.replay_explanations.specs.Lines.{explanation_at}
+use Rattle.replay_output.specs.declared.line.Line.{Line}
+use Rattle.replay_output.specs.declared.options.style.Style.{Style}
+use Rattle.replay_output.specs.declared.options.Options.{Options}
+use Rattle.replay_output.specs.Line.{TakesToSort}
+use Rattle.replay_output.specs.Lines.{Print, line, lines_by}
+use Rattle.replay_output.specs.Notes.{with_note}
+use Rattle.replay_summary.specs.declared.counted.Outcome.{Outcome}
+use Rattle.replay_summary.specs.declared.counted.Outcome.TheVariants.{Replied, Never, Held}
+use Rattle.replay_workers.specs.Run.{IsObservedRun}
+use Rattle.replay_program.specs.Replayed.{DidNotStart, IsReplayedOver, RanAndFailed, Written}
+
+-- of each proxy and version, the lines that explain the rejections in its batch
+abbrev pub Explained : Type 0
+Explained = ℕ → ℤ → List ℕ
+
+-- what explains an answer to this proxy: only replies are explained, kept ones too
+abbrev pub note_of : Explained → ℕ → Answer → List ℕ
+note_of explained proxy (answer.Reply reply) = explained proxy reply.version
+note_of explained proxy (answer.Never version) = []
+note_of explained proxy (answer.Held version) = []
+
+-- the line of an answer, and under it what explains it; a line that isn't shown is empty, and isn't explained
+abbrev pub explained_line : Style → Explained → Print
+explained_line style explained proxy answer = with_note (line style proxy answer) (note_of explained proxy answer)
+
+-- what explains an answer of which this is kept
+abbrev pub note_at : Explained → ℕ → ℤ → Outcome → List ℕ
+note_at explained proxy version (Replied counts) = explained proxy version
+note_at explained proxy version Never = []
+note_at explained proxy version Held = []
+
+-- the line with what explains its answer under it
+abbrev pub noted : Explained → ℕ → Line → Line
+noted explained proxy l =
+    record l { text = with_note l.text (note_at explained proxy l.counted.version l.counted.outcome) }
+
+-- the same of all lines, given those of each proxy; a proxy's number is its index
+abbrev pub noted_each : Explained → List (List Line) → List (List Line)
+noted_each explained lines = map (λ own. map (noted explained own.0) own.1) (enumerate_from 0 lines)
+
+-- the complete text, given each proxy's answers as received, if these batches were processed
+abbrev pub explained_lines : Options → List Processed → List (List Answer) → List ℕ
+explained_lines options processed answers =
+    lines_by (explained_line options.style (explanation_at options.window processed)) answers
+
+-- All was read, resolved and printed: the text printed is the lines of the answers that are shown, and under each the lines that explain
+-- the rejections in its batch. They are those of the batches that the reference resolver processes over the same log.
+abbrev pub IsExplained : Options → List (Option (List ℕ)) → Option (List ℕ) → Option (List ℕ) → Type 0
+IsExplained options files before after =
+    IsReplayedOver
+    (λ log answers. Appends before after (explained_lines options (run options.window log).processed answers)) options files
+
+-- Memory is taken to sort the lines of the proxy of this number, or to explain one of them.
+abbrev pub TakesToExplain : Explained → List (List Line) → ℕ → Type 0
+TakesToExplain explained received proxy =
+    TakesToSort received proxy ⊎ ((version : ℤ) × (explained proxy version ≢ []))
+
+-- The files were replayed, and something failed. These batches were explained: all that were processed, unless a stop was met. Then
+-- those of the last step may be missing.
+pub record ExplainedAndFailed (options : Options) (files : List (Option (List ℕ))) (out error : Written) : Type 0 where
+  pub explained : List Processed
+  pub failed :
+      RanAndFailed (IsObservedRun (λ seen. seen ≡ explained) options files) (explained_lines options explained)
+      (TakesToExplain (explanation_at options.window explained)) (length files) out error
+
+-- The program failed, which was to explain rejections.
+abbrev pub FailsToExplain : Options → List (Option (List ℕ)) → Written → Written → Type 0
+FailsToExplain options files out error = DidNotStart out error ⊎ ExplainedAndFailed options files out error

@@ -1,0 +1,82 @@
+//! All that follows the opening of the files of a replay with explanations: their batches are
+//! resolved, and the answers printed with the lines that explain their rejections.
+
+ghost use Rattle.std.specs.Prelude.{◌≡◌, ◌≤◌, ◌≢◌, map, vec_len};
+ghost use Rattle.std.specs.Io.KnownBytes.{Keeps};
+ghost use Rattle.replay_program.specs.Explained.{FailsToExplain, IsExplained};
+ghost use Rattle.replay_program.specs.Replayed.{written};
+
+use replay_explanations::Explainer;
+use replay_output::{Ending, Options, Status, fail_to_start};
+use replay_workers::{Gatekeeper, Outcome, ShareKeeper, run_observed};
+use resolver::MAX_PROXIES;
+use std::alloc::Global;
+use std::sync::{Arc, Wait};
+use std::thread::Threads;
+use wire::{Sink, Source};
+
+mod notes;
+mod report;
+
+pub use notes::explain_lines;
+pub use report::print_explained;
+
+/// Replays the files of these readers as [`replay_over`](crate::replay_over) does. Prints the lines
+/// of the answers to `out`, and under each the lines that explain the rejections in its batch.
+///
+/// After a stop, a batch that was processed by the last step may have an answer without explanation.
+/// If memory is refused for an explanation, its proxy has a loss, and nothing is printed to `out`.
+pub fn explain_over<
+    S: Source + Send + Drop + 'static,
+    G: Gatekeeper + ShareKeeper + Send + Sync + Drop + 'static,
+    R: Threads + Wait + Copy + Send + 'static,
+    O: Sink,
+    E: Sink,
+>(
+    rt: &R,
+    alloc: Global,
+    readers: Vec<S>,
+    options: Options,
+    gatekeeper: &Arc<G, Global>,
+    out: &mut O,
+    error: &mut E,
+) -> Status
+    requires least_files { 1 ≤ vec_len readers }
+    requires most_files { vec_len readers ≤ MAX_PROXIES }
+    ensures done { result ≡ Status.Done
+        → IsExplained options (map S.remaining readers.items) (O.given out.old) (O.given out.new) }
+    ensures quiet { result ≡ Status.Done → Keeps (E.given error.old) (E.given error.new) }
+
+    // Something failed, and its lines were written, or the writer failed.
+    ensures failed { result ≡ Status.Failed → FailsToExplain options (map S.remaining readers.items)
+        (written (O.given out.old) (O.given out.new) (O.failures out.old) (O.failures out.new))
+        (written (E.given error.old) (E.given error.new) (E.failures error.old)
+        (E.failures error.new)) }
+    ensures ends { result ≢ Status.Usage }
+    ensures same { result ≢ Status.Differs }
+{
+    serial::laws::answers_tell_verdicts();
+    let mut explainer = Explainer::new(alloc, options.window);
+    let run = run_observed(rt, alloc, readers, options, gatekeeper, &mut explainer);
+    let (outcome, account) = match run {
+        Ok(ended) => ended,
+        Err(cause) => return fail_to_start(error, cause),
+    };
+    let Outcome {
+        mut lines,
+        mut failures,
+        all_sent,
+        ..
+    } = outcome;
+    let ending = Ending::new(account.complete && all_sent, account.stop);
+    print_explained(
+        alloc,
+        out,
+        error,
+        &mut lines,
+        &explainer,
+        &mut failures,
+        ending,
+    )
+    .status
+}
