@@ -3,3 +3,4 @@ pub mod Lists
 pub mod Standing
 pub mod Later
 pub mod Logs
+pub mod Observing

@@ -178,6 +178,7 @@ impl Resolver {
             (Finish ∷ []) }
         ensures sees_nothing { TakesNoStep self.old self.new
             → Observes (O.has_seen observer.old) (O.has_seen observer.new) self.old self.new [] }
+        ensures unseen { IfSome self.old.core.stop (λ _. observer.new ≡ observer.old) }
         ensures setting { O.setting observer.new ≡ O.setting observer.old }
     {
         let stepped = self.step(observer);

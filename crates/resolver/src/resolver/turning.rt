@@ -58,6 +58,7 @@ impl Resolver {
         ensures open { OnOk result (self.old.core.stop ≡ None) }
         ensures sees { ObservesStep (O.has_seen observer.old) (O.has_seen observer.new) self.old
             self.new }
+        ensures unseen { IfSome self.old.core.stop (λ _. observer.new ≡ observer.old) }
         ensures setting { O.setting observer.new ≡ O.setting observer.old }
     {
         if let Some(stop) = self.core.stop() {

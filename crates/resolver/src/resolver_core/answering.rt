@@ -48,7 +48,8 @@ impl Core {
             self.new }
         ensures seen { OnOk result ((state : State) (given : Given) → IsIn state given self.old
             → O.has_seen observer.old state.processed
-            → O.has_seen observer.new (step self.old.set.window (Take proxy batch) state).processed) }
+            → O.has_seen observer.new
+            (step self.old.set.window (Take proxy batch) state).processed) }
         ensures seen_between { OnErr result ((state : State) (given : Given)
             → IsIn state given self.old
             → O.has_seen observer.old state.processed
@@ -124,7 +125,8 @@ impl Core {
             self.new }
         ensures seen { OnOk result ((state : State) (given : Given) → IsIn state given self.old
             → O.has_seen observer.old state.processed
-            → O.has_seen observer.new (reference.admit self.old.set.window proxy batch state).processed) }
+            → O.has_seen observer.new
+            (reference.admit self.old.set.window proxy batch state).processed) }
         ensures unseen { OnErr result ((ps : List Processed) → O.has_seen observer.old ps
             → O.has_seen observer.new ps) }
         ensures setting { O.setting observer.new ≡ O.setting observer.old }
