@@ -7,6 +7,7 @@ import json
 from bisect import bisect_left, bisect_right
 from collections.abc import Sequence
 from dataclasses import dataclass, field
+from decimal import ROUND_HALF_UP, Decimal
 
 from .explaining import Explainer
 from .lines import entry_json
@@ -204,15 +205,25 @@ def counts_of(answers: Sequence[Sequence[Answer]]) -> tuple[dict[str, int], tupl
     return counts, (min(versions), max(versions)) if versions else None
 
 
+def percent_of(part: int, whole: int) -> str:
+    """Returns a share in percent with one decimal, rounded to the nearest one, and up from the middle."""
+    return str((Decimal(100 * part) / whole).quantize(Decimal("0.1"), ROUND_HALF_UP))
+
+
 def summary_words(name: str, answers: Sequence[Sequence[Answer]]) -> str:
     counts, ends = counts_of(answers)
+    rate = f"{percent_of(counts['conflict'], counts['transactions'])} %" if counts["transactions"] else "none"
     versions = "none" if ends is None else f"{ends[0]} to {ends[1]}"
-    return f"{name}: {', '.join(f'{word} {count}' for word, count in counts.items())}, versions {versions}\n"
+    parts = [f"{word} {count}" for word, count in counts.items()]
+    return f"{name}: {', '.join([*parts[:5], f'conflict rate {rate}', *parts[5:]])}, versions {versions}\n"
 
 
 def summary_members(answers: Sequence[Sequence[Answer]]) -> dict[str, object]:
     counts, ends = counts_of(answers)
-    return counts | {"versions": None if ends is None else {"first": ends[0], "last": ends[1]}}
+    rate = float(percent_of(counts["conflict"], counts["transactions"])) if counts["transactions"] else None
+    members = list(counts.items())
+    members.insert(5, ("conflict_percent", rate))
+    return dict(members) | {"versions": None if ends is None else {"first": ends[0], "last": ends[1]}}
 
 
 def summary_of(answers: Sequence[Sequence[Answer]], is_json: bool) -> str:

@@ -239,7 +239,9 @@ ARGUMENTS = (
 def counted(name: str, counts: tuple[int, ...], versions: str) -> str:
     """The line of a summary."""
     words = ("batches", "transactions", "committed", "conflict", "tooold", "repeats", "never", "held")
-    return f"{name}: {', '.join(f'{word} {count}' for word, count in zip(words, counts, strict=True))}, versions {versions}\n"
+    parts = [f"{word} {count}" for word, count in zip(words, counts, strict=True)]
+    rate = "none" if counts[1] == 0 else f"{100 * counts[3] / counts[1]:.1f} %"
+    return f"{name}: {', '.join([*parts[:5], f'conflict rate {rate}', *parts[5:]])}, versions {versions}\n"
 
 
 def alone(*counts: int, versions: str) -> str:
@@ -273,10 +275,10 @@ SUMMARIES = (
     ShellRow(("--summary", "-"), alone(2, 1, 1, 0, 0, 0, 0, 0, versions="0 to 100"), stdin="first"),
     ShellRow(
         ("--json", "--summary", "first", "empty"),
-        '{"proxies":[{"proxy":0,"batches":2,"transactions":1,"committed":1,"conflict":0,"tooold":0,"repeats":0,"never":0,'
+        '{"proxies":[{"proxy":0,"batches":2,"transactions":1,"committed":1,"conflict":0,"tooold":0,"conflict_percent":0.0,"repeats":0,"never":0,'
         '"held":0,"versions":{"first":0,"last":100}},{"proxy":1,"batches":0,"transactions":0,"committed":0,"conflict":0,'
-        '"tooold":0,"repeats":0,"never":0,"held":0,"versions":null}],"batches":2,"transactions":1,"committed":1,'
-        '"conflict":0,"tooold":0,"repeats":0,"never":0,"held":0,"versions":{"first":0,"last":100}}\n',
+        '"tooold":0,"conflict_percent":null,"repeats":0,"never":0,"held":0,"versions":null}],"batches":2,"transactions":1,"committed":1,'
+        '"conflict":0,"tooold":0,"conflict_percent":0.0,"repeats":0,"never":0,"held":0,"versions":{"first":0,"last":100}}\n',
     ),
     ShellRow(("--summary", "cut"), alone(1, 0, 0, 0, 0, 0, 0, 0, versions="0 to 0"), SHORT, 1),
     ShellRow(

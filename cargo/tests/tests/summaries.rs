@@ -113,12 +113,12 @@ fn numbers_beyond_64_bits_are_refused() {
 fn lines_of_words() {
     let summaries = summarized(two_proxies());
     let wanted = "\
-proxy 0: batches 3, transactions 5, committed 3, conflict 1, tooold 1, repeats 1, never 1, held 0, versions 0 to 200
-proxy 1: batches 2, transactions 2, committed 0, conflict 2, tooold 0, repeats 0, never 0, held 2, versions 50 to 250
-all: batches 5, transactions 7, committed 3, conflict 3, tooold 1, repeats 1, never 1, held 2, versions 0 to 250
+proxy 0: batches 3, transactions 5, committed 3, conflict 1, tooold 1, conflict rate 20.0 %, repeats 1, never 1, held 0, versions 0 to 200
+proxy 1: batches 2, transactions 2, committed 0, conflict 2, tooold 0, conflict rate 100.0 %, repeats 0, never 0, held 2, versions 50 to 250
+all: batches 5, transactions 7, committed 3, conflict 3, tooold 1, conflict rate 42.9 %, repeats 1, never 1, held 2, versions 0 to 250
 ";
     assert_eq!(text(&summaries, SummaryForm::Words), wanted);
-    let wanted = "all: batches 0, transactions 0, committed 0, conflict 0, tooold 0, repeats 0, never 0, held 0, versions none\n";
+    let wanted = "all: batches 0, transactions 0, committed 0, conflict 0, tooold 0, conflict rate none, repeats 0, never 0, held 0, versions none\n";
     assert_eq!(text(&[], SummaryForm::Words), wanted);
 }
 
@@ -127,21 +127,48 @@ fn one_line_of_json() {
     let summaries = summarized(two_proxies());
     let wanted = concat!(
         r#"{"proxies":["#,
-        r#"{"proxy":0,"batches":3,"transactions":5,"committed":3,"conflict":1,"tooold":1,"repeats":1,"never":1,"held":0,"#,
+        r#"{"proxy":0,"batches":3,"transactions":5,"committed":3,"conflict":1,"tooold":1,"conflict_percent":20.0,"repeats":1,"never":1,"held":0,"#,
         r#""versions":{"first":0,"last":200}},"#,
-        r#"{"proxy":1,"batches":2,"transactions":2,"committed":0,"conflict":2,"tooold":0,"repeats":0,"never":0,"held":2,"#,
+        r#"{"proxy":1,"batches":2,"transactions":2,"committed":0,"conflict":2,"tooold":0,"conflict_percent":100.0,"repeats":0,"never":0,"held":2,"#,
         r#""versions":{"first":50,"last":250}}],"#,
-        r#""batches":5,"transactions":7,"committed":3,"conflict":3,"tooold":1,"repeats":1,"never":1,"held":2,"#,
+        r#""batches":5,"transactions":7,"committed":3,"conflict":3,"tooold":1,"conflict_percent":42.9,"repeats":1,"never":1,"held":2,"#,
         r#""versions":{"first":0,"last":250}}"#,
         "\n"
     );
     assert_eq!(text(&summaries, SummaryForm::Json), wanted);
     let wanted = concat!(
-        r#"{"proxies":[],"batches":0,"transactions":0,"committed":0,"conflict":0,"tooold":0,"repeats":0,"never":0,"held":0,"#,
+        r#"{"proxies":[],"batches":0,"transactions":0,"committed":0,"conflict":0,"tooold":0,"conflict_percent":null,"repeats":0,"never":0,"held":0,"#,
         r#""versions":null}"#,
         "\n"
     );
     assert_eq!(text(&[], SummaryForm::Json), wanted);
+}
+
+/// The line of one proxy with these transactions in conflict, of so many.
+fn rate_of(conflict: usize, transactions: usize) -> String {
+    let line = text(&[Summary { conflict, transactions, ..Summary::empty() }], SummaryForm::Words);
+    let (_, rest) = line.split_once("conflict rate ").expect("a rate");
+    rest.split_once(',').expect("more behind it").0.to_owned()
+}
+
+#[test]
+fn a_rate_is_rounded_up_from_the_middle() {
+    let rows = [
+        (0, 1, "0.0 %"),
+        (1, 1, "100.0 %"),
+        (1, 3, "33.3 %"),
+        (2, 3, "66.7 %"),
+        (1, 2_000, "0.1 %"),
+        (1, 2_001, "0.0 %"),
+        (999, 1_000, "99.9 %"),
+        (1_999, 2_000, "100.0 %"),
+        (usize::MAX, usize::MAX, "100.0 %"),
+        (usize::MAX / 2, usize::MAX, "50.0 %"),
+        (0, 0, "none"),
+    ];
+    for (conflict, transactions, wanted) in rows {
+        assert_eq!(rate_of(conflict, transactions), wanted, "{conflict} of {transactions}");
+    }
 }
 
 /// Answers at few versions, so that many are repeats. The replies of a version may differ, and the first one counts.

@@ -2,4 +2,5 @@
 pub mod Counted
 pub mod Summary
 pub mod Adding
+pub mod Rate
 pub mod Text

@@ -7,6 +7,7 @@ use Rattle.replay_summary.specs.declared.text.SummaryForm.{SummaryForm}
 use Rattle.replay_summary.specs.declared.text.SummaryForm.TheVariants.{Words, Json}
 use Rattle.replay_summary.specs.declared.versions.Versions.{Versions}
 use Rattle.replay_summary.specs.Summary.{total_of}
+use Rattle.replay_summary.specs.Rate.{rate_member, rate_words}
 
 -- the batches that were replied to, and the verdicts on their transactions, in words
 abbrev pub verdict_words : Summary → List ℕ
@@ -27,7 +28,7 @@ version_words (Some versions) =
 
 -- the words of a summary, to the end of the line
 abbrev pub words : Summary → List ℕ
-words s = verdict_words s ++ other_words s ++ version_words s.versions
+words s = verdict_words s ++ rate_words s ++ other_words s ++ version_words s.versions
 
 -- the line of a proxy, given its number and its summary
 abbrev pub proxy_line : ℕ × Summary → List ℕ
@@ -57,7 +58,7 @@ version_member (Some versions) =
 
 -- the members of a summary, to the end of the object
 abbrev pub members : Summary → List ℕ
-members s = verdict_members s ++ other_members s ++ version_member s.versions
+members s = verdict_members s ++ rate_member s ++ other_members s ++ version_member s.versions
 
 -- the object of a proxy, given its number and its summary; a comma is before each but the first
 abbrev pub proxy_object : ℕ × Summary → List ℕ

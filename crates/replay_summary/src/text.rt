@@ -12,6 +12,7 @@ use words::put_lines;
 
 mod json;
 mod number;
+mod rate;
 mod words;
 
 /// The form of a summary.

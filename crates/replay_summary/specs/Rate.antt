@@ -1,0 +1,31 @@
+-- The rate of conflicts. This project's own.
+--
+-- Rows: 2 conflicts of 6 transactions are 33.3 percent, 2 of 3 are 66.7, 1 of 2,000 is 0.1 (from the middle up), and of no
+-- transactions there is no rate.
+use Rattle.std.specs.Prelude.{ℕ, ◌+◌, ◌*◌, ◌/◌, ◌%◌, ◌==◌, if◌then◌else◌, List, ◌++◌, codes}
+use Rattle.std.specs.Fmt.{decimal}
+use Rattle.replay_summary.specs.declared.summary.Summary.{Summary}
+
+-- the share of a part in tenths of a percent, rounded to the nearest one, and up from the middle
+abbrev pub tenths : ℕ → ℕ → ℕ
+tenths part whole = (1000 * part + whole / 2) / whole
+
+-- so many tenths of a percent, in percent with one decimal
+abbrev pub percent : ℕ → List ℕ
+percent count = decimal (count / 10) ++ codes "." ++ decimal (count % 10)
+
+-- how many percent of the transactions are in conflict
+abbrev pub conflict_percent : Summary → List ℕ
+conflict_percent s = percent (tenths s.conflict s.transactions)
+
+-- the same in words, or that there is no transaction
+abbrev pub rate_words : Summary → List ℕ
+rate_words s =
+    codes ", conflict rate "
+    ++ (if s.transactions == 0 then codes "none" else conflict_percent s ++ codes " %")
+
+-- the same as a member of an object
+abbrev pub rate_member : Summary → List ℕ
+rate_member s =
+    codes ",\"conflict_percent\":"
+    ++ (if s.transactions == 0 then codes "null" else conflict_percent s)
