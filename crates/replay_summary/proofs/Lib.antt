@@ -6,3 +6,4 @@ pub mod Fitting
 pub mod Told
 pub mod Appending
 pub mod Numbered
+mod Texts

@@ -2,7 +2,7 @@
 --
 -- Rows: 2 conflicts of 6 transactions are 33.3 percent, 2 of 3 are 66.7, 1 of 2,000 is 0.1 (from the middle up), and of no
 -- transactions there is no rate.
-use Rattle.std.specs.Prelude.{ℕ, ◌+◌, ◌*◌, ◌/◌, ◌%◌, ◌==◌, if◌then◌else◌, List, ◌++◌, codes}
+use Rattle.std.specs.Prelude.{ℕ, ◌+◌, ◌*◌, ◌/◌, ◌%◌, ◌==◌, if◌then◌else◌, List, [], ◌++◌, codes}
 use Rattle.std.specs.Fmt.{decimal}
 use Rattle.replay_summary.specs.declared.summary.Summary.{Summary}
 
@@ -18,14 +18,14 @@ percent count = decimal (count / 10) ++ codes "." ++ decimal (count % 10)
 abbrev pub conflict_percent : Summary → List ℕ
 conflict_percent s = percent (tenths s.conflict s.transactions)
 
--- the same in words, or that there is no transaction
+-- the name of the rate and its unit behind it, or what is said if there is no transaction
+abbrev pub rate_between : List ℕ → List ℕ → List ℕ → Summary → List ℕ
+rate_between name unit none s = name ++ (if s.transactions == 0 then none else conflict_percent s ++ unit)
+
+-- the rate in words
 abbrev pub rate_words : Summary → List ℕ
-rate_words s =
-    codes ", conflict rate "
-    ++ (if s.transactions == 0 then codes "none" else conflict_percent s ++ codes " %")
+rate_words = rate_between (codes ", conflict rate ") (codes " %") (codes "none")
 
 -- the same as a member of an object
 abbrev pub rate_member : Summary → List ℕ
-rate_member s =
-    codes ",\"conflict_percent\":"
-    ++ (if s.transactions == 0 then codes "null" else conflict_percent s)
+rate_member = rate_between (codes ",\"conflict_percent\":") [] (codes "null")

@@ -2,12 +2,11 @@
 
 ghost use Rattle.std.specs.Prelude.{◌≡◌, ◌++◌, OnOk, codes};
 ghost use Rattle.std.specs.List.{flat_map, enumerate_from};
-ghost use Rattle.replay_summary.specs.Rate.{rate_member};
 ghost use Rattle.replay_summary.specs.Text.{members, other_members, proxy_object};
 ghost use Rattle.replay_summary.specs.Text.{proxy_objects, verdict_members, version_member};
 
 use super::number::put_number;
-use super::rate::put_conflict_percent;
+use super::rate::put_rate;
 use crate::summary::Summary;
 use crate::versions::Versions;
 use std::io;
@@ -54,7 +53,7 @@ fn put_members(out: &mut Vec<u8>, summary: &Summary) -> io::Result<()>
     ensures text { OnOk result (out.new.items ≡ out.old.items ++ members summary.now) }
 {
     put_verdicts(out, summary)?;
-    put_rate(out, summary)?;
+    put_rate(out, b",\"conflict_percent\":", summary, b"", b"null")?;
     put_others(out, summary)?;
     put_versions(out, summary.versions)
 }
@@ -67,16 +66,6 @@ fn put_verdicts(out: &mut Vec<u8>, summary: &Summary) -> io::Result<()>
     put_number(out, b",\"committed\":", summary.committed)?;
     put_number(out, b",\"conflict\":", summary.conflict)?;
     put_number(out, b",\"tooold\":", summary.too_old)
-}
-
-fn put_rate(out: &mut Vec<u8>, summary: &Summary) -> io::Result<()>
-    ensures text { OnOk result (out.new.items ≡ out.old.items ++ rate_member summary.now) }
-{
-    out.write_all(b",\"conflict_percent\":")?;
-    if summary.transactions == 0 {
-        return out.write_all(b"null");
-    }
-    put_conflict_percent(out, summary)
 }
 
 fn put_others(out: &mut Vec<u8>, summary: &Summary) -> io::Result<()>

@@ -1,14 +1,34 @@
 //! The rate of conflicts.
 
-ghost use Rattle.std.specs.Prelude.{◌≡◌, ◌≢◌, ◌<◌, ◌^◌, ◌++◌, OnOk};
-ghost use Rattle.replay_summary.specs.Rate.{conflict_percent, tenths};
+ghost use Rattle.std.specs.Prelude.{◌≡◌, ◌≢◌, ◌++◌, OnOk};
+ghost use Rattle.replay_summary.specs.Rate.{conflict_percent, rate_between, tenths};
 
 use crate::summary::Summary;
 use std::io;
 use std::io::Write;
 
-/// Appends how many percent of the transactions are in conflict, with one decimal.
-pub fn put_conflict_percent(out: &mut Vec<u8>, summary: &Summary) -> io::Result<()>
+/// Appends the name, then the rate and its unit, or `none` if there is no transaction. All three
+/// texts are ASCII.
+pub fn put_rate(
+    out: &mut Vec<u8>,
+    name: &[u8],
+    summary: &Summary,
+    unit: &[u8],
+    none: &[u8],
+) -> io::Result<()>
+    ensures text { OnOk result (out.new.items
+        ≡ out.old.items ++ rate_between name.now unit.now none.now summary.now) }
+{
+    out.write_all(name)?;
+    if summary.transactions == 0 {
+        return out.write_all(none);
+    }
+    put_conflict_percent(out, summary)?;
+    out.write_all(unit)
+}
+
+// Appends how many percent of the transactions are in conflict, with one decimal.
+fn put_conflict_percent(out: &mut Vec<u8>, summary: &Summary) -> io::Result<()>
     requires some { summary.now.transactions ≢ 0 }
     ensures text { OnOk result
         (out.new.items ≡ out.old.items ++ conflict_percent summary.now) }

@@ -2,12 +2,11 @@
 
 ghost use Rattle.std.specs.Prelude.{◌≡◌, ◌++◌, OnOk};
 ghost use Rattle.std.specs.List.{flat_map, enumerate_from};
-ghost use Rattle.replay_summary.specs.Rate.{rate_words};
 ghost use Rattle.replay_summary.specs.Text.{last_line, other_words, proxy_line, verdict_words};
 ghost use Rattle.replay_summary.specs.Text.{version_words, words};
 
 use super::number::put_number;
-use super::rate::put_conflict_percent;
+use super::rate::put_rate;
 use crate::summary::Summary;
 use crate::versions::Versions;
 use std::io;
@@ -38,7 +37,7 @@ fn put_words(out: &mut Vec<u8>, summary: &Summary) -> io::Result<()>
     ensures text { OnOk result (out.new.items ≡ out.old.items ++ words summary.now) }
 {
     put_verdicts(out, summary)?;
-    put_rate(out, summary)?;
+    put_rate(out, b", conflict rate ", summary, b" %", b"none")?;
     put_others(out, summary)?;
     put_versions(out, summary.versions)
 }
@@ -51,17 +50,6 @@ fn put_verdicts(out: &mut Vec<u8>, summary: &Summary) -> io::Result<()>
     put_number(out, b", committed ", summary.committed)?;
     put_number(out, b", conflict ", summary.conflict)?;
     put_number(out, b", tooold ", summary.too_old)
-}
-
-fn put_rate(out: &mut Vec<u8>, summary: &Summary) -> io::Result<()>
-    ensures text { OnOk result (out.new.items ≡ out.old.items ++ rate_words summary.now) }
-{
-    out.write_all(b", conflict rate ")?;
-    if summary.transactions == 0 {
-        return out.write_all(b"none");
-    }
-    put_conflict_percent(out, summary)?;
-    out.write_all(b" %")
 }
 
 fn put_others(out: &mut Vec<u8>, summary: &Summary) -> io::Result<()>
