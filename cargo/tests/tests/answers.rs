@@ -1,7 +1,7 @@
 //! The lines of answers by hand: one, many in order, and those that a filter shows.
 
 use rattle_std::alloc::Global;
-use replay_program::{Form, Style, print_answers, read_words};
+use replay_program::{Filter, Form, Line, Style, print_answers, read_words};
 use tests::printing::{line, received};
 use wire::StdSink;
 
@@ -76,6 +76,30 @@ fn answers_as_json() {
         ("1000 held", r#"{"proxy":7,"version":1000,"answer":"held"}"#),
     ] {
         assert_eq!(printed(Form::Json, 7, answer), format!("{text}\n"));
+    }
+}
+
+/// Makes the line of an answer to proxy 7, changes it, and returns its text.
+fn changed(style: Style, answer: &str, change: impl FnOnce(&mut Line)) -> String {
+    let mut changed = line(style, 7, answer);
+    change(&mut changed);
+    let mut out = StdSink::new(Vec::new());
+    changed.text.print(&mut out).expect("a vector takes all");
+    text_of(out)
+}
+
+/// A note comes under the line. One under a line that isn't shown is not printed.
+#[test]
+fn notes_under_lines() {
+    let words = Style::all(Form::Words);
+    let hidden = Style { filter: Filter { quiet: true, ..Filter::all() }, ..words };
+    for (style, note, text) in [
+        (words, "  txn 0 ..\n", "7 5 committed conflict conflict\n  txn 0 ..\n"),
+        (words, "", "7 5 committed conflict conflict\n"),
+        (hidden, "  txn 0 ..\n", ""),
+    ] {
+        let noted = |line: &mut Line| line.add_note(note.as_bytes()).expect("memory is ample");
+        assert_eq!(changed(style, "5 committed conflict conflict", noted), text);
     }
 }
 

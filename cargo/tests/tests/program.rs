@@ -47,8 +47,13 @@ fn ends_on(words: &[&str], out: Failing) -> String {
 /// A write or a flush of standard output that fails is status 1, without a line.
 #[test]
 fn standard_output_that_fails() {
-    let rows: [&[&str]; 4] =
-        [&["replay", "first"], &["replay", "first", "--check", "same"], &["replay", "--help"], &["replay", "--version"]];
+    let rows: [&[&str]; 5] = [
+        &["replay", "first"],
+        &["replay", "first", "second", "--explain"],
+        &["replay", "first", "--check", "same"],
+        &["replay", "--help"],
+        &["replay", "--version"],
+    ];
     for words in rows {
         for room in [0, 5] {
             assert_eq!(ends_on(words, Failing::after(room)), "failed: ", "{words:?}");
@@ -91,8 +96,9 @@ impl Write for Holding {
 /// Standard output has passed on all that it was given when the program ends. Standard error isn't buffered, and isn't flushed.
 #[test]
 fn all_output_is_passed_on() {
-    let rows: [&[&str]; 8] = [
+    let rows: [&[&str]; 9] = [
         &["replay", "first", "second"],
+        &["replay", "first", "second", "--explain"],
         &["replay", "--frames", "first"],
         &["replay", "--json", "first"],
         &["replay", "cut"],

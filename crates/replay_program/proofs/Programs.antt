@@ -31,7 +31,7 @@ use Rattle.replay_program.specs.Program.{
   StreamsFiles,
   Told,
 }
-use Rattle.replay_program.specs.Explained.{IsExplained}
+use Rattle.replay_program.specs.Explained.{IsReplayedWithExplanations}
 use Rattle.replay_program.specs.Replayed.{HasFailed, IsReplayed, IsSummarized, Took, Written}
 use Rattle.replay_output.specs.Quieted.{quieted}
 use Rattle.replay_output.specs.Start.{start_line}
@@ -255,7 +255,7 @@ module _ (has_opened cannot_open : List ℕ → Type 0) (contents : List ℕ →
     }
 
     pub ends_explained : (options : Options) (names : List (List ℕ)) → AsksToExplain words options names
-        → (status ≡ Done → IsExplained options (contents_each contents names) out.before out.after)
+        → (status ≡ Done → IsReplayedWithExplanations options (contents_each contents names) out.before out.after)
         → (status ≡ Done → Keeps error.before error.after)
         → (status ≡ Failed → FailsOnExplaining has_opened cannot_open contents options names out error)
         → status ≢ Usage → status ≢ Differs → Ends

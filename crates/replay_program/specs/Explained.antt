@@ -54,8 +54,8 @@ explained_lines options processed answers =
 
 -- All was read, resolved and printed: the text printed is the lines of the answers that are shown, and under each the lines that explain
 -- the rejections in its batch. They are those of the batches that the reference resolver processes over the same log.
-abbrev pub IsExplained : Options → List (Option (List ℕ)) → Option (List ℕ) → Option (List ℕ) → Type 0
-IsExplained options files before after =
+abbrev pub IsReplayedWithExplanations : Options → List (Option (List ℕ)) → Option (List ℕ) → Option (List ℕ) → Type 0
+IsReplayedWithExplanations options files before after =
     IsReplayedOver
     (λ log answers. Appends before after (explained_lines options (run options.window log).processed answers)) options files
 

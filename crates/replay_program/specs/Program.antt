@@ -11,7 +11,7 @@ use Rattle.replay_program.specs.declared.check.replies.RepliesError.{RepliesErro
 use Rattle.replay_output.specs.declared.start.StartError.TheVariants as start
 use Rattle.replay_arguments.specs.Opening.{IsFirstRefused, contents_each, creating_line, opening_line}
 use Rattle.replay_program.specs.Checked.{TakesToCompare, check_lines}
-use Rattle.replay_program.specs.Explained.{FailsToExplain, IsExplained}
+use Rattle.replay_program.specs.Explained.{FailsToExplain, IsReplayedWithExplanations}
 use Rattle.replay_program.specs.Replayed.{
   DidNotStart,
   FailsToPrint,
@@ -198,7 +198,7 @@ pub record HasReplayedWithExplanations (contents : List ℕ → Option (List ℕ
   pub options : Options
   pub names : List (List ℕ)
   pub asked : AsksToExplain words options names
-  pub explained : IsExplained options (contents_each contents names) out.before out.after
+  pub explained : IsReplayedWithExplanations options (contents_each contents names) out.before out.after
 
 -- All that the words ask for was read, resolved and summarized. The options are those of the words, with which no line is shown.
 pub record HasSummarized (contents : List ℕ → Option (List ℕ)) (words : List (List ℕ)) (out : Written) : Type 0 where

@@ -3,7 +3,7 @@
 
 ghost use Rattle.std.specs.Prelude.{◌≡◌, ◌≤◌, ◌≢◌, map, vec_len};
 ghost use Rattle.std.specs.Io.KnownBytes.{Keeps};
-ghost use Rattle.replay_program.specs.Explained.{FailsToExplain, IsExplained};
+ghost use Rattle.replay_program.specs.Explained.{FailsToExplain, IsReplayedWithExplanations};
 ghost use Rattle.replay_program.specs.Replayed.{written};
 
 use replay_explanations::Explainer;
@@ -21,8 +21,9 @@ mod report;
 pub use notes::explain_lines;
 pub use report::print_explained;
 
-/// Replays the files of these readers as [`replay_over`](crate::replay_over) does. Prints the lines
-/// of the answers to `out`, and under each the lines that explain the rejections in its batch.
+/// Replays the files of these readers as [`replay_over`](crate::replay_over) does. Prints the
+/// lines of the answers to `out`, and under each the lines that explain the rejections in its
+/// batch.
 ///
 /// After a stop, a batch that was processed by the last step may have an answer without explanation.
 /// If memory is refused for an explanation, its proxy has a loss, and nothing is printed to `out`.
@@ -44,7 +45,8 @@ pub fn explain_over<
     requires least_files { 1 ≤ vec_len readers }
     requires most_files { vec_len readers ≤ MAX_PROXIES }
     ensures done { result ≡ Status.Done
-        → IsExplained options (map S.remaining readers.items) (O.given out.old) (O.given out.new) }
+        → IsReplayedWithExplanations options (map S.remaining readers.items)
+        (O.given out.old) (O.given out.new) }
     ensures quiet { result ≡ Status.Done → Keeps (E.given error.old) (E.given error.new) }
 
     // Something failed, and its lines were written, or the writer failed.

@@ -5,7 +5,7 @@ ghost use Rattle.std.specs.Prelude.{option_map, vec_len};
 ghost use Rattle.std.specs.Io.KnownBytes.{Keeps};
 ghost use Rattle.resolver.specs.declared.resolver_core.TheConstants.{MAX_PROXIES};
 ghost use Rattle.replay_arguments.specs.Opening.{IsFirstRefused, contents_each};
-ghost use Rattle.replay_program.specs.Explained.{IsExplained};
+ghost use Rattle.replay_program.specs.Explained.{IsReplayedWithExplanations};
 ghost use Rattle.replay_program.specs.Program.{ChecksFiles, FailsOnExplaining, FailsOnFiles};
 ghost use Rattle.replay_program.specs.Program.{FailsToCheck};
 ghost use Rattle.replay_program.specs.Program.{FailsOnStream, HasDifferences, IsDone, IsFailed};
@@ -39,7 +39,8 @@ pub use environment::run_in;
 
 /// Runs the program on the words of its command line, of which the first is the program's name.
 /// Help is printed to `out`, and why words are refused to `error`; else the files are replayed, as
-/// [`replay_files`], [`explain_files`], [`check_files`], [`stream_files`] or [`summarize_files`] does.
+/// [`replay_files`], [`explain_files`], [`check_files`], [`stream_files`] or [`summarize_files`]
+/// does.
 pub fn run<R: Threads + Wait + Copy + Send + 'static, F: Files, O: Sink, E: Sink>(
     rt: &R,
     alloc: Global,
@@ -286,9 +287,9 @@ pub fn summarize_files<R: Threads + Wait + Copy + Send + 'static, F: Files, O: S
     summarize_over(rt, alloc, readers, options, form, &gatekeeper, out, error)
 }
 
-/// Opens the files of a command line, replays them and explains the rejections, as [`explain_over`]
-/// does. If a file can't be opened, nothing is printed to `out`, and the first such file is reported
-/// to `error`.
+/// Opens the files of a command line, replays them and explains the rejections, as
+/// [`explain_over`] does. If a file can't be opened, nothing is printed to `out`, and the first
+/// such file is reported to `error`.
 pub fn explain_files<R: Threads + Wait + Copy + Send + 'static, F: Files, O: Sink, E: Sink>(
     rt: &R,
     alloc: Global,
@@ -299,7 +300,7 @@ pub fn explain_files<R: Threads + Wait + Copy + Send + 'static, F: Files, O: Sin
 ) -> Status
     requires least_files { 1 ≤ vec_len line.now.files }
     requires most_files { vec_len line.now.files ≤ MAX_PROXIES }
-    ensures done { result ≡ Status.Done → IsExplained line.now.options
+    ensures done { result ≡ Status.Done → IsReplayedWithExplanations line.now.options
         (contents_each (F.contents files.now) (map (λ name. name.now) line.now.files.items))
         (O.given out.old) (O.given out.new) }
     ensures quiet { result ≡ Status.Done → Keeps (E.given error.old) (E.given error.new) }

@@ -234,8 +234,8 @@ returns-in-Some g c =
       quiet_too = ends.quiet_too;
     }
 
-pub returns-in-Ok-3 : goal.returns-in-Ok-3
-returns-in-Ok-3 g c =
+pub returns-in-Ok-4 : goal.returns-in-Ok-4
+returns-in-Ok-4 g c =
     let files = c.args.files.now in
     let state = state_by g.F.Writer.Sink.given g.F.Writer.Sink.failures in
     let recorders = c.without_recorders-in-None.result.recorders.items in
