@@ -82,13 +82,13 @@ fn replies_of<'m, 'a>(
     if form != Form::Kept {
         return Ok(no_names());
     }
-    let Some(names) = matches.get_strs("check") else {
+    let Some(replies) = matches.get_strs("check") else {
         return Err(Mistake::Replies);
     };
-    if names.len() != files {
+    if replies.len() != files {
         return Err(Mistake::Replies);
     }
-    Ok(names)
+    Ok(replies)
 }
 
 // Returns the files for records of answers, one per file, or none. Only a stream has any.
