@@ -450,6 +450,10 @@ REASONS: tuple[tuple[tuple[str | bytes, ...], str], ...] = (
         ("--summary", "--quiet", "first"),
         "error: --summary is wanted without --check, --stream, --frames, --quiet, --only and --versions\n",
     ),
+    (
+        ("--explain", "--json", "first"),
+        "error: --explain is wanted without --check, --stream, --summary, --frames and --json\n",
+    ),
     (("--replies", "out", "first"), "error: --replies OUT is wanted with --stream\n"),
     (("--stream", "--replies", "out", "first", "second"), "error: --replies OUT is wanted once a file\n"),
     (("-", "first", "-"), "error: standard input (-) can be given only once\n"),

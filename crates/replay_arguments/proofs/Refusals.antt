@@ -23,8 +23,8 @@ use Rattle.replay_arguments.specs.Words.{
   IsRefusalOf,
   IsRequest,
   is_kept,
-  replay_app,
 }
+use Rattle.replay_arguments.specs.Command.{replay_app}
 use Rattle.replay_output.specs.declared.options.form.Form.{Form}
 use Rattle.replay_arguments.proofs.Getters.{bool_text_same}
 use Rattle.replay_arguments.proofs.Numbers.{Some-injective}

@@ -1,13 +1,10 @@
--- What the words of a command line ask for: the command as `clap` sees it, and what its matches hold.
+-- What the words of a command line ask for: what the matches of the command hold.
 use Rattle.std.specs.Prelude.{◌≡◌, ◌≢◌, ◌⊎◌, ℕ, ◌+◌, ◌≤◌, ℤ, pos, FitsSigned, Bool, true, if◌then◌else◌, List, [], ◌∷◌, ◌++◌, codes, false, length, IfSome, Option, None, Some, is_some, option_map, unwrap_or, ⊤}
 use Rattle.std.specs.Str.{bytes_eq}
 use Rattle.std.specs.Int.{w64}
 use Rattle.std.specs.Str.Parse.{IsNumeral, digits_value, signed_digits_value, without_leading_plus, without_leading_sign}
 use Rattle.clap.specs.Values.{IsSignedIn, IsUnsignedIn, bool_text}
-use Rattle.clap.specs.Words.{App, IsAmong, Kinds, Row, Rule, all_of, fault_of, first_of, matches_of, new_app, new_rule, one_of, with_rule}
-use Rattle.clap.specs.declared.builder.action.ArgAction.TheVariants.{Append, SetTrue}
-use Rattle.clap.specs.declared.builder.value_parser.ValueParser.{ValueParser}
-use Rattle.clap.specs.declared.builder.value_parser.ValueParser.TheVariants.{Signed, Unsigned}
+use Rattle.clap.specs.Words.{IsAmong, Kinds, Row, all_of, fault_of, first_of, matches_of, one_of}
 use Rattle.clap.specs.declared.error.kind.ErrorKind.{ErrorKind}
 use Rattle.clap.specs.declared.error.kind.ErrorKind.TheVariants.{DisplayHelp, DisplayVersion, OutOfMemory}
 use Rattle.lane.specs.declared.ends.TheConstants.{MAX_CAPACITY}
@@ -23,84 +20,9 @@ use Rattle.replay_output.specs.declared.options.form.Form.TheVariants.{Words, Fr
 use Rattle.replay_output.specs.declared.options.Options.{Options}
 use Rattle.replay_summary.specs.declared.text.SummaryForm.{SummaryForm}
 use Rattle.replay_summary.specs.declared.text.SummaryForm.TheVariants as summaries
+use Rattle.replay_arguments.specs.Command.{replay_app}
 use Rattle.replay_arguments.specs.declared.arguments.refusal.Refusal.{Refusal}
 use Rattle.replay_arguments.specs.declared.arguments.refusal.Refusal.TheVariants.{Memory, Refused, Shown}
-
--- an option `--name N` with this default
-abbrev pub number_rule : List ℕ → List ℕ → ValueParser → Rule
-number_rule name default_text parser = record (new_rule name) {
-  long = Some name;
-  value_names = 1;
-  defaults = default_text ∷ [];
-  parser = Some parser;
-}
-
-abbrev pub capacity_rule : Rule
-capacity_rule = number_rule (codes "capacity") (codes "16") (Unsigned 1 MAX_CAPACITY)
-
-abbrev pub window_rule : Rule
-window_rule = number_rule (codes "window") (codes "5000000") (Signed (pos 1) MAX_WINDOW)
-
-abbrev pub limit_rule : Rule
-limit_rule = number_rule (codes "limit") (codes "1000000") (Unsigned 1 MAX_LIMIT)
-
-abbrev pub frames_rule : Rule
-frames_rule = record (new_rule (codes "frames")) { long = Some (codes "frames"); action = Some SetTrue }
-
-abbrev pub json_rule : Rule
-json_rule = record (new_rule (codes "json")) { long = Some (codes "json"); action = Some SetTrue }
-
-abbrev pub quiet_rule : Rule
-quiet_rule = record (new_rule (codes "quiet")) { long = Some (codes "quiet"); action = Some SetTrue }
-
--- an option `--only VERDICT`
-abbrev pub only_rule : Rule
-only_rule = record (new_rule (codes "only")) { long = Some (codes "only"); value_names = 1 }
-
--- an option `--versions A..B`
-abbrev pub versions_rule : Rule
-versions_rule = record (new_rule (codes "versions")) { long = Some (codes "versions"); value_names = 1 }
-
-abbrev pub explain_rule : Rule
-explain_rule = record (new_rule (codes "explain")) { long = Some (codes "explain"); action = Some SetTrue }
-
-abbrev pub summary_rule : Rule
-summary_rule = record (new_rule (codes "summary")) { long = Some (codes "summary"); action = Some SetTrue }
-
--- an option `--check REPLIES`, any number of times
-abbrev pub check_rule : Rule
-check_rule = record (new_rule (codes "check")) {
-  long = Some (codes "check");
-  value_names = 1;
-  action = Some Append;
-}
-
-abbrev pub stream_rule : Rule
-stream_rule = record (new_rule (codes "stream")) { long = Some (codes "stream"); action = Some SetTrue }
-
--- an option `--replies OUT`, any number of times
-abbrev pub replies_rule : Rule
-replies_rule = record (new_rule (codes "replies")) {
-  long = Some (codes "replies");
-  value_names = 1;
-  action = Some Append;
-}
-
--- the files: one word or more, anywhere among the options
-abbrev pub file_rule : Rule
-file_rule = record (new_rule (codes "FILE")) { action = Some Append; required = true }
-
-abbrev pub plain_app : App
-plain_app = new_app (codes "replay")
-
--- `replay [--capacity N] [--window N] [--limit N] [--frames] [--json] [--quiet] [--only VERDICT] [--versions A..B] [--explain]
--- [--summary] [--check REPLIES].. [--stream] [--replies OUT].. FILE..`, with `--help` and `--version`
-unfoldable pub replay_app : App
-replay_app =
-    with_rule (with_rule (with_rule (with_rule (with_rule (with_rule (with_rule (with_rule (with_rule (with_rule (with_rule (with_rule
-    (with_rule (with_rule (record plain_app { top = record plain_app.top { has_version = true } })
-    capacity_rule) window_rule) limit_rule) frames_rule) json_rule) quiet_rule) only_rule) versions_rule)
-    explain_rule) summary_rule) check_rule) stream_rule) replies_rule) file_rule
 
 abbrev pub is_frames : Form → Bool
 is_frames Frames = true
@@ -335,13 +257,28 @@ pub record IsPlain (rows : List Row) : Type 0 where
 abbrev pub HasExplain : List Row → Type 0
 HasExplain rows = (explains : Bool) × HoldsExplain rows explains × (explains ≡ true → IsPlain rows)
 
--- the arguments that are found are of no use: two forms, a filter that is none or beside a comparison, a number out of its range, no files
--- or too many, other than one file of replies a file, standard input twice, answers that are to be compared as they come, other than one
--- file for records a file, a summary beside another option that says what to print, or explanations without lines of words
-abbrev pub IsOfNoUse : List Row → Type 0
-IsOfNoUse rows = (¬ HasForm rows)
-    ⊎ ((¬ HasNumbers rows) ⊎ ((¬ HasFiles rows) ⊎ ((¬ HasRepliesEach rows) ⊎ ((¬ HasInputOnce rows)
-    ⊎ ((¬ HasStream rows) ⊎ ((¬ HasRecordsEach rows) ⊎ ((¬ HasFilter rows) ⊎ ((¬ HasSummary rows) ⊎ (¬ HasExplain rows)))))))))
+-- What the options that are found ask to print is of no use: two forms, a filter that is none or beside a comparison, answers that are
+-- to be compared as they come, a summary beside another option that says what to print, or explanations without lines of words.
+pub data PrintsNothing (rows : List Row) : Type 0 where
+  no_form : ¬ (HasForm rows) → PrintsNothing rows
+  no_filter : ¬ (HasFilter rows) → PrintsNothing rows
+  no_stream : ¬ (HasStream rows) → PrintsNothing rows
+  no_summary : ¬ (HasSummary rows) → PrintsNothing rows
+  no_explanations : ¬ (HasExplain rows) → PrintsNothing rows
+
+-- The names that are found are of no use: no files or too many, standard input twice, other than one file of replies a file, or other
+-- than one file for records a file.
+pub data NamesNothing (rows : List Row) : Type 0 where
+  no_files : ¬ (HasFiles rows) → NamesNothing rows
+  no_input : ¬ (HasInputOnce rows) → NamesNothing rows
+  no_replies : ¬ (HasRepliesEach rows) → NamesNothing rows
+  no_records : ¬ (HasRecordsEach rows) → NamesNothing rows
+
+-- the arguments that are found are of no use: what to print, the names, or a number out of its range
+pub data IsOfNoUse (rows : List Row) : Type 0 where
+  no_printing : PrintsNothing rows → IsOfNoUse rows
+  no_numbers : ¬ (HasNumbers rows) → IsOfNoUse rows
+  no_names : NamesNothing rows → IsOfNoUse rows
 
 -- The words are mistaken: `clap` finds a mistake, or else the arguments that it finds are of no use.
 abbrev pub IsMistaken : List (List ℕ) → Type 0

@@ -2,11 +2,11 @@
 
 ghost use Rattle.std.specs.Prelude.{◌≡◌, IfOk, false};
 ghost use Rattle.clap.specs.Words.{app_of, rule_of};
-ghost use Rattle.replay_arguments.specs.Words.{capacity_rule, check_rule, explain_rule, file_rule};
-ghost use Rattle.replay_arguments.specs.Words.{frames_rule, json_rule, limit_rule, number_rule};
-ghost use Rattle.replay_arguments.specs.Words.{only_rule, quiet_rule, replay_app, replies_rule};
-ghost use Rattle.replay_arguments.specs.Words.{stream_rule, summary_rule, versions_rule};
-ghost use Rattle.replay_arguments.specs.Words.{window_rule};
+ghost use Rattle.replay_arguments.specs.Command.{capacity_rule, check_rule, explain_rule, file_rule};
+ghost use Rattle.replay_arguments.specs.Command.{frames_rule, json_rule, limit_rule, number_rule};
+ghost use Rattle.replay_arguments.specs.Command.{only_rule, quiet_rule, replay_app, replies_rule};
+ghost use Rattle.replay_arguments.specs.Command.{stream_rule, summary_rule, versions_rule};
+ghost use Rattle.replay_arguments.specs.Command.{window_rule};
 
 use clap::builder::ValueParser;
 use clap::{Arg, ArgAction, Command};

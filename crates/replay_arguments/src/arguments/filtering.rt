@@ -7,13 +7,14 @@ ghost use Rattle.replay_arguments.specs.Words.{AreVersions, AsksForAll, HasFilte
 ghost use Rattle.replay_arguments.specs.Words.{HoldsForm, IsEnd, IsVersions, verdict_name};
 ghost use Rattle.keyspace.specs.declared.reply.Verdict.{Verdict as VerdictValue};
 
+use crate::arguments::mistake::Mistake;
 use clap::ArgMatches;
 use keyspace::Verdict;
 use replay_output::{Filter, Form};
 
-/// Returns the filter of the lines that are asked for. An error is the message about a text that is
-/// no verdict or no range of versions, or about a filter beside a comparison.
-pub fn filter_of(matches: &ArgMatches, form: Form) -> Result<Filter, &'static str>
+/// Returns the filter of the lines that are requested. An error is a text that is no verdict or no
+/// range of versions, or a filter beside a comparison.
+pub fn filter_of(matches: &ArgMatches, form: Form) -> Result<Filter, Mistake>
     ensures filter { IfOk result (HoldsFilter (rows_of (found_of matches.now))) }
     ensures all { OnOk result (form ≡ Form.Kept → AsksForAll (rows_of (found_of matches.now))) }
     ensures err { OnErr result (HoldsForm (rows_of (found_of matches.now)) form
@@ -21,16 +22,16 @@ pub fn filter_of(matches: &ArgMatches, form: Form) -> Result<Filter, &'static st
 {
     let (name, text) = (matches.get_str("only"), matches.get_str("versions"));
     let Some(quiet) = matches.get_one("quiet") else {
-        return Err("--quiet takes no value");
+        return Err(Mistake::Quiet);
     };
     let Some(only) = only_of(name) else {
-        return Err("--only is committed, conflict or tooold");
+        return Err(Mistake::Verdict);
     };
     let Some((least, below)) = versions_of(text) else {
-        return Err("--versions is A..B with integers of 64 bits, of which each can be omitted");
+        return Err(Mistake::Versions);
     };
     if form.is_kept() && is_filtered(quiet, name, text) {
-        return Err("--quiet, --only and --versions are wanted without --check");
+        return Err(Mistake::FilterOfCheck);
     }
     Ok(Filter {
         quiet,

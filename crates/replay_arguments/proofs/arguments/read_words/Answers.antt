@@ -1,95 +1,105 @@
-use Rattle.std.proofs.Common.{◌≡◌, ◌∙◌, ap, Bor, Err, List, ℕ, length, map, subst, sym, inl, inr, rules, arith}
-use Rattle.std.proofs.lemmas.Grind.{common_steps}
-use Rattle.std.proofs.lemmas.List.{length-map}
-use Rattle.replay_arguments.specs.declared.arguments.refusal.Refusal.TheVariants.{Refused}
-use Rattle.clap.specs.Words.{Row, found_of, rows_of}
-use Rattle.replay_arguments.specs.Words.{
-  HasExplain,
-  HasFiles,
-  HasFilter,
-  HasInputOnce,
-  HasNumbers,
-  HasRecords,
-  HasRecordsEach,
-  HasReplies,
-  HasRepliesEach,
-  HasStream,
-  HasSummary,
-  IsAlone,
-  IsPlain,
-  is_kept,
-}
-use Rattle.replay_arguments.proofs.Refusals.{no_records_each, not_each}
+use Rattle.std.proofs.Common.{◌∙◌, List, ℕ, map, string_bytes, subst, inr}
+use Rattle.clap.specs.Words.{Row}
+use Rattle.replay_arguments.specs.Asked.{HoldsAsked}
+use Rattle.replay_arguments.specs.Words.{IsOfNoUse, rows_of_words}
+use Rattle.replay_arguments.proofs.Asked as asked
 use Rattle.replay_arguments.proofs.arguments.read_words.Goals as goal
 
-pub returns-in_default-options_of-clause-refused : goal.returns-in_default-options_of-clause-refused
-returns-in_default-options_of-clause-refused c = λ text is.
-    inr (inr (inl (subst (λ (rows : List Row). ¬ (HasNumbers rows)) c.in_ok-matches.ensures.rows
-    (c.options_of.ensures.none c.in_default-options_of.is))))
+pub returns-in_ok-new-in-Ok-clause-options : goal.returns-in_ok-new-in-Ok-clause-options
+returns-in_ok-new-in-Ok-clause-options c =
+    let words : List (List ℕ) = map string_bytes c.args.words.now in
+    let holds = subst (λ (rows : List Row). HoldsAsked rows c.in-Ok.asked) c.in_ok-matches.ensures.rows c.in-Ok.ensures.asked in
+    asked.options (rows_of_words words) c.in-Ok.asked _ holds c.in_ok-new-in-Ok.ensures.line
 
-pub returns-in_default-files_of-clause-refused : goal.returns-in_default-files_of-clause-refused
-returns-in_default-files_of-clause-refused c = λ text is.
-    inr (inr (inr (inl (subst (λ (rows : List Row). ¬ (HasFiles rows)) c.in_ok-matches.ensures.rows
-    (c.files_of.ensures.none c.in_default-files_of.is)))))
+pub returns-in_ok-new-in-Ok-clause-files : goal.returns-in_ok-new-in-Ok-clause-files
+returns-in_ok-new-in-Ok-clause-files c =
+    let words : List (List ℕ) = map string_bytes c.args.words.now in
+    let holds = subst (λ (rows : List Row). HoldsAsked rows c.in-Ok.asked) c.in_ok-matches.ensures.rows c.in-Ok.ensures.asked in
+    asked.files (rows_of_words words) c.in-Ok.asked _ holds c.in_ok-new-in-Ok.ensures.line
 
-pub returns-in_default-is_streamed-clause-refused : goal.returns-in_default-is_streamed-clause-refused
-returns-in_default-is_streamed-clause-refused c = λ text is.
-    inr (inr (inr (inr (inr (inr (inl (subst (λ (rows : List Row). ¬ (HasStream rows)) c.in_ok-matches.ensures.rows
-    (c.is_streamed.ensures.none c.in_default-is_streamed.is c.in-Some.ensures.form))))))))
+pub returns-in_ok-new-in-Ok-clause-least : goal.returns-in_ok-new-in-Ok-clause-least
+returns-in_ok-new-in-Ok-clause-least c =
+    let words : List (List ℕ) = map string_bytes c.args.words.now in
+    let holds = subst (λ (rows : List Row). HoldsAsked rows c.in-Ok.asked) c.in_ok-matches.ensures.rows c.in-Ok.ensures.asked in
+    asked.least (rows_of_words words) c.in-Ok.asked _ holds c.in_ok-new-in-Ok.ensures.line
 
-pub returns-in_err-records-clause-refused : goal.returns-in_err-records-clause-refused
-returns-in_err-records-clause-refused c = λ text is.
-    let found = rows_of (found_of c.in_ok-matches.matches) in
-    let files = c.in-Some-files_of.files.now in
-    let names : List (List ℕ) = map (λ (v : Bor (List ℕ)). v.now) files in
-    let was : c.records_of.result ≡ Err (Refused text) = first_of (search rules, grind (arith, common_steps)) in
-    let refused = c.records_of.ensures.refused text was c.in-Some-is_streamed.ensures.stream in
-    let count : length files ≡ length names = sym (length-map files (λ (v : Bor (List ℕ)). v.now)) in
-    let none = subst (λ (n : ℕ). ¬ (HasRecords n found)) count refused.1 in
-    inr (inr (inr (inr (inr (inr (inr (inl (subst (λ (rows : List Row). ¬ (HasRecordsEach rows)) c.in_ok-matches.ensures.rows
-    (no_records_each found names c.in-Some-files_of.ensures.files refused.0 none)))))))))
+pub returns-in_ok-new-in-Ok-clause-most : goal.returns-in_ok-new-in-Ok-clause-most
+returns-in_ok-new-in-Ok-clause-most c =
+    let words : List (List ℕ) = map string_bytes c.args.words.now in
+    let holds = subst (λ (rows : List Row). HoldsAsked rows c.in-Ok.asked) c.in_ok-matches.ensures.rows c.in-Ok.ensures.asked in
+    asked.most (rows_of_words words) c.in-Ok.asked _ holds c.in_ok-new-in-Ok.ensures.line
 
-pub returns-in_default-summary_of-clause-refused : goal.returns-in_default-summary_of-clause-refused
-returns-in_default-summary_of-clause-refused c = λ text is.
-    inr (inr (inr (inr (inr (inr (inr (inr (inr (inl (subst (λ (rows : List Row). ¬ (HasSummary rows)) c.in_ok-matches.ensures.rows
-    (c.summary_of.ensures.none c.in-Some.ensures.form c.in-Some-is_streamed.ensures.stream c.in_default-summary_of.is)))))))))))
+pub returns-in_ok-new-in-Ok-clause-replies : goal.returns-in_ok-new-in-Ok-clause-replies
+returns-in_ok-new-in-Ok-clause-replies c =
+    let words : List (List ℕ) = map string_bytes c.args.words.now in
+    let holds = subst (λ (rows : List Row). HoldsAsked rows c.in-Ok.asked) c.in_ok-matches.ensures.rows c.in-Ok.ensures.asked in
+    asked.replies (rows_of_words words) c.in-Ok.asked _ holds c.in_ok-new-in-Ok.ensures.line
 
-pub returns-clause-alone : goal.returns-clause-alone
-returns-clause-alone c = λ some.
-    subst IsAlone c.in_ok-matches.ensures.rows
-    (c.in-Some-summary_of.ensures.alone c.in-Some.ensures.form c.in-Some-is_streamed.ensures.stream some)
+pub returns-in_ok-new-in-Ok-clause-as_many : goal.returns-in_ok-new-in-Ok-clause-as_many
+returns-in_ok-new-in-Ok-clause-as_many c =
+    let words : List (List ℕ) = map string_bytes c.args.words.now in
+    let holds = subst (λ (rows : List Row). HoldsAsked rows c.in-Ok.asked) c.in_ok-matches.ensures.rows c.in-Ok.ensures.asked in
+    asked.as_many (rows_of_words words) c.in-Ok.asked _ holds c.in_ok-new-in-Ok.ensures.line
 
-pub returns-in-Err-clause-refused : goal.returns-in-Err-clause-refused
-returns-in-Err-clause-refused c = λ text is.
-    inr (inr (inr (inr (inr (inr (inr (inr (inl (subst (λ (rows : List Row). ¬ (HasFilter rows)) c.in_ok-matches.ensures.rows
-    (c.in-Err.ensures.err c.in-Some.ensures.form))))))))))
+pub returns-in_ok-new-in-Ok-clause-all : goal.returns-in_ok-new-in-Ok-clause-all
+returns-in_ok-new-in-Ok-clause-all c =
+    let words : List (List ℕ) = map string_bytes c.args.words.now in
+    let holds = subst (λ (rows : List Row). HoldsAsked rows c.in-Ok.asked) c.in_ok-matches.ensures.rows c.in-Ok.ensures.asked in
+    asked.all (rows_of_words words) c.in-Ok.asked _ holds c.in_ok-new-in-Ok.ensures.line
 
-pub returns-then-not-has_input_once-clause-refused : goal.returns-then-not-has_input_once-clause-refused
-returns-then-not-has_input_once-clause-refused c = λ text is.
-    let none : ¬ (HasInputOnce (rows_of (found_of c.in_ok-matches.matches))) = search rules in
-    inr (inr (inr (inr (inr (inl (subst (λ (rows : List Row). ¬ (HasInputOnce rows)) c.in_ok-matches.ensures.rows none))))))
+pub returns-in_ok-new-in-Ok-clause-streamed : goal.returns-in_ok-new-in-Ok-clause-streamed
+returns-in_ok-new-in-Ok-clause-streamed c =
+    let words : List (List ℕ) = map string_bytes c.args.words.now in
+    let holds = subst (λ (rows : List Row). HoldsAsked rows c.in-Ok.asked) c.in_ok-matches.ensures.rows c.in-Ok.ensures.asked in
+    asked.streamed (rows_of_words words) c.in-Ok.asked _ holds c.in_ok-new-in-Ok.ensures.line
 
-pub returns-in_err-replies-clause-refused : goal.returns-in_err-replies-clause-refused
-returns-in_err-replies-clause-refused c = λ text is.
-    let found = rows_of (found_of c.in_ok-matches.matches) in
-    let files = c.in-Some-files_of.files.now in
-    let names : List (List ℕ) = map (λ (v : Bor (List ℕ)). v.now) files in
-    let was : c.replies_of.result ≡ Err (Refused text) = first_of (search rules, grind (arith, common_steps)) in
-    let refused = c.replies_of.ensures.refused text was in
-    let count : length files ≡ length names = sym (length-map files (λ (v : Bor (List ℕ)). v.now)) in
-    let none = subst (λ (n : ℕ). ¬ (HasReplies n found)) count refused.1 in
-    let check = c.in-Some.ensures.form.check ∙ ap is_kept refused.0 in
-    inr (inr (inr (inr (inl (subst (λ (rows : List Row). ¬ (HasRepliesEach rows)) c.in_ok-matches.ensures.rows
-    (not_each found names c.in-Some-files_of.ensures.files check none))))))
+pub returns-in_ok-new-in-Ok-clause-plain : goal.returns-in_ok-new-in-Ok-clause-plain
+returns-in_ok-new-in-Ok-clause-plain c =
+    let words : List (List ℕ) = map string_bytes c.args.words.now in
+    let holds = subst (λ (rows : List Row). HoldsAsked rows c.in-Ok.asked) c.in_ok-matches.ensures.rows c.in-Ok.ensures.asked in
+    asked.plain (rows_of_words words) c.in-Ok.asked _ holds c.in_ok-new-in-Ok.ensures.line
 
-pub returns-in_default-explains-clause-refused : goal.returns-in_default-explains-clause-refused
-returns-in_default-explains-clause-refused c = λ text is.
-    inr (inr (inr (inr (inr (inr (inr (inr (inr (inr (subst (λ (rows : List Row). ¬ (HasExplain rows)) c.in_ok-matches.ensures.rows
-    (c.explains.ensures.none c.in-Some.ensures.form c.in-Some-is_streamed.ensures.stream c.in-Some-summary_of.ensures.summary
-    c.in_default-explains.is)))))))))))
+pub returns-in_ok-new-in-Ok-clause-records : goal.returns-in_ok-new-in-Ok-clause-records
+returns-in_ok-new-in-Ok-clause-records c =
+    let words : List (List ℕ) = map string_bytes c.args.words.now in
+    let holds = subst (λ (rows : List Row). HoldsAsked rows c.in-Ok.asked) c.in_ok-matches.ensures.rows c.in-Ok.ensures.asked in
+    asked.records (rows_of_words words) c.in-Ok.asked _ holds c.in_ok-new-in-Ok.ensures.line
 
-pub returns-clause-explained_plain : goal.returns-clause-explained_plain
-returns-clause-explained_plain c = λ asked.
-    subst IsPlain c.in_ok-matches.ensures.rows
-    (c.in-Some-explains.ensures.plain c.in-Some.ensures.form c.in-Some-is_streamed.ensures.stream
-    c.in-Some-summary_of.ensures.summary asked)
+pub returns-in_ok-new-in-Ok-clause-records_each : goal.returns-in_ok-new-in-Ok-clause-records_each
+returns-in_ok-new-in-Ok-clause-records_each c =
+    let words : List (List ℕ) = map string_bytes c.args.words.now in
+    let holds = subst (λ (rows : List Row). HoldsAsked rows c.in-Ok.asked) c.in_ok-matches.ensures.rows c.in-Ok.ensures.asked in
+    asked.records_each (rows_of_words words) c.in-Ok.asked _ holds c.in_ok-new-in-Ok.ensures.line
+
+pub returns-in_ok-new-in-Ok-clause-summary : goal.returns-in_ok-new-in-Ok-clause-summary
+returns-in_ok-new-in-Ok-clause-summary c =
+    let words : List (List ℕ) = map string_bytes c.args.words.now in
+    let holds = subst (λ (rows : List Row). HoldsAsked rows c.in-Ok.asked) c.in_ok-matches.ensures.rows c.in-Ok.ensures.asked in
+    asked.summary (rows_of_words words) c.in-Ok.asked _ holds c.in_ok-new-in-Ok.ensures.line
+
+pub returns-in_ok-new-in-Ok-clause-alone : goal.returns-in_ok-new-in-Ok-clause-alone
+returns-in_ok-new-in-Ok-clause-alone c =
+    let words : List (List ℕ) = map string_bytes c.args.words.now in
+    let holds = subst (λ (rows : List Row). HoldsAsked rows c.in-Ok.asked) c.in_ok-matches.ensures.rows c.in-Ok.ensures.asked in
+    asked.alone (rows_of_words words) c.in-Ok.asked _ holds c.in_ok-new-in-Ok.ensures.line
+
+pub returns-in_ok-new-in-Ok-clause-explains : goal.returns-in_ok-new-in-Ok-clause-explains
+returns-in_ok-new-in-Ok-clause-explains c =
+    let words : List (List ℕ) = map string_bytes c.args.words.now in
+    let holds = subst (λ (rows : List Row). HoldsAsked rows c.in-Ok.asked) c.in_ok-matches.ensures.rows c.in-Ok.ensures.asked in
+    asked.explains (rows_of_words words) c.in-Ok.asked _ holds c.in_ok-new-in-Ok.ensures.line
+
+pub returns-in_ok-new-in-Ok-clause-explained_plain : goal.returns-in_ok-new-in-Ok-clause-explained_plain
+returns-in_ok-new-in-Ok-clause-explained_plain c =
+    let words : List (List ℕ) = map string_bytes c.args.words.now in
+    let holds = subst (λ (rows : List Row). HoldsAsked rows c.in-Ok.asked) c.in_ok-matches.ensures.rows c.in-Ok.ensures.asked in
+    asked.explained_plain (rows_of_words words) c.in-Ok.asked _ holds c.in_ok-new-in-Ok.ensures.line
+
+pub returns-in_ok-new-in-Ok-clause-input : goal.returns-in_ok-new-in-Ok-clause-input
+returns-in_ok-new-in-Ok-clause-input c =
+    let holds = subst (λ (rows : List Row). HoldsAsked rows c.in-Ok.asked) c.in_ok-matches.ensures.rows c.in-Ok.ensures.asked in
+    holds.names.input
+
+pub returns-in_ok-refuse-in-Err-clause-refused : goal.returns-in_ok-refuse-in-Err-clause-refused
+returns-in_ok-refuse-in-Err-clause-refused c = λ text is.
+    inr (subst IsOfNoUse c.in_ok-matches.ensures.rows c.in-Err.ensures.none)

@@ -2,7 +2,7 @@ use Rattle.std.proofs.Common.{◌≡◌, ◌∙◌, ap, ap₂, true}
 use Rattle.std.proofs.lemmas.Result.{IfOk-weaker}
 use Rattle.clap.specs.Words.{App, app_of, with_rule}
 use Rattle.clap.specs.Simple.{app_of_fields}
-use Rattle.replay_arguments.specs.Words.{plain_app, replay_app}
+use Rattle.replay_arguments.specs.Command.{plain_app, replay_app}
 use Rattle.replay_arguments.proofs.arguments.command.command.Goals as goal
 
 abbrev with_version : App → App

@@ -8,7 +8,7 @@ use Rattle.replay_arguments.specs.Words.{HoldsStream, is_kept}
 use Rattle.replay_arguments.proofs.Getters.{text_read, text_of_bool}
 use Rattle.replay_arguments.proofs.Numbers.{bool_err, has_read}
 use Rattle.replay_arguments.proofs.Refusals.{no_stream}
-use Rattle.replay_arguments.proofs.arguments.is_streamed.Goals as goal
+use Rattle.replay_arguments.proofs.arguments.printing.is_streamed.Goals as goal
 
 pub returns-in_err-is_streamed-clause-none : goal.returns-in_err-is_streamed-clause-none
 returns-in_err-is_streamed-clause-none c = λ is holds has.

@@ -2,11 +2,11 @@ use Rattle.std.proofs.Common.{◌∙◌, ap, sym, codes, map, option_map, inl, i
 use Rattle.clap.specs.Words.{found_of}
 use Rattle.clap.proofs.WalkLemmas.{raw_values-rows}
 use Rattle.replay_arguments.proofs.Refusals.{no_files, not_as_many}
-use Rattle.replay_arguments.proofs.arguments.files_of.Goals.{
+use Rattle.replay_arguments.proofs.arguments.names.files_of.Goals.{
   then-is_empty-via-then-is_empty,
   then-is_empty-via-else-is_empty+then-files-gt-MAX_PROXIES,
 }
-use Rattle.replay_arguments.proofs.arguments.files_of.Goals as goal
+use Rattle.replay_arguments.proofs.arguments.names.files_of.Goals as goal
 
 pub returns-clause-files : goal.returns-clause-files
 returns-clause-files c =

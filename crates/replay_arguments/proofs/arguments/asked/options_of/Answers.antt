@@ -25,7 +25,7 @@ use Rattle.replay_arguments.proofs.Numbers.{
   signed_read,
   unsigned_read,
 }
-use Rattle.replay_arguments.proofs.arguments.options_of.Goals as goal
+use Rattle.replay_arguments.proofs.arguments.asked.options_of.Goals as goal
 
 pub returns-clause-numbers : goal.returns-clause-numbers
 returns-clause-numbers c =

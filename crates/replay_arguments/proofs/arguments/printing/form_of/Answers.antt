@@ -8,7 +8,7 @@ use Rattle.clap.proofs.WalkLemmas.{raw_values-rows}
 use Rattle.replay_arguments.specs.Words.{is_frames, is_json}
 use Rattle.replay_arguments.proofs.Getters.{HoldsForm-of_parts, IsFormOf-held, is_some_mapped, text_read, text_of_bool}
 use Rattle.replay_arguments.proofs.Numbers.{bool_err, has_read}
-use Rattle.replay_arguments.proofs.arguments.form_of.Goals as goal
+use Rattle.replay_arguments.proofs.arguments.printing.form_of.Goals as goal
 
 pub returns-in_err-get_one-clause-none : goal.returns-in_err-get_one-clause-none
 returns-in_err-get_one-clause-none c = λ is has.

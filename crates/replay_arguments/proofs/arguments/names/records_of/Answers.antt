@@ -1,19 +1,19 @@
-use Rattle.std.proofs.Common.{◌≡◌, ◌∙◌, ap, sym, codes, map, option_map, rules, subst, List, ℕ, Bor}
+use Rattle.std.proofs.Common.{◌≡◌, ◌∙◌, ap, sym, codes, map, option_map, rules, subst, Bor, List, ℕ}
 use Rattle.std.specs.Prelude.{false, is_some}
 use Rattle.clap.specs.Words.{found_of, rows_of}
 use Rattle.clap.proofs.WalkLemmas.{raw_values-rows}
 use Rattle.replay_arguments.specs.Words.{HoldsStream, named}
 use Rattle.replay_arguments.proofs.Refusals.{not_streamed, other_records}
-use Rattle.replay_arguments.proofs.arguments.records_of.Goals as goal
+use Rattle.replay_arguments.proofs.arguments.names.records_of.Goals as goal
 
 pub returns-in_default-clause-records : goal.returns-in_default-clause-records
 returns-in_default-clause-records c =
     let none = sym (raw_values-rows (found_of c.args.matches.now) (codes "replies")) ∙ sym c.get_strs.ensures
     ∙ ap (option_map (λ s. map (λ v. v.now) s.now)) c.in_default.is in
-    ap (map (λ (v : Bor (List ℕ)). v.now)) c.new.ensures.items ∙ sym (ap named none)
+    ap (map (λ (v : Bor (List ℕ)). v.now)) c.no_names.ensures.none ∙ sym (ap named none)
 
-pub returns-then-not-is_streamed-clause-refused : goal.returns-then-not-is_streamed-clause-refused
-returns-then-not-is_streamed-clause-refused c = λ text is streamed.
+pub returns-then-not-is_streamed-clause-none : goal.returns-then-not-is_streamed-clause-none
+returns-then-not-is_streamed-clause-none c = λ streamed.
     let found = sym (raw_values-rows (found_of c.args.matches.now) (codes "replies")) ∙ sym c.get_strs.ensures
     ∙ ap (option_map (λ s. map (λ v. v.now) s.now)) c.in-Some.is in
     let off : c.args.is_streamed ≡ false = search rules in (
@@ -22,8 +22,8 @@ returns-then-not-is_streamed-clause-refused c = λ text is streamed.
           (subst (HoldsStream (rows_of (found_of c.args.matches.now))) off streamed),
     )
 
-pub returns-then-names-files-clause-refused : goal.returns-then-names-files-clause-refused
-returns-then-names-files-clause-refused c = λ text is streamed.
+pub returns-then-names-files-clause-none : goal.returns-then-names-files-clause-none
+returns-then-names-files-clause-none c = λ streamed.
     let found = sym (raw_values-rows (found_of c.args.matches.now) (codes "replies")) ∙ sym c.get_strs.ensures
     ∙ ap (option_map (λ s. map (λ v. v.now) s.now)) c.in-Some.is in (
       ap is_some found,
@@ -34,4 +34,4 @@ pub returns-clause-records : goal.returns-clause-records
 returns-clause-records c =
     let found = sym (raw_values-rows (found_of c.args.matches.now) (codes "replies")) ∙ sym c.get_strs.ensures
     ∙ ap (option_map (λ s. map (λ v. v.now) s.now)) c.in-Some.is in
-    ap (map (λ (v : Bor (List ℕ)). v.now)) c.in_ok-from_slice.ensures.items ∙ sym (ap named found)
+    sym (ap named found)

@@ -1,0 +1,21 @@
+use Rattle.replay_arguments.specs.Words.{IsOfNoUse}
+use Rattle.replay_arguments.proofs.arguments.asked.asked_of.Goals as goal
+
+pub returns-in_err-printing-clause-none : goal.returns-in_err-printing-clause-none
+returns-in_err-printing-clause-none c = IsOfNoUse.no_printing c.in_err-printing.ensures.none
+
+pub returns-in_default-clause-none : goal.returns-in_default-clause-none
+returns-in_default-clause-none c = IsOfNoUse.no_numbers (c.options_of.ensures.none c.in_default.is)
+
+pub returns-in_err-names-clause-none : goal.returns-in_err-names-clause-none
+returns-in_err-names-clause-none c =
+    let printing = c.in_ok-printing.ensures.printing in
+    IsOfNoUse.no_names (c.in_err-names.ensures.none printing.form printing.stream)
+
+pub returns-clause-asked : goal.returns-clause-asked
+returns-clause-asked c = record {
+  printing = c.in_ok-printing.ensures.printing;
+  numbers = c.in-Some.ensures.numbers;
+  style = c.in-Some.ensures.style;
+  names = c.in_ok-names.ensures.names;
+}

@@ -1,0 +1,46 @@
+use Rattle.std.proofs.Common.{◌≡◌, ◌∙◌, ap, sym, subst, rules, Bor, List, ℕ, length, map}
+use Rattle.std.proofs.lemmas.List.{length-map}
+use Rattle.clap.specs.Words.{found_of, rows_of}
+use Rattle.replay_arguments.specs.Words.{HasInputOnce, HasRecords, HasReplies, NamesNothing, is_kept}
+use Rattle.replay_arguments.proofs.Refusals.{no_records_each, not_each}
+use Rattle.replay_arguments.proofs.arguments.names.names_of.Goals as goal
+
+pub returns-in_default-clause-none : goal.returns-in_default-clause-none
+returns-in_default-clause-none c = λ form stream. NamesNothing.no_files (c.files_of.ensures.none c.in_default.is)
+
+pub returns-then-not-has_input_once-clause-none : goal.returns-then-not-has_input_once-clause-none
+returns-then-not-has_input_once-clause-none c = λ form stream.
+    let none : ¬ (HasInputOnce (rows_of (found_of c.args.matches.now))) = search rules in
+    NamesNothing.no_input none
+
+pub returns-in_err-replies-clause-none : goal.returns-in_err-replies-clause-none
+returns-in_err-replies-clause-none c = λ form stream.
+    let rows = rows_of (found_of c.args.matches.now) in
+    let files = c.in-Some.files.now in
+    let names : List (List ℕ) = map (λ (v : Bor (List ℕ)). v.now) files in
+    let refused = c.in_err-replies.ensures.none in
+    let count : length files ≡ length names = sym (length-map files (λ (v : Bor (List ℕ)). v.now)) in
+    NamesNothing.no_replies (not_each rows names c.in-Some.ensures.files (form.check ∙ ap is_kept refused.0)
+    (subst (λ (n : ℕ). ¬ (HasReplies n rows)) count refused.1))
+
+pub returns-in_err-records-clause-none : goal.returns-in_err-records-clause-none
+returns-in_err-records-clause-none c = λ form stream.
+    let rows = rows_of (found_of c.args.matches.now) in
+    let files = c.in-Some.files.now in
+    let names : List (List ℕ) = map (λ (v : Bor (List ℕ)). v.now) files in
+    let refused = c.in_err-records.ensures.none stream in
+    let count : length files ≡ length names = sym (length-map files (λ (v : Bor (List ℕ)). v.now)) in
+    NamesNothing.no_records (no_records_each rows names c.in-Some.ensures.files refused.0
+    (subst (λ (n : ℕ). ¬ (HasRecords n rows)) count refused.1))
+
+pub returns-clause-names : goal.returns-clause-names
+returns-clause-names c = record {
+  files = c.in-Some.ensures.files;
+  least = c.in-Some.ensures.least;
+  most = c.in-Some.ensures.most;
+  input = search rules;
+  replies = c.in_ok-replies.ensures.replies;
+  as_many = c.in_ok-replies.ensures.as_many;
+  records = c.in_ok-records.ensures.records;
+  records_each = c.in_ok-records.ensures.each;
+}

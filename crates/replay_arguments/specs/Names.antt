@@ -1,0 +1,26 @@
+-- The names of files that are found among the arguments.
+use Rattle.std.specs.Prelude.{◌≡◌, ◌≤◌, ◌⊎◌, ℕ, List, true, Some, codes, length, map}
+use Rattle.std.specs.Borrow.{Bor}
+use Rattle.clap.specs.Words.{Row, all_of}
+use Rattle.resolver.specs.declared.resolver_core.TheConstants.{MAX_PROXIES}
+use Rattle.replay_output.specs.declared.options.form.Form.TheVariants.{Kept}
+use Rattle.replay_arguments.specs.Words.{HasInputOnce, named}
+use Rattle.replay_arguments.specs.declared.arguments.names.Names.{Names}
+use Rattle.replay_arguments.specs.declared.arguments.printing.Printing.{Printing}
+
+-- the texts of names
+abbrev pub texts : Bor (List (Bor (List ℕ))) → List (List ℕ)
+texts names = map (λ name. name.now) names.now
+
+-- They are the names that these rows give: as many files of replies as files if replies are kept to be compared, and as many files for
+-- records, or none.
+pub record HoldsNames (rows : List Row) (printing : Printing) (names : Names) : Type 0 where
+  pub files : all_of (codes "FILE") rows ≡ Some (texts names.files)
+  pub least : 1 ≤ length names.files.now
+  pub most : length names.files.now ≤ MAX_PROXIES
+  pub input : HasInputOnce rows
+  pub replies : printing.style.form ≡ Kept → all_of (codes "check") rows ≡ Some (texts names.replies)
+  pub as_many : printing.style.form ≡ Kept → length names.replies.now ≡ length names.files.now
+  pub records : texts names.records ≡ named (all_of (codes "replies") rows)
+  pub records_each : (length names.records.now ≡ 0)
+      ⊎ ((printing.is_streamed ≡ true) × (length names.records.now ≡ length names.files.now))

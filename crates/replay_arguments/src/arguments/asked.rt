@@ -1,0 +1,52 @@
+//! What the arguments ask for.
+
+ghost use Rattle.std.specs.Prelude.{◌≡◌, IfOk, IfSome, OnErr};
+ghost use Rattle.clap.specs.Words.{found_of, rows_of};
+ghost use Rattle.replay_arguments.specs.Asked.{HoldsAsked};
+ghost use Rattle.replay_arguments.specs.Words.{HasNumbers, HoldsNumbers, IsOfNoUse};
+
+use crate::arguments::mistake::Mistake;
+use crate::arguments::names::{Names, names_of};
+use crate::arguments::printing::{Printing, printing_of};
+use clap::ArgMatches;
+use replay_output::{Options, Style};
+
+/// What the arguments ask for.
+#[derive(Clone, Copy, Debug)]
+pub struct Asked<'m, 'a> {
+    pub printing: Printing,
+    pub options: Options,
+    pub names: Names<'m, 'a>,
+}
+
+/// Returns what the matches ask for, unless they are of no use.
+pub fn asked_of<'m, 'a>(matches: &'m ArgMatches<'a>) -> Result<Asked<'m, 'a>, Mistake>
+    ensures asked { IfOk result (HoldsAsked (rows_of (found_of matches.entry.now))) }
+    ensures none { OnErr result (IsOfNoUse (rows_of (found_of matches.entry.now))) }
+{
+    let printing = printing_of(matches)?;
+    let Some(options) = options_of(matches, printing.style) else {
+        return Err(Mistake::Number);
+    };
+    let names = names_of(matches, printing)?;
+    Ok(Asked {
+        printing,
+        options,
+        names,
+    })
+}
+
+// Returns the options with this style, unless a number is out of its range. `clap` refuses such
+// numbers itself.
+fn options_of(matches: &ArgMatches, style: Style) -> Option<Options>
+    ensures numbers { IfSome result (HoldsNumbers (rows_of (found_of matches.now))) }
+    ensures style { IfSome result (λ options. options.style ≡ style) }
+    ensures none { result ≡ None → ¬ HasNumbers (rows_of (found_of matches.now)) }
+{
+    Options::new(
+        matches.get_one("capacity")?,
+        matches.get_one("window")?,
+        matches.get_one("limit")?,
+        style,
+    )
+}
