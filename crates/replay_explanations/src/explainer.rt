@@ -84,7 +84,7 @@ impl Observer for Explainer {
         }
         self.has_failed = true;
         let version = batch.version;
-        let processed = ProcessedBatch::new(proxy, batch, reply.copy(self.alloc)?);
+        let processed = ProcessedBatch::new(self.alloc, proxy, batch, reply.copy(self.alloc)?)?;
         self.history.push(processed)?;
         let text = lines_of(self.alloc, &self.history, reply.entries.as_slice())?;
         self.texts.put(proxy, version, text)?;
