@@ -14,14 +14,13 @@ use std::marker::Model;
 /// Sees the batches that a resolver processes, and keeps the lines that explain the rejections of
 /// each.
 ///
-/// If memory is refused, it sees no more: each later call of `see` returns the same error. The
-/// lines of the batches that it saw before stay.
+/// If memory is refused, the lines of the batches that it saw before stay.
 #[derive(Debug, Drop)]
 pub struct Explainer {
     alloc: Global,
     history: History,
     texts: TextStore,
-    // memory was refused
+    // memory was refused, so it sees no more
     has_failed: bool,
 }
 
