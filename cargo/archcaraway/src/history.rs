@@ -75,7 +75,9 @@ impl History {
         if reply.version() != version || reply.len() != batch.len() {
             return Err(PushError::Reply);
         }
-        let processed = ProcessedBatch::new(proxy, batch.into_inner(), reply.into_inner());
+        let (batch, reply) = (batch.into_inner(), reply.into_inner());
+        let processed = ProcessedBatch::new(Global, proxy, batch, reply)
+            .map_err(|_| PushError::Memory)?;
         self.history
             .push(processed)
             .map_err(|_| PushError::Memory)?;

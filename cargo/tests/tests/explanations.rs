@@ -87,7 +87,8 @@ impl Explained {
         let batch = plain.batch();
         let reply = self.set.resolve(&batch).expect("the limit is ample");
         let told = PlainReply::of(&reply);
-        self.history.push(ProcessedBatch::new(proxy, batch, reply)).expect("memory is ample");
+        let processed = ProcessedBatch::new(Global, proxy, batch, reply).expect("memory is ample");
+        self.history.push(processed).expect("memory is ample");
         told
     }
 
@@ -337,6 +338,50 @@ fn rows_by_hand() {
             window: 100,
             batches: vec![(0, 20, vec![writes(&["a..c"]), txn(9, &["b..d"], &[])])],
             asked: (1, 1),
+            expected: None,
+        },
+        Row {
+            name: "of the writers of a single key the last",
+            window: 100,
+            batches: vec![
+                (1, 10, vec![writes(&["a..a\0", "c..c\0"]), writes(&["b..b\0"]), writes(&["c..c\0", "a..a\0"])]),
+                (0, 20, vec![txn(9, &["a..a\0"], &[])]),
+            ],
+            asked: (0, 0),
+            expected: Some((1, 10, 2, "a..a\0", 1)),
+        },
+        Row {
+            name: "a single key that one transaction writes twice",
+            window: 100,
+            batches: vec![(1, 10, vec![writes(&["a..a\0", "a..a\0"])]), (0, 20, vec![txn(9, &["a..a\0"], &[])])],
+            asked: (0, 0),
+            expected: Some((1, 10, 0, "a..a\0", 1)),
+        },
+        Row {
+            name: "a single key within a range, beside other single keys",
+            window: 100,
+            batches: vec![
+                (1, 10, vec![writes(&["a..a\0"]), writes(&["a..c"]), writes(&["b..b\0"])]),
+                (0, 20, vec![txn(9, &["b..b\0"], &[])]),
+            ],
+            asked: (0, 0),
+            expected: Some((1, 10, 2, "b..b\0", 1)),
+        },
+        Row {
+            name: "a range over single keys",
+            window: 100,
+            batches: vec![
+                (1, 10, vec![writes(&["a..a\0"]), writes(&["d..d\0"]), writes(&["b..b\0"])]),
+                (0, 20, vec![txn(9, &["a..c"], &[])]),
+            ],
+            asked: (0, 0),
+            expected: Some((1, 10, 2, "b..b\0", 1)),
+        },
+        Row {
+            name: "a single key that nobody wrote",
+            window: 100,
+            batches: vec![(1, 10, vec![writes(&["a..a\0", "c..c\0"])]), (0, 20, vec![txn(9, &["b..b\0"], &[])])],
+            asked: (0, 0),
             expected: None,
         },
         Row { name: "no batch", window: 100, batches: vec![], asked: (0, 0), expected: None },

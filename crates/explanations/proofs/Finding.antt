@@ -1,14 +1,15 @@
 -- What a search has found, with one write more, with one batch more, and when it is at the end.
-use Rattle.std.proofs.Common.{◌≡◌, ℕ, ◌+◌, Bool, false, cond, take, ◌||◌, List, [], ◌∷◌, ◌++◌, length, min, refl, sym, ap, subst, ◌∙◌, arith, append-nil, append_assoc, length-append}
-use Rattle.std.specs.Prelude.{ℤ, int_lt, Option, Some, slice_get}
+use Rattle.std.proofs.Common.{◌≡◌, ℕ, zero, suc, ◌+◌, ◌-◌, ◌≤◌, Bool, false, cond, take, ◌||◌, List, [], ◌∷◌, ◌++◌, length, min, refl, sym, ap, subst, ◌∙◌, arith, append-nil, append_assoc, length-append}
+use Rattle.std.specs.Prelude.{ℤ, int_lt, All, Option, Some, slice_get}
 use Rattle.std.specs.Ordering.{int_eq}
 use Rattle.std.specs.List.{filter}
 use Rattle.std.proofs.lemmas.Grind.{flat_map-append}
 use Rattle.std.proofs.lemmas.List.{map-append}
-use Rattle.std.proofs.lemmas.List.Elements.{All-weaker, filter-append}
+use Rattle.std.proofs.lemmas.List.Elements.{All-map, All-weaker, filter-append}
+use Rattle.keys.specs.Range.{ranges_meet}
 use Rattle.keys.specs.declared.range.Range.{Range}
 use Rattle.keys.proofs.callers.Booleans.{or_left, or_right, false_unless, not_both_ways}
-use Rattle.keys.proofs.callers.Lists.{part_more}
+use Rattle.keys.proofs.callers.Lists.{part_more, some_at}
 use Rattle.keyspace.specs.declared.txn.Txn.{Txn}
 use Rattle.keyspace.specs.declared.batch.Batch.{Batch}
 use Rattle.keyspace.specs.declared.reply.Entry.{Entry}
@@ -18,9 +19,10 @@ use Rattle.explanations.specs.declared.explanation.Explanation.{Explanation}
 use Rattle.explanations.specs.Written.{Written, written_by, written_from, written_in, all_written}
 use Rattle.explanations.specs.Explains.{explains, explaining_range, explaining_txn, explaining_of, explaining_newest, newest_of}
 use Rattle.explanations.specs.Found.{IsExplained, IsFound}
+use Rattle.explanations.specs.Writers.{NoneWrote}
 use Rattle.explanations.proofs.Passing.{filter_none}
 use Rattle.explanations.proofs.Origins.{IsWrittenAt, in_at, written_at, written_more}
-use Rattle.explanations.proofs.Earlier.{explains_none}
+use Rattle.explanations.proofs.Earlier.{explains_none, explains_apart}
 
 pub found_first : (ws : List Written) (most : ℕ) (w : Written) (further : ℕ) → ws ≡ [] → further ≡ 0
     → IsExplained (ws ++ w ∷ []) most w further
@@ -168,3 +170,42 @@ pub missed_one : (test : Written → Bool) (ws : List Written) (w : Written) (o 
     → test w ≡ false → IsFound (ws ++ filter test (w ∷ [])) o
 missed_one test ws w o found fails =
     found_of _ _ o (sym (append-nil ws) ∙ ap (λ b. ws ++ cond b (w ∷ []) []) (sym fails)) found
+
+-- the writes of transactions that overlap the range with none of theirs
+module _ (version : ℤ) (j : ℕ) (snapshot : ℤ) (range : Range) where
+  none_by : (proxy : ℕ) (own_version : ℤ) (txn : ℕ) (ranges : List Range) → All (λ other. ranges_meet range other ≡ false) ranges
+      → filter (explains version j snapshot range) (written_by proxy own_version txn ranges) ≡ []
+  none_by proxy own_version txn ranges apart =
+      filter_none (explains version j snapshot range) (written_by proxy own_version txn ranges)
+      (All-map (λ (w : Written). explains version j snapshot range w ≡ false) (written_at proxy own_version txn) ranges
+      (All-weaker (λ other. ranges_meet range other ≡ false)
+      (λ other. explains version j snapshot range (written_at proxy own_version txn other) ≡ false)
+      (λ other. explains_apart version j snapshot range (written_at proxy own_version txn other)) ranges apart))
+
+  -- n transactions more
+  skipped : (proxy : ℕ) (own_version : ℤ) (ts : List Txn) (es : List Entry) (from n to : ℕ) (ws : List Written) (o : Option Explanation)
+      → to ≡ from + n → to ≤ length ts → to ≤ length es → NoneWrote ts es range from to
+      → IsFound (ws ++ filter (explains version j snapshot range) (written_from proxy own_version 0 (take from ts) (take from es))) o
+      → IsFound (ws ++ filter (explains version j snapshot range) (written_from proxy own_version 0 (take to ts) (take to es))) o
+  skipped proxy own_version ts es from zero to ws o same fit fit_es none found =
+      let at : to ≡ from = omega (arith, same) in
+      subst (λ (k : ℕ). IsFound (ws ++ filter (explains version j snapshot range) (written_from proxy own_version 0 (take k ts) (take k es))) o)
+      (sym at) found
+  skipped proxy own_version ts es from (suc n) to ws o same fit fit_es none found =
+      let test = explains version j snapshot range in
+      let t = some_at ts from (omega (arith, same, fit)) in
+      let e = some_at es from (omega (arith, same, fit_es)) in
+      let ranges = counted e.0.verdict t.0.writes in
+      let before = ws ++ filter test (written_from proxy own_version 0 (take from ts) (take from es)) in
+      let nothing = none_by proxy own_version from ranges (none from t.0 e.0 (omega arith) (omega (arith, same)) t.1 e.1) in
+      skipped proxy own_version ts es (from + 1) n to ws o (omega (arith, same)) fit fit_es
+      (λ k u f low high at_u at_f. none k u f (omega (arith, low)) high at_u at_f)
+      (found_txn test proxy own_version ts es from t.0 e.0 ws o proxy own_version ranges
+      (found_of _ _ o (sym (append-nil before) ∙ ap (λ (own : List Written). before ++ own) (sym nothing)) found) refl refl refl t.1 e.1)
+
+  pub found_skipping : (proxy : ℕ) (own_version : ℤ) (ts : List Txn) (es : List Entry) (from to : ℕ) (ws : List Written)
+      (o : Option Explanation) → from ≤ to → to ≤ length ts → to ≤ length es → NoneWrote ts es range from to
+      → IsFound (ws ++ filter (explains version j snapshot range) (written_from proxy own_version 0 (take from ts) (take from es))) o
+      → IsFound (ws ++ filter (explains version j snapshot range) (written_from proxy own_version 0 (take to ts) (take to es))) o
+  found_skipping proxy own_version ts es from to ws o rises fit fit_es none found =
+      skipped proxy own_version ts es from (to - from) to ws o (omega (arith, rises)) fit fit_es none found

@@ -6,3 +6,6 @@ pub mod Earlier
 pub mod Explaining
 pub mod Finding
 pub mod Dropping
+pub mod Ordered
+pub mod NextWriter
+pub mod Indexing

@@ -16,6 +16,7 @@ pub mod laws;
 mod processed;
 mod question;
 mod searching;
+mod writer_index;
 
 pub use explanation::{Explanation, WrittenRef};
 pub use history::History;

@@ -1,8 +1,13 @@
 //! Processed batches.
 
-ghost use Rattle.std.specs.Prelude.{◌≡◌, length};
+ghost use Rattle.std.specs.Prelude.{◌≡◌, ◌≤◌, length, IfOk};
+ghost use Rattle.keys.specs.Hash.{IsHashOf};
+ghost use Rattle.keys.specs.declared.range.Range.{Range};
+ghost use Rattle.explanations.specs.Writers.{IsIndexOf, IsNextWriter};
 
+use crate::writer_index::WriterIndex;
 use keyspace::{Batch, Reply};
+use std::alloc::{AllocError, Global};
 use std::marker::Model;
 
 /// A batch that was processed, with the number of its proxy and its reply. The reply has one entry
@@ -12,7 +17,9 @@ pub struct ProcessedBatch {
     proxy: usize,
     batch: Batch,
     reply: Reply,
+    writers: WriterIndex,
     ghost entries: { length reply.entries ≡ length batch.txns },
+    ghost index: { IsIndexOf writers batch.txns reply.entries },
 }
 
 impl Model for ProcessedBatch {
@@ -24,18 +31,26 @@ impl Model for ProcessedBatch {
 }
 
 impl ProcessedBatch {
-    /// Puts a batch and its reply together. The reply needs one entry per transaction.
-    pub fn new(proxy: usize, batch: Batch, reply: Reply) -> Self
+    /// Puts a batch and its reply together, or returns an error if memory is refused. The reply
+    /// needs one entry per transaction.
+    pub fn new(
+        alloc: Global,
+        proxy: usize,
+        batch: Batch,
+        reply: Reply,
+    ) -> Result<Self, AllocError>
         requires entries { length reply.entries ≡ length batch.txns }
-        ensures proxy { result.proxy ≡ proxy }
-        ensures batch { result.batch ≡ batch }
-        ensures reply { result.reply ≡ reply }
+        ensures proxy { IfOk result (λ processed. processed.proxy ≡ proxy) }
+        ensures batch { IfOk result (λ processed. processed.batch ≡ batch) }
+        ensures reply { IfOk result (λ processed. processed.reply ≡ reply) }
     {
-        ProcessedBatch {
+        let writers = WriterIndex::new(alloc, &batch.txns, reply.entries.as_slice())?;
+        Ok(ProcessedBatch {
             proxy,
             batch,
             reply,
-        }
+            writers,
+        })
     }
 
     /// Returns the number of the proxy that sent the batch.
@@ -58,5 +73,33 @@ impl ProcessedBatch {
         ensures entries { length self.now.reply.entries ≡ length self.now.batch.txns }
     {
         &self.reply
+    }
+
+    // Returns the next transaction, from an index on, that may have written a range that overlaps
+    // one with this hash.
+    pub(crate) fn next_writer(&self, hash: Option<u32>, from: usize) -> Option<usize>
+        requires within { from ≤ length self.now.batch.txns }
+        ensures next { (range : Range) → IsHashOf range hash
+            → IsNextWriter self.now.batch.txns self.now.reply.entries range from result }
+    {
+        if self.writers.has_ranges {
+            return self.next_txn(from);
+        }
+        match hash {
+            Some(hash) => self.writers.next(hash, from),
+            None => self.next_txn(from),
+        }
+    }
+
+    // Returns the index itself, if there is a transaction at it.
+    fn next_txn(&self, from: usize) -> Option<usize>
+        ensures next { (range : Range)
+            → IsNextWriter self.now.batch.txns self.now.reply.entries range from result }
+    {
+        if from < self.batch.txns.len() {
+            Some(from)
+        } else {
+            None
+        }
     }
 }

@@ -32,6 +32,7 @@ pub(crate) fn search<'a>(
     found
 }
 
+// Looks at the transactions that may have written the key of the question, or at all.
 fn search_batch<'a>(
     question: &Question,
     processed: &'a ProcessedBatch,
@@ -43,7 +44,9 @@ fn search_batch<'a>(
 {
     let (batch, entries) = (processed.batch(), processed.reply().entries.as_slice());
     let mut found = found;
-    for txn in 0..batch.txns.len() {
+    let hash = question.range.hash();
+    let mut next = 0;
+    while let Some(txn) = processed.next_writer(hash, next) {
         if entries[txn].verdict == Verdict::Committed {
             let origin = Origin {
                 proxy: processed.proxy(),
@@ -52,6 +55,7 @@ fn search_batch<'a>(
             };
             found = search_txn(question, origin, &batch.txns, found);
         }
+        next = txn + 1;
     }
     found
 }

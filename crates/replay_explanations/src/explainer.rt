@@ -14,14 +14,13 @@ use std::marker::Model;
 /// Sees the batches that a resolver processes, and keeps the lines that explain the rejections of
 /// each.
 ///
-/// If memory is refused, it sees no more: each later call of `see` returns the same error. The
-/// lines of the batches that it saw before stay.
+/// If memory is refused, the lines of the batches that it saw before stay.
 #[derive(Debug, Drop)]
 pub struct Explainer {
     alloc: Global,
     history: History,
     texts: TextStore,
-    // memory was refused
+    // memory was refused, so it sees no more
     has_failed: bool,
 }
 
@@ -84,7 +83,7 @@ impl Observer for Explainer {
         }
         self.has_failed = true;
         let version = batch.version;
-        let processed = ProcessedBatch::new(proxy, batch, reply.copy(self.alloc)?);
+        let processed = ProcessedBatch::new(self.alloc, proxy, batch, reply.copy(self.alloc)?)?;
         self.history.push(processed)?;
         let text = lines_of(self.alloc, &self.history, reply.entries.as_slice())?;
         self.texts.put(proxy, version, text)?;

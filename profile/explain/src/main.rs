@@ -80,7 +80,10 @@ fn main() {
         resolving += start.elapsed().as_secs_f64();
         let reads = reads_in_conflict(&batch, &reply);
         let start = Instant::now();
-        assert!(history.push(ProcessedBatch::new(0, batch, reply)).is_ok());
+        let Ok(processed) = ProcessedBatch::new(Global, 0, batch, reply) else {
+            panic!("memory is refused");
+        };
+        assert!(history.push(processed).is_ok());
         pushing += start.elapsed().as_secs_f64();
         let start = Instant::now();
         found.add(&history, &reads);

@@ -42,18 +42,18 @@ returns-clause-seen c =
     let history_is = ap (λ (e : ExplainerState). e.history) is in
     let after : ExplainerState = record { history = c.push.new.self; texts = c.put.new.self; has_failed = false } in
     let p : Processed = record { proxy = c.args.proxy; batch = c.args.batch; reply = c.args.reply.now } in
-    let pushed : c.new-processed.result ≡ p =
-    same_processed c.new-processed.result p c.new-processed.ensures.proxy c.new-processed.ensures.batch
-    (c.new-processed.ensures.reply ∙ c.in_ok-copy.ensures.equal) in
+    let pushed : c.in_ok-processed.processed ≡ p =
+    same_processed c.in_ok-processed.processed p c.in_ok-processed.ensures.proxy c.in_ok-processed.ensures.batch
+    (c.in_ok-processed.ensures.reply ∙ c.in_ok-copy.ensures.equal) in
     let text = c.in_ok-text.text.items in
     let working : before.has_failed ≡ false = sym (ap (λ (e : ExplainerState). e.has_failed) is) ∙ c.if-self.false in
     let keeps : (ps : List Processed) → Keeps ps before.history → Keeps (ps ++ p ∷ []) c.push.new.self =
     subst (λ (x : Processed). (ps : List Processed) → Keeps ps before.history → Keeps (ps ++ x ∷ []) c.push.new.self) pushed
-    (subst (λ (h : HistoryState). (ps : List Processed) → Keeps ps h → Keeps (ps ++ c.new-processed.result ∷ []) c.push.new.self)
+    (subst (λ (h : HistoryState). (ps : List Processed) → Keeps ps h → Keeps (ps ++ c.in_ok-processed.processed ∷ []) c.push.new.self)
     history_is c.in_ok-push.ensures.keeps) in
     let edge_is : c.push.new.self.edge ≡ int_max before.history.edge (edge before.history.window p.batch) =
     c.in_ok-push.ensures.edge
-    ∙ ap (λ (h : HistoryState). int_max h.edge (edge h.window c.new-processed.result.batch)) history_is
+    ∙ ap (λ (h : HistoryState). int_max h.edge (edge h.window c.in_ok-processed.processed.batch)) history_is
     ∙ ap (λ (x : Processed). int_max before.history.edge (edge before.history.window x.batch)) pushed in
     let newest : newest_of c.push.new.self.kept ≡ Some p.batch =
     c.in_ok-push.ensures.newest ∙ ap (λ (x : Processed). Some x.batch) pushed in
