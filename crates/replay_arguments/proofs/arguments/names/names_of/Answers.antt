@@ -33,9 +33,9 @@ returns-in_err-records-clause-none c =
     let count : length files ≡ length names = sym (length-map files (λ (v : Bor (List ℕ)). v.now)) in
     let none : HoldsForm rows c.args.printing.style.form → HoldsStream rows c.args.printing.is_streamed → NamesNothing rows =
     λ form stream.
-        let refused = c.in_err-records.ensures.none stream in
-        NamesNothing.no_records (no_records_each rows names c.in-Some.ensures.files refused.0
-        (subst (λ (n : ℕ). ¬ (HasRecords n rows)) count refused.1)) in
+    let refused = c.in_err-records.ensures.none stream in
+    NamesNothing.no_records (no_records_each rows names c.in-Some.ensures.files refused.0
+    (subst (λ (n : ℕ). ¬ (HasRecords n rows)) count refused.1)) in
     on_err _ none
 
 pub returns-clause-names : goal.returns-clause-names
