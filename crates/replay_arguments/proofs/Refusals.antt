@@ -1,5 +1,5 @@
 -- Which refusal is made of which words.
-use Rattle.std.specs.Prelude.{◌≡◌, ◌⊎◌, ℕ, ◌<◌, true, false, List, Option, None, Some, IfSome, is_some, codes, length, map}
+use Rattle.std.specs.Prelude.{◌≡◌, ◌⊎◌, ℕ, ◌<◌, true, false, List, Option, None, Some, IfSome, Result, Ok, Err, OnErr, is_some, codes, length, map}
 use Rattle.std.specs.Borrow.{Bor}
 use Rattle.std.proofs.Common.{refl, sym, ap, ◌∙◌, subst, inl, inr, arith}
 use Rattle.std.proofs.lemmas.Bool.{false≢true}
@@ -45,6 +45,11 @@ IsRefusalBy-of kinds kind (Shown text) (inr among) request = (kind, among, reque
 IsRefusalBy-of kinds kind (Refused text) (inl memory) mistake = absurd (mistake.2 memory)
 IsRefusalBy-of kinds kind (Refused text) (inr among) mistake = (kind, among, mistake)
 IsRefusalBy-of kinds kind Memory among memory = tt
+
+-- what holds of an error that is returned
+pub on_err : {T E P : Type 0} (r : Result T E) → P → OnErr r P
+on_err (Ok value) holds = tt
+on_err (Err error) holds = holds
 
 -- no files are found
 pub no_files : (rows : List Row) → all_of (codes "FILE") rows ≡ None → ¬ (HasFiles rows)

@@ -1,8 +1,9 @@
 use Rattle.replay_arguments.specs.Words.{IsOfNoUse}
+use Rattle.replay_arguments.proofs.Refusals.{on_err}
 use Rattle.replay_arguments.proofs.arguments.asked.asked_of.Goals as goal
 
 pub returns-in_err-printing-clause-none : goal.returns-in_err-printing-clause-none
-returns-in_err-printing-clause-none c = IsOfNoUse.no_printing c.in_err-printing.ensures.none
+returns-in_err-printing-clause-none c = on_err _ (IsOfNoUse.no_printing c.in_err-printing.ensures.none)
 
 pub returns-in_default-clause-none : goal.returns-in_default-clause-none
 returns-in_default-clause-none c = IsOfNoUse.no_numbers (c.options_of.ensures.none c.in_default.is)
@@ -10,7 +11,7 @@ returns-in_default-clause-none c = IsOfNoUse.no_numbers (c.options_of.ensures.no
 pub returns-in_err-names-clause-none : goal.returns-in_err-names-clause-none
 returns-in_err-names-clause-none c =
     let printing = c.in_ok-printing.ensures.printing in
-    IsOfNoUse.no_names (c.in_err-names.ensures.none printing.form printing.stream)
+    on_err _ (IsOfNoUse.no_names (c.in_err-names.ensures.none printing.form printing.stream))
 
 pub returns-clause-asked : goal.returns-clause-asked
 returns-clause-asked c = record {

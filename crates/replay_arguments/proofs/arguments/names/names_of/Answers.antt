@@ -1,8 +1,8 @@
 use Rattle.std.proofs.Common.{◌≡◌, ◌∙◌, ap, sym, subst, rules, Bor, List, ℕ, length, map}
 use Rattle.std.proofs.lemmas.List.{length-map}
 use Rattle.clap.specs.Words.{found_of, rows_of}
-use Rattle.replay_arguments.specs.Words.{HasInputOnce, HasRecords, HasReplies, NamesNothing, is_kept}
-use Rattle.replay_arguments.proofs.Refusals.{no_records_each, not_each}
+use Rattle.replay_arguments.specs.Words.{HasInputOnce, HasRecords, HasReplies, HoldsForm, HoldsStream, NamesNothing, is_kept}
+use Rattle.replay_arguments.proofs.Refusals.{no_records_each, not_each, on_err}
 use Rattle.replay_arguments.proofs.arguments.names.names_of.Goals as goal
 
 pub returns-in_default-clause-none : goal.returns-in_default-clause-none
@@ -14,24 +14,29 @@ returns-then-not-has_input_once-clause-none c = λ form stream.
     NamesNothing.no_input none
 
 pub returns-in_err-replies-clause-none : goal.returns-in_err-replies-clause-none
-returns-in_err-replies-clause-none c = λ form stream.
+returns-in_err-replies-clause-none c =
     let rows = rows_of (found_of c.args.matches.now) in
     let files = c.in-Some.files.now in
     let names : List (List ℕ) = map (λ (v : Bor (List ℕ)). v.now) files in
     let refused = c.in_err-replies.ensures.none in
     let count : length files ≡ length names = sym (length-map files (λ (v : Bor (List ℕ)). v.now)) in
-    NamesNothing.no_replies (not_each rows names c.in-Some.ensures.files (form.check ∙ ap is_kept refused.0)
-    (subst (λ (n : ℕ). ¬ (HasReplies n rows)) count refused.1))
+    let none : HoldsForm rows c.args.printing.style.form → HoldsStream rows c.args.printing.is_streamed → NamesNothing rows =
+    λ form stream. NamesNothing.no_replies (not_each rows names c.in-Some.ensures.files (form.check ∙ ap is_kept refused.0)
+    (subst (λ (n : ℕ). ¬ (HasReplies n rows)) count refused.1)) in
+    on_err _ none
 
 pub returns-in_err-records-clause-none : goal.returns-in_err-records-clause-none
-returns-in_err-records-clause-none c = λ form stream.
+returns-in_err-records-clause-none c =
     let rows = rows_of (found_of c.args.matches.now) in
     let files = c.in-Some.files.now in
     let names : List (List ℕ) = map (λ (v : Bor (List ℕ)). v.now) files in
-    let refused = c.in_err-records.ensures.none stream in
     let count : length files ≡ length names = sym (length-map files (λ (v : Bor (List ℕ)). v.now)) in
+    let none : HoldsForm rows c.args.printing.style.form → HoldsStream rows c.args.printing.is_streamed → NamesNothing rows =
+    λ form stream.
+    let refused = c.in_err-records.ensures.none stream in
     NamesNothing.no_records (no_records_each rows names c.in-Some.ensures.files refused.0
-    (subst (λ (n : ℕ). ¬ (HasRecords n rows)) count refused.1))
+    (subst (λ (n : ℕ). ¬ (HasRecords n rows)) count refused.1)) in
+    on_err _ none
 
 pub returns-clause-names : goal.returns-clause-names
 returns-clause-names c = record {

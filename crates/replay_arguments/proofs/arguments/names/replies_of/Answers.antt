@@ -8,16 +8,16 @@ pub returns-in_default-clause-none : goal.returns-in_default-clause-none
 returns-in_default-clause-none c = (
   search rules,
   no_replies c.args.files _ (sym (raw_values-rows (found_of c.args.matches.now) (codes "check")) ∙ sym c.get_strs.ensures
-  ∙ ap (option_map (λ s. map (λ v. v.now) s.now)) c.in_default.is),
+      ∙ ap (option_map (λ s. map (λ v. v.now) s.now)) c.in_default.is),
 )
 
 pub returns-then-replies-files-clause-none : goal.returns-then-replies-files-clause-none
 returns-then-replies-files-clause-none c = (
   search rules,
   other_replies c.args.files _ c.in-Some.replies.now
-  (sym (raw_values-rows (found_of c.args.matches.now) (codes "check")) ∙ sym c.get_strs.ensures
-  ∙ ap (option_map (λ s. map (λ v. v.now) s.now)) c.in-Some.is)
-  (search rules),
+      (sym (raw_values-rows (found_of c.args.matches.now) (codes "check")) ∙ sym c.get_strs.ensures
+      ∙ ap (option_map (λ s. map (λ v. v.now) s.now)) c.in-Some.is)
+      (search rules),
 )
 
 pub returns-clause-replies : goal.returns-clause-replies

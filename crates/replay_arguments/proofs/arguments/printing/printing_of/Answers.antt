@@ -1,11 +1,12 @@
 use Rattle.replay_arguments.specs.Words.{PrintsNothing}
+use Rattle.replay_arguments.proofs.Refusals.{on_err}
 use Rattle.replay_arguments.proofs.arguments.printing.printing_of.Goals as goal
 
 pub returns-in_default-clause-none : goal.returns-in_default-clause-none
 returns-in_default-clause-none c = PrintsNothing.no_form (c.form_of.ensures.none c.in_default.is)
 
 pub returns-in_err-filter-clause-none : goal.returns-in_err-filter-clause-none
-returns-in_err-filter-clause-none c = PrintsNothing.no_filter (c.in_err-filter.ensures.err c.in-Some.ensures.form)
+returns-in_err-filter-clause-none c = on_err _ (PrintsNothing.no_filter (c.in_err-filter.ensures.err c.in-Some.ensures.form))
 
 pub returns-in_default-is_streamed-clause-none : goal.returns-in_default-is_streamed-clause-none
 returns-in_default-is_streamed-clause-none c =
