@@ -35,12 +35,7 @@ impl Model for ProcessedBatch {
 impl ProcessedBatch {
     /// Puts a batch and its reply together, or returns an error if memory is refused. The reply
     /// needs one entry per transaction.
-    pub fn new(
-        alloc: Global,
-        proxy: usize,
-        batch: Batch,
-        reply: Reply,
-    ) -> Result<Self, AllocError>
+    pub fn new(alloc: Global, proxy: usize, batch: Batch, reply: Reply) -> Result<Self, AllocError>
         requires entries { length reply.entries ≡ length batch.txns }
         ensures proxy { IfOk result (λ processed. processed.proxy ≡ proxy) }
         ensures batch { IfOk result (λ processed. processed.batch ≡ batch) }

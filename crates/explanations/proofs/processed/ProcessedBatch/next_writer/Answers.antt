@@ -1,4 +1,4 @@
-use Rattle.std.proofs.Common.{◌≡◌, subst}
+use Rattle.std.proofs.Common.{subst}
 use Rattle.keys.specs.Hash.{IsHashOf}
 use Rattle.keyspace.specs.Processed.{Processed}
 use Rattle.explanations.specs.Writers.{IsNextWriter}

@@ -1,9 +1,9 @@
-use Rattle.std.proofs.Common.{◌≡◌, ◌<◌, ◌≤◌, List, length, slice_get, arith, ap, subst, ◌∙◌, take_all}
+use Rattle.std.proofs.Common.{◌≡◌, ◌<◌, ◌≤◌, List, length, arith, ap, subst, ◌∙◌, take_all}
 use Rattle.keys.specs.declared.range.Range.{Range}
 use Rattle.keys.proofs.callers.Lists.{some_at}
 use Rattle.keyspace.specs.declared.txn.Txn.{Txn}
 use Rattle.explanations.specs.Writers.{AddsWrites}
-use Rattle.explanations.proofs.Indexing.{adds_none, adds_next}
+use Rattle.explanations.proofs.Indexing.{adds_next}
 use Rattle.explanations.proofs.writer_index.WriterIndex.add_writes.Goals as goal
 
 pub loop-index-preserved : goal.loop-index-preserved
