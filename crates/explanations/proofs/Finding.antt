@@ -26,7 +26,7 @@ use Rattle.explanations.proofs.Earlier.{explains_none, explains_apart}
 
 pub found_first : (ws : List Written) (most : ℕ) (w : Written) (further : ℕ) → ws ≡ [] → further ≡ 0
     → IsExplained (ws ++ w ∷ []) most w further
-found_first ws most w further none zero = record {
+found_first ws most w further none no_more = record {
   others = ws;
   last = refl;
   count = let few : length ws ≡ 0 = ap (λ (xs : List Written). length xs) none in omega arith;

@@ -1,11 +1,11 @@
 -- An index of writers with one write more, with one transaction more, and once it is in order.
-use Rattle.std.proofs.Common.{◌≡◌, ℕ, suc, ◌+◌, ◌<◌, ◌≤◌, true, false, ◌⊎◌, inl, inr, ⊎_elim, List, [], ◌∷◌, ◌++◌, length, take, refl, sym, ap, subst, ◌∙◌, arith, append-nil, append_assoc}
+use Rattle.std.proofs.Common.{◌≡◌, ℕ, ◌+◌, ◌<◌, ◌≤◌, true, false, ⊎_elim, List, [], ◌∷◌, ◌++◌, length, take, refl, sym, ap, subst, ◌∙◌, arith, append-nil, append_assoc}
 use Rattle.std.specs.Prelude.{All, Contains, Some, slice_get}
 use Rattle.std.specs.List.Sorted.{IsPermutation, IsSorted}
 use Rattle.std.proofs.lemmas.Bool.{cases_order}
 use Rattle.std.proofs.lemmas.List.Elements.{All-nil, All-cons, All-append, All-weaker, Contains-append_left, Contains-append_right, Contains-push}
 use Rattle.std.proofs.lemmas.List.Sorted.{All-permutation, Contains-permutation}
-use Rattle.keys.specs.Hash.{hash_of, IsHashOf}
+use Rattle.keys.specs.Hash.{IsHashOf}
 use Rattle.keys.specs.declared.range.Range.{Range}
 use Rattle.keys.proofs.callers.Lists.{part_more}
 use Rattle.keyspace.specs.Writes.{counted}
@@ -65,11 +65,13 @@ adds_then old mid new j ranges others first second =
       own = All-append (λ (v : Writer). v.txn ≡ j) first.added second.added first.own second.own;
       singles = λ none.
           let later = second.singles none in
-          let earlier = first.singles later.0 in
-          (earlier.0, All-append (IsWrittenBy added j) ranges others
-          (All-weaker (IsWrittenBy first.added j) (IsWrittenBy added j) (λ r. written_left first.added second.added j r) ranges earlier.1)
-          (All-weaker (IsWrittenBy second.added j) (IsWrittenBy added j)
-          (λ r written. (written.0, Contains-append_right first.added second.added _ written.1)) others later.1));
+          let earlier = first.singles later.0 in (
+            earlier.0,
+            All-append (IsWrittenBy added j) ranges others
+                (All-weaker (IsWrittenBy first.added j) (IsWrittenBy added j) (λ r. written_left first.added second.added j r) ranges earlier.1)
+                (All-weaker (IsWrittenBy second.added j) (IsWrittenBy added j)
+                (λ r written. (written.0, Contains-append_right first.added second.added _ written.1)) others later.1),
+          );
     }
 
 -- in a loop: those up to an index, and the one at it
@@ -92,23 +94,23 @@ writers_more : (ws more : List Writer) (n : ℕ) (ts : List Txn) (es : List Entr
 writers_more ws more n ts es t e before at_t at_e own j u f below at_u at_f =
     ⊎_elim
     (λ (same : j ≡ n).
-        let here_t : slice_get ts n ≡ Some u = subst (λ (k : ℕ). slice_get ts k ≡ Some u) same at_u in
-        let here_e : slice_get es n ≡ Some f = subst (λ (k : ℕ). slice_get es k ≡ Some f) same at_f in
-        let is_t : t ≡ u = cc in
-        let is_e : e ≡ f = cc in
-        let all : All (IsWrittenBy more n) (counted f.verdict u.writes) =
-        subst (λ (x : Entry). All (IsWrittenBy more n) (counted x.verdict u.writes)) is_e
-        (subst (λ (x : Txn). All (IsWrittenBy more n) (counted e.verdict x.writes)) is_t own) in
-        subst (λ (k : ℕ). All (IsWrittenBy (ws ++ more) k) (counted f.verdict u.writes)) (sym same)
-        (All-weaker (IsWrittenBy more n) (IsWrittenBy (ws ++ more) n)
-        (λ range written. (written.0, Contains-append_right ws more _ written.1)) (counted f.verdict u.writes) all))
+    let here_t : slice_get ts n ≡ Some u = subst (λ (k : ℕ). slice_get ts k ≡ Some u) same at_u in
+    let here_e : slice_get es n ≡ Some f = subst (λ (k : ℕ). slice_get es k ≡ Some f) same at_f in
+    let is_t : t ≡ u = cc in
+    let is_e : e ≡ f = cc in
+    let all : All (IsWrittenBy more n) (counted f.verdict u.writes) =
+    subst (λ (x : Entry). All (IsWrittenBy more n) (counted x.verdict u.writes)) is_e
+    (subst (λ (x : Txn). All (IsWrittenBy more n) (counted e.verdict x.writes)) is_t own) in
+    subst (λ (k : ℕ). All (IsWrittenBy (ws ++ more) k) (counted f.verdict u.writes)) (sym same)
+    (All-weaker (IsWrittenBy more n) (IsWrittenBy (ws ++ more) n)
+    (λ range written. (written.0, Contains-append_right ws more _ written.1)) (counted f.verdict u.writes) all))
     (λ other.
-        ⊎_elim
-        (λ (lower : j < n).
-            All-weaker (IsWrittenBy ws j) (IsWrittenBy (ws ++ more) j) (λ range. written_left ws more j range) (counted f.verdict u.writes)
-            (before j u f lower at_u at_f))
-        (λ (higher : n < j). absurd (omega (arith, higher, below)))
-        other)
+    ⊎_elim
+    (λ (lower : j < n).
+    All-weaker (IsWrittenBy ws j) (IsWrittenBy (ws ++ more) j) (λ range. written_left ws more j range) (counted f.verdict u.writes)
+    (before j u f lower at_u at_f))
+    (λ (higher : n < j). absurd (omega (arith, higher, below)))
+    other)
     (cases_order j n)
 
 -- one transaction more

@@ -1,6 +1,6 @@
 -- The next transaction that may have written a key: what a binary search in the index of a batch finds.
-use Rattle.std.proofs.Common.{◌≡◌, ℕ, ◌<◌, ◌≤◌, ◌⊎◌, inl, inr, ⊎_elim, false, length, get_or, List, None, Some, Option, refl, sym, ap, subst, arith}
-use Rattle.std.specs.Prelude.{Contains, All, slice_get}
+use Rattle.std.proofs.Common.{◌≡◌, ℕ, ◌<◌, ◌≤◌, ◌⊎◌, ⊎_elim, false, length, get_or, List, None, Some, refl, sym, subst, arith}
+use Rattle.std.specs.Prelude.{Contains}
 use Rattle.std.specs.declared.cmp.Ordering.TheVariants.{Less, Equal, Greater}
 use Rattle.std.specs.List.Sorted.{IsPartitionPoint, IsNonDecreasingBy}
 use Rattle.std.specs.Ordering.{ordering_index}
@@ -34,7 +34,7 @@ module _ (ts : List Txn) (es : List Entry) (index : WriterIndex) (is : IsIndexOf
   apart j other none written =
       apart_by_hashes range other hash (hash_of other.begin) of (written.0, refl)
       (λ (same : hash ≡ hash_of other.begin).
-          none (subst (λ (h : ℕ). Contains writers (record { hash = h; txn = j })) (sym same) written.1))
+      none (subst (λ (h : ℕ). Contains writers (record { hash = h; txn = j })) (sym same) written.1))
 
   none_wrote : (to : ℕ) → to ≤ length ts → ((j : ℕ) → from ≤ j → j < to → Contains writers (writer j) → ⊥)
       → NoneWrote ts es range from to
@@ -60,10 +60,10 @@ module _ (ts : List Txn) (es : List Entry) (index : WriterIndex) (is : IsIndexOf
     not_before j low has =
         ⊎_elim
         (λ (before : has.0 < i).
-            let less = subst (λ (w : Writer). writer_cmp w (writer from) ≡ Less) has.2 (parted.0 has.0 (writer j) (omega arith) before) in
-            ⊎_elim (λ (below : hash < hash). absurd (omega (arith, below)))
-            (λ (same : (hash ≡ hash) × (j < from)). absurd (omega (arith, same.1, low)))
-            (precedes_if_less (writer j) (writer from) less))
+        let less = subst (λ (w : Writer). writer_cmp w (writer from) ≡ Less) has.2 (parted.0 has.0 (writer j) (omega arith) before) in
+        ⊎_elim (λ (below : hash < hash). absurd (omega (arith, below)))
+        (λ (same : (hash ≡ hash) × (j < from)). absurd (omega (arith, same.1, low)))
+        (precedes_if_less (writer j) (writer from) less))
         (λ (after : i ≤ has.0). after)
         (cases_lt has.0 i)
 
@@ -90,15 +90,18 @@ module _ (ts : List Txn) (es : List Entry) (index : WriterIndex) (is : IsIndexOf
           let low : w.txn < length ts = subst (λ (x : Writer). x.txn < length ts) (at w) (is.within i w within) in
           let rises_to : from ≤ w.txn =
           ⊎_elim (λ (above : hash < w.hash). absurd (omega (arith, above, same)))
-          (λ (later : (w.hash ≡ hash) × (from < w.txn)). omega (arith, later.1)) follows in
-          (rises_to, low, none_wrote w.txn (omega (arith, low)) (λ j after before has.
-              ⊎_elim (λ (below : w.hash < hash). absurd (omega (arith, below, same)))
-              (λ (later : (hash ≡ w.hash) × (w.txn ≤ j)). absurd (omega (arith, later.1, before))) (not_below j after has)))
+          (λ (later : (w.hash ≡ hash) × (from < w.txn)). omega (arith, later.1)) follows in (
+            rises_to,
+            low,
+            none_wrote w.txn (omega (arith, low)) (λ j after before has.
+                ⊎_elim (λ (below : w.hash < hash). absurd (omega (arith, below, same)))
+                (λ (later : (hash ≡ w.hash) × (w.txn ≤ j)). absurd (omega (arith, later.1, before))) (not_below j after has)),
+          )
 
       pub found_other : (w.hash ≡ hash → ⊥) → IsNextWriter ts es range from None
       found_other differ =
           none_wrote (length ts) (omega arith) (λ j after before has.
-              ⊎_elim (λ (below : w.hash < hash).
-                  ⊎_elim (λ (above : hash < w.hash). absurd (omega (arith, below, above)))
-                  (λ (later : (w.hash ≡ hash) × (from < w.txn)). differ later.0) follows)
-              (λ (later : (hash ≡ w.hash) × (w.txn ≤ j)). differ (sym later.0)) (not_below j after has))
+          ⊎_elim (λ (below : w.hash < hash).
+          ⊎_elim (λ (above : hash < w.hash). absurd (omega (arith, below, above)))
+          (λ (later : (w.hash ≡ hash) × (from < w.txn)). differ later.0) follows)
+          (λ (later : (hash ≡ w.hash) × (w.txn ≤ j)). differ (sym later.0)) (not_below j after has))

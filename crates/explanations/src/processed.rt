@@ -3,7 +3,7 @@
 ghost use Rattle.std.specs.Prelude.{◌≡◌, ◌≤◌, length, IfOk};
 ghost use Rattle.keys.specs.Hash.{IsHashOf};
 ghost use Rattle.keys.specs.declared.range.Range.{Range};
-ghost use Rattle.explanations.specs.Writers.{IsIndexOf, IsNextWriter};
+ghost use Rattle.explanations.specs.Writers.{IsNextWriter};
 
 use crate::writer_index::WriterIndex;
 use keyspace::{Batch, Reply};
@@ -19,26 +19,23 @@ pub struct ProcessedBatch {
     reply: Reply,
     writers: WriterIndex,
     ghost entries: { length reply.entries ≡ length batch.txns },
-    ghost index: { IsIndexOf writers batch.txns reply.entries },
 }
 
 impl Model for ProcessedBatch {
     ghost use Rattle.keyspace.specs.Processed.{Processed};
+    ghost use Rattle.explanations.specs.Writers.{IsIndexOf};
 
     ghost Value = { Processed };
 
     ghost view = { λ p. record { proxy = p.proxy; batch = p.batch; reply = p.reply } };
+
+    ghost invariant = { λ p. IsIndexOf p.writers p.batch.txns p.reply.entries };
 }
 
 impl ProcessedBatch {
     /// Puts a batch and its reply together, or returns an error if memory is refused. The reply
     /// needs one entry per transaction.
-    pub fn new(
-        alloc: Global,
-        proxy: usize,
-        batch: Batch,
-        reply: Reply,
-    ) -> Result<Self, AllocError>
+    pub fn new(alloc: Global, proxy: usize, batch: Batch, reply: Reply) -> Result<Self, AllocError>
         requires entries { length reply.entries ≡ length batch.txns }
         ensures proxy { IfOk result (λ processed. processed.proxy ≡ proxy) }
         ensures batch { IfOk result (λ processed. processed.batch ≡ batch) }

@@ -69,9 +69,9 @@ impl WriterIndex {
         ensures adds { OnOk result ((t : Txn) → slice_get txns.now txn ≡ Some t
             → AddsWrites self.old self.new txn t.writes) }
     {
-        let count = txns.txn(txn).writes.len();
+        let ranges = txns.txn(txn).writes;
         let first = txns.first_write_index(txn) as usize;
-        for index in 0..count {
+        for index in 0..ranges.len() {
             self.add_range(txns.hash(first + index), txn)?;
         }
         Ok(())
