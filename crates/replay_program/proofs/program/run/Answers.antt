@@ -154,7 +154,7 @@ pub returns-in-Ok-3 : goal.returns-in-Ok-3
 returns-in-Ok-3 g c =
     let files = c.args.files.now in
     let state = state_by g.F.Writer.Sink.given g.F.Writer.Sink.failures in
-    let recorders = c.without_recorders-2.result.recorders.items in
+    let recorders = c.without_recorders-in-Ok-3.result.recorders.items in
     let words : List (List ℕ) = map string_bytes c.args.words.now in
     let line = c.in-Ok.line in
     let names : List (List ℕ) = map (λ name. name.now) line.files.items in
@@ -179,7 +179,7 @@ returns-in-Ok-3 g c =
     explained.done explained.quiet explained.failed explained.ends explained.same in
     let ends = subst (λ (s : Status). Ends (g.F.Files.has_opened files) (g.F.Files.cannot_open files) (g.F.Files.contents files) out error
     state (g.F.Files.has_created files) (g.F.Files.cannot_create files) (g.F.Files.begun files) recorders words s)
-    (sym c.without_recorders-2.ensures.status) ends_by_status in
+    (sym c.without_recorders-in-Ok-3.ensures.status) ends_by_status in
     record {
       done = ends.done;
       quiet = ends.quiet;
