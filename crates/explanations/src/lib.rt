@@ -7,8 +7,7 @@
 //! explanation exactly if the reference resolver finds the read range in conflict.
 //!
 //! `specs/` says, in reading order, what the writes of a chain are (`Written`), which of them
-//! explain a conflict (`Explains`), how a batch finds the writers of a key (`Writers`), and what a
-//! history keeps (`History`).
+//! explain a conflict (`Explains`), and what a history keeps (`History`).
 #![tactic(auto)]
 
 mod explanation;
