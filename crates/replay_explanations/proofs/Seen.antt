@@ -15,6 +15,7 @@ use Rattle.keyspace.specs.Judged.{edge}
 use Rattle.explanations.specs.Explains.{newest_of}
 use Rattle.explanations.specs.History.{HistoryState, Keeps}
 use Rattle.explanations.proofs.callers.Chains.{Precedes, versions_below, newest_of-more}
+use Rattle.replay_explanations.specs.declared.form.ExplanationForm.{ExplanationForm}
 use Rattle.replay_explanations.specs.Lines.{explanation, explanation_at, explanation_from}
 use Rattle.replay_explanations.specs.Explainer.{ExplainerState, FollowsChain, HasExplained, Texts, text_of}
 use Rattle.replay_explanations.proofs.Same.{same_explanation}
@@ -105,41 +106,41 @@ apart p q version lower first second =
     not_below_itself version
     (subst (λ (z : ℤ). z <ℤ version) first (subst (λ (z : ℤ). q.batch.version <ℤ z) second lower))
 
-none_yet : (window : ℤ) (before ps : List Processed) (p : Processed) → All (Precedes p) ps
-    → explanation_from window before ps p.proxy p.batch.version ≡ []
-none_yet window before [] p all = refl
-none_yet window before (q ∷ ps) p all =
+none_yet : (form : ExplanationForm) (window : ℤ) (before ps : List Processed) (p : Processed) → All (Precedes p) ps
+    → explanation_from form window before ps p.proxy p.batch.version ≡ []
+none_yet form window before [] p all = refl
+none_yet form window before (q ∷ ps) p all =
     let other : is_batch q p.proxy p.batch.version ≡ false =
     false_unless (is_batch q p.proxy p.batch.version) (λ is.
     apart p q p.batch.version (All-head (Precedes p) q ps all) (has_version q p.proxy p.batch.version is) refl) in
-    ap (λ b. cond b (explanation window (before ++ q ∷ []) q)
-    (explanation_from window (before ++ q ∷ []) ps p.proxy p.batch.version)) other
-    ∙ none_yet window (before ++ q ∷ []) ps p (All-tail (Precedes p) q ps all)
+    ap (λ b. cond b (explanation form window (before ++ q ∷ []) q)
+    (explanation_from form window (before ++ q ∷ []) ps p.proxy p.batch.version)) other
+    ∙ none_yet form window (before ++ q ∷ []) ps p (All-tail (Precedes p) q ps all)
 
-explained_more : (window : ℤ) (before ps : List Processed) (p : Processed) (proxy : ℕ) (version : ℤ) → All (Precedes p) ps
-    → explanation_from window before (ps ++ p ∷ []) proxy version
-    ≡ cond (is_batch p proxy version) (explanation window ((before ++ ps) ++ p ∷ []) p) (explanation_from window before ps proxy version)
-explained_more window before [] p proxy version all =
-    ap (λ (qs : List Processed). cond (is_batch p proxy version) (explanation window (qs ++ p ∷ []) p) []) (sym (append-nil before))
-explained_more window before (q ∷ ps) p proxy version all =
-    go (is_batch q proxy version) refl (explained_more window (before ++ q ∷ []) ps p proxy version (All-tail (Precedes p) q ps all))
+explained_more : (form : ExplanationForm) (window : ℤ) (before ps : List Processed) (p : Processed) (proxy : ℕ) (version : ℤ) → All (Precedes p) ps
+    → explanation_from form window before (ps ++ p ∷ []) proxy version
+    ≡ cond (is_batch p proxy version) (explanation form window ((before ++ ps) ++ p ∷ []) p) (explanation_from form window before ps proxy version)
+explained_more form window before [] p proxy version all =
+    ap (λ (qs : List Processed). cond (is_batch p proxy version) (explanation form window (qs ++ p ∷ []) p) []) (sym (append-nil before))
+explained_more form window before (q ∷ ps) p proxy version all =
+    go (is_batch q proxy version) refl (explained_more form window (before ++ q ∷ []) ps p proxy version (All-tail (Precedes p) q ps all))
   where
     go : (b : Bool) → is_batch q proxy version ≡ b
-        → explanation_from window (before ++ q ∷ []) (ps ++ p ∷ []) proxy version
-        ≡ cond (is_batch p proxy version) (explanation window (((before ++ q ∷ []) ++ ps) ++ p ∷ []) p)
-        (explanation_from window (before ++ q ∷ []) ps proxy version)
-        → cond b (explanation window (before ++ q ∷ []) q) (explanation_from window (before ++ q ∷ []) (ps ++ p ∷ []) proxy version)
-        ≡ cond (is_batch p proxy version) (explanation window ((before ++ (q ∷ ps)) ++ p ∷ []) p)
-        (cond b (explanation window (before ++ q ∷ []) q) (explanation_from window (before ++ q ∷ []) ps proxy version))
+        → explanation_from form window (before ++ q ∷ []) (ps ++ p ∷ []) proxy version
+        ≡ cond (is_batch p proxy version) (explanation form window (((before ++ q ∷ []) ++ ps) ++ p ∷ []) p)
+        (explanation_from form window (before ++ q ∷ []) ps proxy version)
+        → cond b (explanation form window (before ++ q ∷ []) q) (explanation_from form window (before ++ q ∷ []) (ps ++ p ∷ []) proxy version)
+        ≡ cond (is_batch p proxy version) (explanation form window ((before ++ (q ∷ ps)) ++ p ∷ []) p)
+        (cond b (explanation form window (before ++ q ∷ []) q) (explanation_from form window (before ++ q ∷ []) ps proxy version))
     go true is rest =
         let other : is_batch p proxy version ≡ false =
         false_unless (is_batch p proxy version) (λ own.
         apart p q version (All-head (Precedes p) q ps all) (has_version q proxy version is) (has_version p proxy version own)) in
-        ap (λ b. cond b (explanation window ((before ++ (q ∷ ps)) ++ p ∷ []) p) (explanation window (before ++ q ∷ []) q)) (sym other)
+        ap (λ b. cond b (explanation form window ((before ++ (q ∷ ps)) ++ p ∷ []) p) (explanation form window (before ++ q ∷ []) q)) (sym other)
     go false is rest =
         rest
-        ∙ ap (λ (qs : List Processed). cond (is_batch p proxy version) (explanation window (qs ++ p ∷ []) p)
-        (explanation_from window (before ++ q ∷ []) ps proxy version)) (append_assoc before (q ∷ []) ps)
+        ∙ ap (λ (qs : List Processed). cond (is_batch p proxy version) (explanation form window (qs ++ p ∷ []) p)
+        (explanation_from form window (before ++ q ∷ []) ps proxy version)) (append_assoc before (q ∷ []) ps)
 
 -- the parts of a processed batch
 pub same_processed : (p q : Processed) → p.proxy ≡ q.proxy → p.batch ≡ q.batch → p.reply ≡ q.reply → p ≡ q
@@ -164,21 +165,22 @@ on_err (Err e) P p = p
 
 -- memory was refused
 pub has_seen_no_more : (e f : ExplainerState) (ps : List Processed) → f.has_failed ≡ true → f.texts ≡ e.texts
-    → f.history.window ≡ e.history.window → HasExplained e ps → HasExplained f ps
-has_seen_no_more e f ps failed texts window seen = record {
+    → f.history.window ≡ e.history.window → f.form ≡ e.form → HasExplained e ps → HasExplained f ps
+has_seen_no_more e f ps failed texts window form seen = record {
   follows = λ working chain. absurd (let both : true ≡ false = sym failed ∙ working in cc);
   texts = λ chain proxy version.
       ap (λ x. text_of x proxy version) texts
       ∙ seen.texts (subst (λ (w : ℤ). IsChain w ps) window chain) proxy version
-      ∙ ap (λ (w : ℤ). explanation_at w ps proxy version) (sym window);
+      ∙ ap (λ (w : ℤ). explanation_at e.form w ps proxy version) (sym window)
+      ∙ ap (λ (x : ExplanationForm). explanation_at x f.history.window ps proxy version) (sym form);
 }
 
 module _ (e f : ExplainerState) (p : Processed) (text : List ℕ)
-    (open_before : e.has_failed ≡ false) (same_window : f.history.window ≡ e.history.window)
+    (open_before : e.has_failed ≡ false) (same_window : f.history.window ≡ e.history.window) (same_form : f.form ≡ e.form)
     (keeps : (ps : List Processed) → Keeps ps e.history → Keeps (ps ++ p ∷ []) f.history)
     (edge_is : f.history.edge ≡ int_max e.history.edge (edge e.history.window p.batch))
     (newest : newest_of f.history.kept ≡ Some p.batch)
-    (text_is : text ≡ explanation f.history.window f.history.kept p)
+    (text_is : text ≡ explanation f.form f.history.window f.history.kept p)
     (put : text_of e.texts p.proxy p.batch.version ≡ [] → (proxy : ℕ) (version : ℤ)
     → text_of f.texts proxy version ≡ cond (is_batch p proxy version) text (text_of e.texts proxy version)) where
   module _ (ps : List Processed) (seen : HasExplained e ps) (chain : IsChain f.history.window (ps ++ p ∷ [])) where
@@ -207,18 +209,20 @@ module _ (e f : ExplainerState) (p : Processed) (text : List ℕ)
     }
 
     texts_more : (proxy : ℕ) (version : ℤ)
-        → text_of f.texts proxy version ≡ explanation_at f.history.window (ps ++ p ∷ []) proxy version
+        → text_of f.texts proxy version ≡ explanation_at f.form f.history.window (ps ++ p ∷ []) proxy version
     texts_more proxy version =
         let window = f.history.window in
-        let before : (q : ℕ) (v : ℤ) → text_of e.texts q v ≡ explanation_at window ps q v =
+        let form = f.form in
+        let before : (q : ℕ) (v : ℤ) → text_of e.texts q v ≡ explanation_at form window ps q v =
         λ q v. seen.texts (chain_before e.history.window ps p old_chain) q v
-        ∙ ap (λ (w : ℤ). explanation_at w ps q v) (sym same_window) in
-        put (before p.proxy p.batch.version ∙ none_yet window [] ps p all_before) proxy version
+        ∙ ap (λ (w : ℤ). explanation_at e.form w ps q v) (sym same_window)
+        ∙ ap (λ (x : ExplanationForm). explanation_at x window ps q v) (sym same_form) in
+        put (before p.proxy p.batch.version ∙ none_yet form window [] ps p all_before) proxy version
         ∙ ap (λ (xs : List ℕ). cond (is_batch p proxy version) text xs) (before proxy version)
-        ∙ ap (λ (xs : List ℕ). cond (is_batch p proxy version) xs (explanation_at window ps proxy version))
+        ∙ ap (λ (xs : List ℕ). cond (is_batch p proxy version) xs (explanation_at form window ps proxy version))
         (text_is
-        ∙ sym (same_explanation window ps p f.history chain (keeps ps followed.keeps) newest edge_within))
-        ∙ sym (explained_more window [] ps p proxy version all_before)
+        ∙ sym (same_explanation form window ps p f.history chain (keeps ps followed.keeps) newest edge_within))
+        ∙ sym (explained_more form window [] ps p proxy version all_before)
 
   -- one more batch is explained
   pub has_seen_more : (ps : List Processed) → HasExplained e ps → HasExplained f (ps ++ p ∷ [])

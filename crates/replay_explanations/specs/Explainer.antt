@@ -8,6 +8,7 @@ use Rattle.keyspace.specs.Judged.{edge}
 use Rattle.keyspace.specs.Processed.{Processed}
 use Rattle.explanations.specs.Explains.{newest_of}
 use Rattle.explanations.specs.History.{HistoryState, Keeps}
+use Rattle.replay_explanations.specs.declared.form.ExplanationForm.{ExplanationForm}
 use Rattle.replay_explanations.specs.Lines.{explanation_at}
 
 -- by proxy, and then by version
@@ -27,6 +28,7 @@ abbrev pub text_of : Texts → ℕ → ℤ → List ℕ
 text_of texts proxy version = text_or_none (map.get texts (proxy, version))
 
 pub record ExplainerState : Type 0 where
+  pub form : ExplanationForm
   pub history : HistoryState
   pub texts : Texts
   -- memory was refused, and what it saw last isn't explained
@@ -43,4 +45,4 @@ pub record HasExplained (e : ExplainerState) (ps : List Processed) : Type 0 wher
   pub follows : e.has_failed ≡ false → IsChain e.history.window ps → FollowsChain e.history ps
   pub texts :
       IsChain e.history.window ps → (proxy : ℕ) (version : ℤ)
-      → text_of e.texts proxy version ≡ explanation_at e.history.window ps proxy version
+      → text_of e.texts proxy version ≡ explanation_at e.form e.history.window ps proxy version

@@ -4,16 +4,19 @@
 //! with a rejection by proxy and version, and [`Explainer::explanation`] returns them. The [`laws`]
 //! say that each transaction rejected as a conflict has a line.
 //!
-//! `specs/` says, in reading order, which lines a batch has (`Lines`) and what an explainer holds of
-//! the batches that it saw (`Explainer`). `forms` appends numbers, keys and ranges to a text,
+//! `specs/` says, in reading order, the objects of JSON (`Json`), which lines or objects a batch has
+//! (`Lines`) and what an explainer holds of the batches that it saw (`Explainer`). `forms` appends numbers, keys and ranges to a text,
 //! `lines` the lines, and `batch_lines` the lines of a batch; `texts` keeps them.
 #![tactic(auto)]
 
 mod batch_lines;
 mod explainer;
+mod form;
 mod forms;
+mod json;
 pub mod laws;
 mod lines;
 mod texts;
 
 pub use explainer::Explainer;
+pub use form::ExplanationForm;

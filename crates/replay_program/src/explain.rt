@@ -6,7 +6,7 @@ ghost use Rattle.std.specs.Io.KnownBytes.{Keeps};
 ghost use Rattle.replay_program.specs.Explained.{FailsToExplain, IsExplained};
 ghost use Rattle.replay_program.specs.Replayed.{written};
 
-use replay_explanations::Explainer;
+use replay_explanations::{Explainer, ExplanationForm};
 use replay_output::{Ending, Options, Status, fail_to_start};
 use replay_workers::{Gatekeeper, Outcome, ShareKeeper, run_observed};
 use resolver::MAX_PROXIES;
@@ -56,7 +56,7 @@ pub fn explain_over<
     ensures same { result ≢ Status.Differs }
 {
     serial::laws::answers_tell_verdicts();
-    let mut explainer = Explainer::new(alloc, options.window);
+    let mut explainer = Explainer::new(alloc, options.window, ExplanationForm::Words);
     let run = run_observed(rt, alloc, readers, options, gatekeeper, &mut explainer);
     let (outcome, account) = match run {
         Ok(ended) => ended,
