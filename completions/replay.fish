@@ -8,7 +8,7 @@ complete --command replay --long-option json --description 'Prints each answer a
 complete --command replay --long-option quiet --description 'Prints no lines of answers'
 complete --command replay --long-option only --exclusive --arguments 'committed conflict tooold' --description 'Prints only replies that have this verdict: committed, conflict or tooold'
 complete --command replay --long-option versions --exclusive --description 'Prints only versions from A to below B; each can be omitted'
-complete --command replay --long-option explain --description 'Prints under each line why its transactions were rejected'
+complete --command replay --long-option explain --description 'Prints with each line why its transactions were rejected'
 complete --command replay --long-option summary --description 'Prints a summary instead of the answers: one line per proxy and one for all'
 complete --command replay --long-option check --require-parameter --force-files --description 'Compares with the reply frames of another resolver; once a FILE, in order'
 complete --command replay --long-option stream --description 'Prints each answer as it comes, in the order of each proxy'

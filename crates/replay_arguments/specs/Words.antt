@@ -323,21 +323,20 @@ HasSummary rows = (asked : Bool) × (one_of (codes "summary") rows ≡ Some (boo
 abbrev pub HoldsExplain : List Row → Bool → Type 0
 HoldsExplain rows explains = one_of (codes "explain") rows ≡ Some (bool_text explains)
 
--- the answers are found to be printed by lines of words, once all was resolved
+-- the answers are found to be printed by lines of words or of JSON, once all was resolved
 pub record IsPlain (rows : List Row) : Type 0 where
   pub frames : one_of (codes "frames") rows ≡ Some (bool_text false)
-  pub json : one_of (codes "json") rows ≡ Some (bool_text false)
   pub check : is_some (all_of (codes "check") rows) ≡ false
   pub stream : HoldsStream rows false
   pub summary : one_of (codes "summary") rows ≡ Some (bool_text false)
 
--- rejections are found to be explained or not, and if they are, by lines among lines of words
+-- rejections are found to be explained or not, and if they are, among lines of words or of JSON
 abbrev pub HasExplain : List Row → Type 0
 HasExplain rows = (explains : Bool) × HoldsExplain rows explains × (explains ≡ true → IsPlain rows)
 
 -- the arguments that are found are of no use: two forms, a filter that is none or beside a comparison, a number out of its range, no files
 -- or too many, other than one file of replies a file, standard input twice, answers that are to be compared as they come, other than one
--- file for records a file, a summary beside another option that says what to print, or explanations without lines of words
+-- file for records a file, a summary beside another option that says what to print, or explanations without lines of words or of JSON
 abbrev pub IsOfNoUse : List Row → Type 0
 IsOfNoUse rows = (¬ HasForm rows)
     ⊎ ((¬ HasNumbers rows) ⊎ ((¬ HasFiles rows) ⊎ ((¬ HasRepliesEach rows) ⊎ ((¬ HasInputOnce rows)

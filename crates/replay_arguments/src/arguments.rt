@@ -127,8 +127,7 @@ pub fn read_words<'a>(alloc: Global, words: &'a [String]) -> Result<CommandLine<
         return Err(refuse(alloc, ErrorKind::ArgumentConflict, message)?);
     };
     let Some(explains) = explains(&matches, form, is_streamed, summary) else {
-        let message =
-            "--explain is wanted without --check, --stream, --summary, --frames and --json";
+        let message = "--explain is wanted without --check, --stream, --summary and --frames";
         return Err(refuse(alloc, ErrorKind::ArgumentConflict, message)?);
     };
     Ok(CommandLine {

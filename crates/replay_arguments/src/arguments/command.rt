@@ -145,7 +145,7 @@ fn explain<'a>(alloc: Global) -> Arg<'a>
     Arg::new(alloc, "explain")
         .long("explain")
         .action(ArgAction::SetTrue)
-        .help("Prints under each line why its transactions were rejected")
+        .help("Prints with each line why its transactions were rejected")
 }
 
 fn summary<'a>(alloc: Global) -> Arg<'a>
