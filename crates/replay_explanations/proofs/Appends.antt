@@ -1,6 +1,6 @@
 -- Texts to which one piece after the other is appended.
-use Rattle.std.proofs.Common.{◌≡◌, ℕ, List, ◌++◌, sym, ap, ◌∙◌, append_assoc}
-use Rattle.std.specs.Prelude.{ℤ}
+use Rattle.std.proofs.Common.{◌≡◌, ℕ, cond, List, ◌++◌, sym, ap, ◌∙◌, append_assoc}
+use Rattle.std.specs.Prelude.{ℤ, OnOk, Result, Ok, Err, is_ok}
 use Rattle.keyspace.specs.declared.txn.Txn.{Txn}
 use Rattle.keyspace.specs.declared.batch.Batch.{Batch}
 use Rattle.keyspace.specs.declared.reply.Verdict.{Verdict}
@@ -29,6 +29,11 @@ six_after o a b c d e f = simp append_assoc
 -- a piece that is another one
 pub as_piece : (now next xs ys : List ℕ) → next ≡ now ++ xs → xs ≡ ys → next ≡ now ++ ys
 as_piece now next xs ys put same = put ∙ ap (λ (zs : List ℕ). now ++ zs) same
+
+-- a piece that was appended, if it could be
+pub if_appended : {A E : Type 0} (r : Result A E) (next more same : List ℕ) → next ≡ cond (is_ok r) more same → OnOk r (next ≡ more)
+if_appended (Ok x) next more same is = is
+if_appended (Err e) next more same is = tt
 
 -- the text of a transaction that is too old
 pub too_old : (form : ExplanationForm) (window : ℤ) (kept : List Processed) (b : Batch) (j : ℕ) (t : Txn) (verdict : Verdict)

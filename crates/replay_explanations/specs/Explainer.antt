@@ -34,6 +34,15 @@ pub record ExplainerState : Type 0 where
   -- memory was refused, and what it saw last isn't explained
   pub has_failed : Bool
 
+-- what stays the same of an explainer
+pub record Setting : Type 0 where
+  pub form : ExplanationForm
+  -- how far back a transaction may read, in versions
+  pub window : ℤ
+
+abbrev pub setting_of : ExplainerState → Setting
+setting_of e = record { form = e.form; window = e.history.window }
+
 -- the history is that of these batches, and at no later edge than the last of them
 pub record FollowsChain (h : HistoryState) (ps : List Processed) : Type 0 where
   pub keeps : Keeps ps h

@@ -1,7 +1,7 @@
 //! The observer that explains rejections.
 
 ghost use Rattle.std.specs.Prelude.{◌≡◌, ◌≤ℤ◌, [], pos};
-ghost use Rattle.replay_explanations.specs.Explainer.{HasExplained, text_of};
+ghost use Rattle.replay_explanations.specs.Explainer.{HasExplained, Setting, setting_of, text_of};
 
 use crate::batch_lines::lines_of;
 use crate::form::ExplanationForm;
@@ -68,6 +68,13 @@ impl Explainer {
         self.history.window()
     }
 
+    /// Returns the form of the explanations, as [`new`](Self::new) was given it.
+    pub fn form(&self) -> ExplanationForm
+        ensures form { result ≡ self.now.form }
+    {
+        self.form
+    }
+
     /// Returns the lines of the batch that this proxy sent with this version, each with its line
     /// feed, or the member of a JSON object. It is empty if no transaction was rejected, or if no
     /// such batch was seen.
@@ -81,7 +88,9 @@ impl Explainer {
 impl Observer for Explainer {
     ghost has_seen = { HasExplained };
 
-    ghost setting = { λ e. e.history.window };
+    ghost Setting = { Setting };
+
+    ghost setting = { setting_of };
 
     fn see(&mut self, proxy: usize, batch: Batch, reply: &Reply) -> Result<(), AllocError> {
         if self.has_failed {

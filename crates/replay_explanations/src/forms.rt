@@ -1,10 +1,8 @@
 //! Numbers, keys and ranges, appended to a text.
 
-ghost use Rattle.std.specs.Prelude.{◌≡◌, ◌++◌, OnOk, decimal};
+ghost use Rattle.std.specs.Prelude.{◌≡◌, ◌++◌, OnOk, decimal, flat_map};
 ghost use Rattle.std.specs.Fmt.{signed_decimal};
-ghost use Rattle.std.specs.List.{flat_map};
-ghost use Rattle.json_lines.specs.KeyForm.{byte_form};
-ghost use Rattle.replay_explanations.specs.Json.{escaped, key_json, range_json};
+ghost use Rattle.replay_explanations.specs.Json.{byte_json, key_json, range_json};
 ghost use Rattle.replay_explanations.specs.Lines.{quoted, range_form};
 
 use itoa::Buffer;
@@ -62,22 +60,34 @@ fn put_key_json(out: &mut Vec<u8>, key: &[u8]) -> Result<(), AllocError>
     ensures text { OnOk result (out.new.items ≡ out.old.items ++ key_json key.now) }
 {
     out.push(b'"')?;
-    for byte in key {
-        put_byte_json(out, *byte)?;
-    }
+    put_bytes_json(out, key)?;
     Ok(out.push(b'"')?)
 }
 
-// Appends the printed form of a byte. JSON wants a backslash before each quote and backslash of it.
-fn put_byte_json(out: &mut Vec<u8>, byte: u8) -> Result<(), AllocError>
+fn put_bytes_json(out: &mut Vec<u8>, key: &[u8]) -> Result<(), AllocError>
     ensures text { OnOk result (out.new.items
-        ≡ out.old.items ++ flat_map escaped (byte_form byte)) }
+        ≡ out.old.items ++ flat_map byte_json key.now) }
+{
+    for byte in key {
+        put_byte_json(out, *byte)?;
+    }
+    Ok(())
+}
+
+// Appends the printed form of a byte. JSON wants a backslash before each quote and backslash of it.
+#[tactic(auto, unfolding(json_lines::specs::KeyForm::byte_form))]
+fn put_byte_json(out: &mut Vec<u8>, byte: u8) -> Result<(), AllocError>
+    ensures text { OnOk result (out.new.items ≡ out.old.items ++ byte_json byte) }
 {
     if byte == b'\\' {
         return out.extend_from_slice(b"\\\\\\\\");
     }
-    if byte == b'"' || byte < 32 || 127 <= byte {
-        out.push(b'\\')?;
+    if byte == b'"' {
+        return out.extend_from_slice(b"\\\"");
     }
+    if 32 <= byte && byte < 127 {
+        return Ok(out.push(byte)?);
+    }
+    out.push(b'\\')?;
     put_key_form(out, &[byte])
 }

@@ -3,7 +3,7 @@
 ghost use Rattle.std.specs.Prelude.{◌≡◌, ◌++◌, [], IfOk, OnOk, Some, codes, decimal};
 ghost use Rattle.std.specs.Fmt.{signed_decimal};
 ghost use Rattle.replay_explanations.specs.Json.{conflict_json, member_json, too_old_json};
-ghost use Rattle.replay_explanations.specs.Json.{same_batch_json, write_json};
+ghost use Rattle.replay_explanations.specs.Json.{origin_json, source_json, write_json};
 
 use crate::forms::{put_number, put_range_json, put_version};
 use explanations::{Explanation, WrittenRef};
@@ -32,7 +32,7 @@ pub(crate) fn put_conflict_json(
     put_write(out, &explanation.newest)?;
     out.extend_from_slice(b",\"further\":")?;
     put_number(out, explanation.further)?;
-    put_origin(out, explanation.newest.version == version)
+    put_origin(out, version, &explanation.newest)
 }
 
 // Appends the object of a transaction that is too old. Versions below `oldest` can't be read.
@@ -82,20 +82,27 @@ fn put_write(out: &mut Vec<u8>, write: &WrittenRef<'_>) -> Result<(), AllocError
 {
     out.extend_from_slice(b",\"write\":{\"range\":")?;
     put_range_json(out, &write.range)?;
+    put_source(out, write)?;
+    Ok(out.push(b'}')?)
+}
+
+// Appends which transaction wrote it.
+fn put_source(out: &mut Vec<u8>, write: &WrittenRef<'_>) -> Result<(), AllocError>
+    ensures text { OnOk result (out.new.items ≡ out.old.items ++ source_json write.now) }
+{
     out.extend_from_slice(b",\"proxy\":")?;
     put_number(out, write.proxy)?;
     out.extend_from_slice(b",\"version\":")?;
     put_version(out, write.version)?;
     out.extend_from_slice(b",\"txn\":")?;
-    put_number(out, write.txn)?;
-    Ok(out.push(b'}')?)
+    put_number(out, write.txn)
 }
 
 // Appends whether the write is one of the same batch, and the end of the object.
-fn put_origin(out: &mut Vec<u8>, is_same_batch: bool) -> Result<(), AllocError>
-    ensures text { OnOk result (out.new.items ≡ out.old.items ++ same_batch_json is_same_batch) }
+fn put_origin(out: &mut Vec<u8>, version: i64, write: &WrittenRef<'_>) -> Result<(), AllocError>
+    ensures text { OnOk result (out.new.items ≡ out.old.items ++ origin_json version write.now) }
 {
-    if is_same_batch {
+    if write.version == version {
         out.extend_from_slice(b",\"same_batch\":true}")
     } else {
         out.extend_from_slice(b",\"same_batch\":false}")

@@ -11,6 +11,22 @@ use Rattle.replay_explanations.specs.Explainer.{ExplainerState}
 use Rattle.replay_explanations.proofs.Seen.{has_seen_no_more, has_seen_more, on_err, put_same, same_processed}
 use Rattle.replay_explanations.proofs.explainer.ExplainerObserver.see.Goals as goal
 
+pub returns-in_err-copy-clause-unseen : goal.returns-in_err-copy-clause-unseen
+returns-in_err-copy-clause-unseen c =
+    let is = c.self.view_is in
+    let after : ExplainerState = record { form = c.self.inside.form; history = c.self.inside.history; texts = c.self.inside.texts; has_failed = true } in
+    on_err c.from_residual.result _ (λ ps seen.
+    has_seen_no_more c.args.self.now after ps refl (ap (λ (e : ExplainerState). e.texts) is)
+    (ap (λ (e : ExplainerState). e.history.window) is) (ap (λ (e : ExplainerState). e.form) is) seen)
+
+pub returns-in_err-processed-clause-unseen : goal.returns-in_err-processed-clause-unseen
+returns-in_err-processed-clause-unseen c =
+    let is = c.self.view_is in
+    let after : ExplainerState = record { form = c.self.inside.form; history = c.self.inside.history; texts = c.self.inside.texts; has_failed = true } in
+    on_err c.from_residual-in_err-processed.result _ (λ ps seen.
+    has_seen_no_more c.args.self.now after ps refl (ap (λ (e : ExplainerState). e.texts) is)
+    (ap (λ (e : ExplainerState). e.history.window) is) (ap (λ (e : ExplainerState). e.form) is) seen)
+
 pub returns-in_err-push-clause-unseen : goal.returns-in_err-push-clause-unseen
 returns-in_err-push-clause-unseen c =
     let is = c.self.view_is in
