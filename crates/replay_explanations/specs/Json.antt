@@ -1,4 +1,4 @@
--- Explanations as a member of a JSON object. This project's own. A range is a pair of keys, as in batches of JSON lines.
+-- Explanations as a member of a JSON object. This project's own. A range is the pair of its begin and end keys.
 use Rattle.std.specs.Prelude.{ℕ, ◌==◌, ◌||◌, ℤ, if◌then◌else◌, List, [], ◌∷◌, ◌++◌, codes, flat_map, Option, None, Some}
 use Rattle.std.specs.Fmt.{decimal, signed_decimal}
 use Rattle.std.specs.Ordering.{int_eq}
