@@ -299,6 +299,27 @@ REJECTED = (
     '  txn 3 read 0 ["k","k\\x00") conflicts with write ["k","k\\x00") of proxy 0, version 200, txn 2 (same batch)\n'
     '  txn 4 read 0 ["a","z") conflicts with write ["k","k\\x00") of proxy 0, version 200, txn 2 (same batch), and 2 more\n'
 )
+SECOND_MEMBER = (
+    '"explanations":[{"txn":0,"read":0,"range":["a","b"],'
+    '"write":{"range":["a","b"],"proxy":0,"version":100,"txn":0},"further":0,"same_batch":false}]'
+)
+FIRST_JSON = '{"proxy":0,"version":0,"verdicts":[]}\n{"proxy":0,"version":100,"verdicts":["committed"]}\n'
+SECOND_JSON = '{"proxy":1,"version":200,"verdicts":["conflict"],' + SECOND_MEMBER + "}\n"
+TOO_OLD_JSON = (
+    '{"proxy":0,"version":101,"verdicts":["tooold","committed"],'
+    '"explanations":[{"txn":0,"too_old":{"snapshot":99,"oldest":100}}]}\n'
+)
+REJECTED_JSON = (
+    '{"proxy":0,"version":200,"verdicts":[{"conflict":[1]},"conflict","committed","conflict","conflict"],"explanations":['
+    '{"txn":0,"read":1,"range":["k","k\\\\x00"],'
+    '"write":{"range":["j","l"],"proxy":0,"version":100,"txn":1},"further":1,"same_batch":false},'
+    '{"txn":1,"read":0,"range":["\\\\x01\\"","\\\\x01\\"\\\\x00"],'
+    '"write":{"range":["\\\\x01\\"","\\\\x01\\"\\\\x00"],"proxy":0,"version":100,"txn":2},"further":0,"same_batch":false},'
+    '{"txn":3,"read":0,"range":["k","k\\\\x00"],'
+    '"write":{"range":["k","k\\\\x00"],"proxy":0,"version":200,"txn":2},"further":0,"same_batch":true},'
+    '{"txn":4,"read":0,"range":["a","z"],'
+    '"write":{"range":["k","k\\\\x00"],"proxy":0,"version":200,"txn":2},"further":2,"same_batch":true}]}\n'
+)
 THREE = "0 100 committed committed committed\n"
 EXPLAINS = (
     ShellRow(("--explain", "first"), FIRST),
@@ -311,6 +332,15 @@ EXPLAINS = (
     ShellRow(("--explain", "overtaken"), "0 0 empty\n0 100 empty\n0 200 committed\n0 300 never\n"),
     ShellRow(("--explain", "second", "third"), "0 200 held\n1 300 held\n"),
     ShellRow(("--explain", "empty"), ""),
+    # In a line of JSON they are a member.
+    ShellRow(("--explain", "--json", "first"), FIRST_JSON),
+    ShellRow(("--json", "first", "second", "--explain"), FIRST_JSON + SECOND_JSON),
+    ShellRow(("--explain", "--json", "--window", "1", "--versions", "101..", "conflict"), TOO_OLD_JSON),
+    ShellRow(("--explain", "--json", "--versions", "200..", "rejected"), 2 * REJECTED_JSON),
+    ShellRow(("--explain", "--json", "third"), '{"proxy":0,"version":300,"answer":"held"}\n'),
+    ShellRow(("--explain", "--json", "--only", "committed", "second", "first"), '{"proxy":1,"version":100,"verdicts":["committed"]}\n'),
+    ShellRow(("--explain", "--json", "--quiet", "first", "second"), ""),
+    ShellRow(("--explain", "--json", "cut"), '{"proxy":0,"version":0,"verdicts":[]}\n', SHORT, 1),
     # What isn't shown isn't explained.
     ShellRow(("--explain", "--only", "committed", "first", "second"), "0 100 committed\n"),
     ShellRow(("--explain", "--only", "conflict", "first", "second"), "1 200 conflict\n" + SECOND_EXPLAINED),
@@ -417,7 +447,10 @@ REFUSED: tuple[tuple[str | bytes, ...], ...] = (
     ("--explain", "--stream", "--replies", "out", "first"),
     ("--explain", "--replies", "out", "first"),
     ("--explain", "--frames", "first"),
-    ("--explain", "--json", "first"),
+    ("--explain", "--json", "--check", "same", "first"),
+    ("--explain", "--json", "--stream", "first"),
+    ("--explain", "--json", "--frames", "first"),
+    ("--explain", "--json", "--summary", "first"),
     ("--explain", "--summary", "first"),
     ("--summary",),
     ("--summary", "--summary", "first"),
