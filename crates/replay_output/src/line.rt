@@ -76,7 +76,7 @@ impl Line {
     /// Puts a member at the end of a line of JSON, if the line is shown. `member` is ASCII without a
     /// comma at its ends. After an error the text is unspecified. An empty member takes no memory.
     ///
-    /// A line that isn't an object is an error, as is one of which a word is the end.
+    /// It is an error if the text doesn't end in `}` and a line feed, letter by letter. JSON does.
     pub fn add_member(&mut self, member: &[u8]) -> io::Result<()>
         ensures text { OnOk result (self.new.text ≡ with_member self.old.text member.now) }
         ensures answer { self.new.answer ≡ self.old.answer }
