@@ -103,6 +103,25 @@ fn notes_under_lines() {
     }
 }
 
+/// A further member comes last in the object of a line of JSON. One of a line that isn't shown is not printed.
+#[test]
+fn further_members() {
+    let json = Style::all(Form::Json);
+    let hidden = Style { filter: Filter { quiet: true, ..Filter::all() }, ..json };
+    for (style, answer, member, text) in [
+        (json, "100 conflict committed", r#""more":[1]"#, r#"{"proxy":7,"version":100,"verdicts":["conflict","committed"],"more":[1]}"#),
+        (json, "100 tooold conflict:0", r#""more":{}"#, r#"{"proxy":7,"version":100,"verdicts":["tooold",{"conflict":[0]}],"more":{}}"#),
+        (json, "0 empty", r#""more":[1]"#, r#"{"proxy":7,"version":0,"verdicts":[],"more":[1]}"#),
+        (json, "300 never", r#""more":[1]"#, r#"{"proxy":7,"version":300,"answer":"never","more":[1]}"#),
+        (json, "300 committed", "", r#"{"proxy":7,"version":300,"verdicts":["committed"]}"#),
+        (hidden, "300 committed", r#""more":[1]"#, ""),
+    ] {
+        let end = if text.is_empty() { "" } else { "\n" };
+        let added = |line: &mut Line| line.add_member(member.as_bytes()).expect("memory is ample");
+        assert_eq!(changed(style, answer, added), format!("{text}{end}"));
+    }
+}
+
 /// Arguments, an answer that they show, and one that they don't.
 #[test]
 fn filtered_lines() {

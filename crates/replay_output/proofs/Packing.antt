@@ -1,11 +1,11 @@
 -- Letters are spelled as they are, words so many times, and the text of units is that of one run after another.
-use Rattle.std.specs.Prelude.{◌≡◌, ℕ, zero, suc, ◌+◌, ◌-◌, ◌%◌, ◌/◌, ◌<◌, ◌≤◌, ◌⊎◌, List, [], ◌∷◌, ◌++◌, length, take, drop, slice_index_or as get_or, slice_set as set, slice_range, Option}
+use Rattle.std.specs.Prelude.{◌≡◌, ◌≢◌, ℕ, zero, suc, ◌+◌, ◌-◌, ◌%◌, ◌/◌, ◌<◌, ◌≤◌, ◌⊎◌, List, [], ◌∷◌, ◌++◌, codes, length, take, drop, slice_index_or as get_or, slice_set as set, slice_range, Option}
 use Rattle.std.specs.List.{repeat}
 use Rattle.std.specs.Str.{IsAscii}
 use Rattle.std.specs.Io.KnownBytes.{Appends}
 use Rattle.std.proofs.Math.Seq.{take-length}
 use Rattle.std.proofs.lemmas.Bool.{cases_lt}
-use Rattle.std.proofs.lemmas.List.{length-append, take-take, take-append-drop}
+use Rattle.std.proofs.lemmas.List.{length-append, length-take-le, same_from_push, take_more, take-take, take-append-drop}
 use Rattle.std.proofs.lemmas.List.Concat.{flat_map-append}
 use Rattle.std.proofs.lemmas.List.Folds.{drop_split}
 use Rattle.std.proofs.lemmas.Slice.{between_is}
@@ -13,6 +13,7 @@ use Rattle.std.proofs.Common.{refl, sym, ap, ◌∙◌, subst, inl, inr, append-
 use Rattle.replay_output.specs.declared.line.packed.word.TheConstants.{FIRST_WORD, WORDS}
 use Rattle.replay_output.specs.declared.line.packed.word.Word.{Word}
 use Rattle.replay_output.specs.declared.line.packed.word.Word.TheVariants.{Committed, TooOld, Conflict, CommittedJson, TooOldJson, ConflictJson, PlacesJson}
+use Rattle.replay_output.specs.Notes.{object_end}
 use Rattle.replay_output.specs.Packed.{numbered, spelled, spelled_all, times_of, word_of, word_text}
 use Rattle.replay_output.proofs.Known.{Begins, begins_then, begins_within}
 
@@ -135,3 +136,74 @@ no_units (unit ∷ units) none =
 pub no_length : (units : List ℕ) → length units ≡ 0 → units ≡ []
 no_length [] none = refl
 no_length (unit ∷ units) none = absurd (omega (arith, none))
+
+-- the text of a word doesn't end as an object does
+word_ends : (word : Word) → (front : List ℕ) × ((last : ℕ) × ((word_text word ≡ front ++ last ∷ []) × ((last ≢ 10) × (last ≢ 125))))
+word_ends Committed = (codes " committe", 100, refl, λ is. absurd (omega (arith, is)), λ is. absurd (omega (arith, is)))
+word_ends TooOld = (codes " toool", 100, refl, λ is. absurd (omega (arith, is)), λ is. absurd (omega (arith, is)))
+word_ends Conflict = (codes " conflic", 116, refl, λ is. absurd (omega (arith, is)), λ is. absurd (omega (arith, is)))
+word_ends CommittedJson = (codes ",\"committed", 34, refl, λ is. absurd (omega (arith, is)), λ is. absurd (omega (arith, is)))
+word_ends TooOldJson = (codes ",\"tooold", 34, refl, λ is. absurd (omega (arith, is)), λ is. absurd (omega (arith, is)))
+word_ends ConflictJson = (codes ",\"conflict", 34, refl, λ is. absurd (omega (arith, is)), λ is. absurd (omega (arith, is)))
+word_ends PlacesJson = (codes ",{\"conflict\":", 91, refl, λ is. absurd (omega (arith, is)), λ is. absurd (omega (arith, is)))
+
+one_more_unit : (units : List ℕ) (unit : ℕ) → spelled_all (units ++ unit ∷ []) ≡ spelled_all units ++ spelled unit
+one_more_unit units unit =
+    flat_map-append spelled units (unit ∷ [])
+    ∙ ap (λ (back : List ℕ). spelled_all units ++ back) (append-nil (spelled unit))
+
+-- a text that ends as an object does has that letter as its last unit
+last_unit : (units front : List ℕ) (unit letter : ℕ) → (letter ≡ 10) ⊎ (letter ≡ 125)
+    → spelled_all (units ++ unit ∷ []) ≡ front ++ letter ∷ [] → spelled_all units ≡ front
+last_unit units front unit letter ends is = elim (cases_lt unit FIRST_WORD) [
+  | inl small ↦
+      (same_from_push (spelled_all units) front unit letter
+      (sym (one_more_unit units unit ∙ ap (λ (back : List ℕ). spelled_all units ++ back) (spelled_letter unit small)) ∙ is)).0
+  | inr word ↦
+      let text = word_text (word_of unit) in
+      let others = (unit - FIRST_WORD) / WORDS in
+      let more : times_of unit ≡ suc others = omega arith in
+      let end = word_ends (word_of unit) in
+      let before = spelled_all units ++ (repeat others text ++ end.0) in
+      let spelled_so : spelled unit ≡ (repeat others text ++ end.0) ++ end.1.0 ∷ [] =
+      spelled_word unit word ∙ ap (λ (n : ℕ). repeat n text) more ∙ sym (repeat_suc others text)
+      ∙ ap (λ (back : List ℕ). repeat others text ++ back) end.1.1.0
+      ∙ sym (append_assoc (repeat others text) end.0 (end.1.0 ∷ [])) in
+      let last : end.1.0 ≡ letter =
+      (same_from_push before front end.1.0 letter
+      (append_assoc (spelled_all units) (repeat others text ++ end.0) (end.1.0 ∷ [])
+      ∙ sym (one_more_unit units unit ∙ ap (λ (back : List ℕ). spelled_all units ++ back) spelled_so) ∙ is)).1 in
+      elim ends [
+        | inl newline ↦ absurd (end.1.1.1.0 (last ∙ newline))
+        | inr brace ↦ absurd (end.1.1.1.1 (last ∙ brace))
+      ]
+]
+
+-- the text before that letter is that of the units before the last
+cut_last : (units front : List ℕ) (letter : ℕ) → (letter ≡ 10) ⊎ (letter ≡ 125) → spelled_all units ≡ front ++ letter ∷ []
+    → spelled_all (take (length units - 1) units) ≡ front
+cut_last [] front letter ends is = absurd (omega (arith, ap length is, length-append front (letter ∷ [])))
+cut_last (unit ∷ units) front letter ends is =
+    let n = length units in
+    let all = unit ∷ units in
+    let here : n < length all = omega arith in
+    let less : length all - 1 ≡ n = omega arith in
+    let more : n + 1 ≡ length all = omega arith in
+    let split : all ≡ take n all ++ get_or all n unit ∷ [] =
+    sym (ap (λ (m : ℕ). take m all) more ∙ take-length all) ∙ take_more all n unit here in
+    ap (λ (m : ℕ). spelled_all (take m all)) less
+    ∙ last_unit (take n all) front (get_or all n unit) letter ends (sym (ap spelled_all split) ∙ is)
+
+-- the text of all units but the last two, if it ends as an object that is a line does
+pub object_removed : (units members : List ℕ) → spelled_all units ≡ members ++ object_end
+    → spelled_all (take (length units - 2) units) ≡ members
+object_removed units members is =
+    let shorter = take (length units - 1) units in
+    let one : spelled_all shorter ≡ members ++ 125 ∷ [] =
+    cut_last units (members ++ 125 ∷ []) 10 (inl refl) (is ∙ sym (append_assoc members (125 ∷ []) (10 ∷ []))) in
+    let count : length shorter ≡ length units - 1 = length-take-le (length units - 1) units (omega arith) in
+    let less : length shorter - 1 ≡ length units - 2 = omega (arith, count) in
+    let twice : take (length units - 2) shorter ≡ take (length units - 2) units =
+    take-take (length units - 2) (length units - 1) units (omega arith) in
+    sym (ap spelled_all (ap (λ (m : ℕ). take m shorter) less ∙ twice))
+    ∙ cut_last shorter members 125 (inr refl) one

@@ -5,7 +5,7 @@ ghost use Rattle.replay_output.specs.Lines.{conflict_word, entry_word, formed_li
 ghost use Rattle.replay_output.specs.Lines.{line, outcome, plain_line, words};
 ghost use Rattle.replay_output.specs.Line.{IsLineOf, answer_of, counted_of_line, kept_of};
 ghost use Rattle.replay_output.specs.Line.{version_of_line};
-ghost use Rattle.replay_output.specs.Notes.{with_note};
+ghost use Rattle.replay_output.specs.Notes.{IsObjectLine, with_member, with_note};
 
 use crate::options::{Form, Style};
 use crate::version::version_of;
@@ -71,6 +71,27 @@ impl Line {
         }
         self.text.reserve(note.len())?;
         self.text.write_all(note)
+    }
+
+    /// Adds a member to the object of a line of JSON, if the line is shown: its name and its value, in
+    /// ASCII. After an error the text is unspecified. An empty member changes nothing, and takes no
+    /// memory.
+    pub fn add_member(&mut self, member: &[u8]) -> io::Result<()>
+        ensures text { OnOk result (IsObjectLine self.old.text
+            → self.new.text ≡ with_member self.old.text member.now) }
+        ensures answer { self.new.answer ≡ self.old.answer }
+        ensures counted { self.new.counted ≡ self.old.counted }
+        ensures reply { self.new.reply ≡ self.old.reply }
+        ensures empty { member.now ≡ [] → IsOk result }
+    {
+        if member.is_empty() || self.text.is_empty() {
+            return Ok(());
+        }
+        self.text.remove_object_end();
+        self.text.reserve(member.len().saturating_add(3))?;
+        self.text.write_all(b",")?;
+        self.text.write_all(member)?;
+        self.text.write_all(b"}\n")
     }
 }
 

@@ -1,7 +1,8 @@
 //! Text in which a word that recurs takes one byte, and so does a run of one word.
 
 ghost use Rattle.std.specs.Prelude.{◌≡◌, ◌↔◌, ◌<◌, ◌++◌, ℕ, [], take, OnOk, OnErr, IfSome, Some};
-ghost use Rattle.std.specs.Prelude.{IsTrue};
+ghost use Rattle.std.specs.Prelude.{List, IsTrue};
+ghost use Rattle.replay_output.specs.Notes.{object_end};
 ghost use Rattle.std.specs.Io.{WritesAtMost};
 ghost use Rattle.std.specs.Io.KnownBytes.{Appends, Keeps, WriteAppends};
 ghost use Rattle.replay_output.specs.Packed.{word_text};
@@ -75,6 +76,15 @@ impl PackedText {
             }
         }
         Ok(self.units.push(word.unit())?)
+    }
+
+    /// Removes the end of an object that is a line: a brace and a newline. A text without that end is
+    /// unspecified from then on.
+    pub fn remove_object_end(&mut self)
+        ensures text { (members : List ℕ) → self.old ≡ members ++ object_end
+            → self.new ≡ members }
+    {
+        self.units.truncate(self.units.len().saturating_sub(2));
     }
 
     /// Prints the text. After a failure a prefix of it is printed. Takes no memory.
