@@ -10,6 +10,7 @@ mod filter;
 mod flow;
 mod frames;
 mod gatekeeping;
+mod hot_ranges;
 mod keys;
 mod lane;
 mod limits;

@@ -1,0 +1,6 @@
+pub mod Keys
+pub mod Noting
+pub mod Ranking
+pub mod Counting
+pub mod Same
+pub mod Seen

@@ -1,0 +1,7 @@
+-- In the order in which one reads them aloud.
+pub mod Conflicts
+pub mod Counts
+pub mod Top
+pub mod Text
+pub mod Tally
+pub mod HotRanges
