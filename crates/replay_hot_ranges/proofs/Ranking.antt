@@ -46,7 +46,7 @@ precedes_weak = IsStrictWeakOrder-flip _ (ranks_by nat_cmp_total (λ (x : HotRan
 below_weak : IsStrictWeakOrder is_below
 below_weak = ranks_by ends_total ends_of
 
-rows_total : IsTotalOrder row_cmp
+pub rows_total : IsTotalOrder row_cmp
 rows_total =
     then_total (on_total (λ (r : Row). r.1) (back_total nat_cmp_total)) (on_total (λ (r : Row). r.0) ends_total)
 
@@ -148,16 +148,17 @@ module _ (tally : Tally) (ordered : tree.IsOrdered ends_cmp tally.counts) (all s
   -- so are all of them, and the first ones
   in_order : (part : List HotRange) → length part ≤ length sorted
       → ((k : ℕ) (d : HotRange) → k < length part → get_or part k d ≡ get_or sorted k d) → IsStrictlySortedBy row_cmp (map row_of part)
-  in_order [] short same = tt
-  in_order (h ∷ part) short same =
-      sorted_from_all_adjacent rows_total (map row_of (h ∷ part)) (row_of h)
+  in_order part short same =
+      sorted_from_all_adjacent rows_total (map row_of part) (([], []), 0)
       (λ k inside.
-      let len : length (map row_of (h ∷ part)) ≡ length (h ∷ part) = length-map (h ∷ part) row_of in
-      ap (λ r. row_cmp r (get_or (map row_of (h ∷ part)) (k + 1) (row_of h)))
-      (get_or-map row_of (h ∷ part) k h (row_of h) (omega (arith, inside, len)) ∙ ap row_of (same k h (omega (arith, inside, len))))
-      ∙ ap (row_cmp (row_of (get_or sorted k h)))
-      (get_or-map row_of (h ∷ part) (k + 1) h (row_of h) (omega (arith, inside, len)) ∙ ap row_of (same (k + 1) h (omega (arith, inside, len))))
-      ∙ next k h (omega (arith, inside, len, short)))
+      let len : length (map row_of part) ≡ length part = length-map part row_of in
+      let within : k + 1 < length part = omega (arith, inside, len) in
+      let d = (some_at part (k + 1) within).0 in
+      let none : Row = (([], []), 0) in
+      ap (λ r. row_cmp r (get_or (map row_of part) (k + 1) none))
+      (get_or-map row_of part k d none (omega (arith, within)) ∙ ap row_of (same k d (omega (arith, within))))
+      ∙ ap (row_cmp (row_of (get_or sorted k d))) (get_or-map row_of part (k + 1) d none within ∙ ap row_of (same (k + 1) d within))
+      ∙ next k d (omega (arith, within, short)))
 
   all_order : IsStrictlySortedBy row_cmp (map row_of sorted)
   all_order = in_order sorted (omega arith) (λ k d inside. refl)
@@ -201,15 +202,13 @@ module _ (tally : Tally) (ordered : tree.IsOrdered ends_cmp tally.counts) (all s
       (subst (λ rs. Contains rs row) (sym rows) contained)
 
   module _ (most : ℕ) where
-    first : List HotRange
+    abbrev first : List HotRange
     first = take most sorted
 
     first_len : length first ≡ min most (length sorted)
-    unfolding first
     first_len = length-take most sorted
 
     first_at : (k : ℕ) (d : HotRange) → k < length first → get_or first k d ≡ get_or sorted k d
-    unfolding first
     first_at k d inside = let len = first_len in get_or-take most sorted k d (omega arith)
 
     -- a row of the sorted list is listed, or all listed ones come before it
@@ -268,23 +267,25 @@ module _ (tally : Tally) (ordered : tree.IsOrdered ends_cmp tally.counts) (all s
         ]
 
     pub top_from_sorted : IsTop (conflicts_at tally) most (take most sorted)
-    unfolding first
     top_from_sorted = record {
       few = let len = first_len in omega arith;
       counts =
           All-take (λ (h : HotRange). (h.conflicts ≡ conflicts_at tally (ends_of h)) × (0 < h.conflicts)) most sorted
           (All-permutation (λ (h : HotRange). (h.conflicts ≡ conflicts_at tally (ends_of h)) × (0 < h.conflicts)) all sorted moved counts);
-      order = in_order (take most sorted) (let len = length-take most sorted in omega arith) first_at;
+      order = in_order first (let len = first_len in omega arith) first_at;
       others = others;
     }
 
 -- from the clauses of `sort_by`, where each call compares the counts, the second one first
-pub sorts_by_count : {F : Type 0} {g : Mut F (Bor HotRange × (Bor HotRange × Unit {0})) Ordering} {f : F}
+pub top_from_sort_by : {F : Type 0} {g : Mut F (Bor HotRange × (Bor HotRange × Unit {0})) Ordering} {f : F}
+    (tally : Tally) (ordered : tree.IsOrdered ends_cmp tally.counts) (all sorted : List HotRange) (rows : map row_of all ≡ rows_of tally)
+    (moved : IsPermutation all sorted)
+    (falls : (lt : HotRange → HotRange → Bool) → IsStrictWeakOrder lt → ComparesAs g lt f → IsSortedBy lt sorted)
+    (stable : (lt : HotRange → HotRange → Bool) → IsStrictWeakOrder lt → ComparesAs g lt f → IsStableBy lt all sorted) (most : ℕ)
     → ((a : Bor HotRange × (Bor HotRange × Unit {0})) (r : Ordering) (f' : F) → Called g f a r f'
-    → (r ≡ nat_cmp a.1.0.now.conflicts a.0.now.conflicts) × (f' ≡ f))
-    → IsStrictWeakOrder precedes × ComparesAs g precedes f
-sorts_by_count {g = g} {f = f} calls = (
-  precedes_weak,
-  always_returns_same g (λ a r. is_lt r ≡ is_lt (nat_cmp a.1.0.now.conflicts a.0.now.conflicts)) f
-      (λ a r f' k. (ap is_lt (calls a r f' k).0, (calls a r f' k).1)),
-)
+    → (r ≡ nat_cmp a.1.0.now.conflicts a.0.now.conflicts) × (f' ≡ f)) → IsTop (conflicts_at tally) most (take most sorted)
+top_from_sort_by {g = g} {f = f} tally ordered all sorted rows moved falls stable most calls =
+    let compares : ComparesAs g precedes f =
+    always_returns_same g (λ a r. is_lt r ≡ is_lt (nat_cmp a.1.0.now.conflicts a.0.now.conflicts)) f
+    (λ a r f' k. (ap is_lt (calls a r f' k).0, (calls a r f' k).1)) in
+    top_from_sorted tally ordered all sorted rows moved (falls precedes precedes_weak compares) (stable precedes precedes_weak compares) most

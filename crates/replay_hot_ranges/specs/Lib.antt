@@ -2,6 +2,7 @@
 pub mod Conflicts
 pub mod Counts
 pub mod Top
+pub mod Laws
 pub mod Text
 pub mod Tally
 pub mod HotRanges

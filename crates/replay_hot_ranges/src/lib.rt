@@ -13,6 +13,7 @@
 mod counting;
 mod hot_range;
 mod hot_ranges;
+pub mod laws;
 mod lines;
 mod members;
 mod tally;
