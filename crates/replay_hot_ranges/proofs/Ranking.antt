@@ -180,7 +180,7 @@ module _ (tally : Tally) (ordered : tree.IsOrdered ends_cmp tally.counts) (all s
       let at : tree.get ends_cmp tally.counts entry.0 ≡ Some entry.1 =
       btree_map_get_place ends_total tally.counts k entry.0 entry.1 ordered found.1 in (
         ap (λ (r : Row). r.1) row ∙ sym (ap conflicts_in at)
-        ∙ ap (conflicts_at tally) (sym (ap (λ (r : Row). r.0) row)),
+            ∙ ap (conflicts_at tally) (sym (ap (λ (r : Row). r.0) row)),
         subst (λ n. 0 < n) (sym (ap (λ (r : Row). r.1) row)) entry.1.some,
       )
 
@@ -225,10 +225,12 @@ module _ (tally : Tally) (ordered : tree.IsOrdered ends_cmp tally.counts) (all s
           let inside : i < length first = omega arith in
           let len_ends : length (map ends_of first) ≡ length first = length-map first ends_of in
           let found = some_at sorted i within in
-          let d = found.0 in
-          (i, omega arith,
-          get_or-map ends_of first i d row.0 inside ∙ ap ends_of (first_at i d inside)
-          ∙ ap (λ (r : Row). r.0) (sym (get_or-map row_of sorted i d row within) ∙ place.2))
+          let d = found.0 in (
+            i,
+            omega arith,
+            get_or-map ends_of first i d row.0 inside ∙ ap ends_of (first_at i d inside)
+                ∙ ap (λ (r : Row). r.0) (sym (get_or-map row_of sorted i d row within) ∙ place.2),
+          )
 
       full : most ≤ place.0 → length first ≡ most
       full late = let len = len_rows in let len_first = first_len in omega (arith, place.1)

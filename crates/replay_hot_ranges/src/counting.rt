@@ -113,7 +113,7 @@ impl Tallies {
         }
     }
 
-    // Counts the conflicts of the transaction at the index, which was begun and has these read ranges.
+    // Counts the conflicts of the transaction at the index, which was begun, by its read ranges.
     fn add_reads(
         &mut self,
         history: &History,

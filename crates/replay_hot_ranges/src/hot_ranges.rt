@@ -15,8 +15,8 @@ use std::alloc::{AllocError, Global};
 /// Sees the batches that a resolver processes, and counts the transactions that were rejected as
 /// conflicts, by their read ranges in conflict and by the written ranges that these conflict with.
 ///
-/// If memory is refused, it sees no more: each later call of `see` and of [`top`](Self::top) returns
-/// an error.
+/// If memory is refused, it sees no more: each later call of `see` and of [`top`](Self::top)
+/// returns an error.
 #[derive(Debug, Drop)]
 pub struct HotRanges {
     alloc: Global,
@@ -45,7 +45,8 @@ impl HotRanges {
         }
     }
 
-    /// Returns how far back a transaction may read, in versions, as [`new`](Self::new) was given it.
+    /// Returns how far back a transaction may read, in versions, as [`new`](Self::new) was given
+    /// it.
     pub fn window(&self) -> i64
         ensures window { result ≡ self.now.history.window }
     {
@@ -82,7 +83,8 @@ impl Observer for HotRanges {
         self.has_failed = true;
         let processed = ProcessedBatch::new(proxy, batch, reply.copy(self.alloc)?);
         self.history.push(processed)?;
-        self.tallies.add_batch(&self.history, reply.entries.as_slice())?;
+        self.tallies
+            .add_batch(&self.history, reply.entries.as_slice())?;
         self.has_failed = false;
         Ok(())
     }

@@ -1,9 +1,9 @@
 //! The ranges that conflict most.
 //!
-//! [`HotRanges`] observes the batches that a resolver processes. It counts, for each read range, the
-//! transactions that were rejected as conflicts with this range in conflict, and for each written
-//! range those that conflict with it. [`HotRanges::top`] returns the ranges with the greatest
-//! counts, and [`hot_lines`] and [`hot_members`] print them.
+//! [`HotRanges`] observes the batches that a resolver processes. For each range it counts the
+//! transactions that were rejected because they read it, and those that were rejected because an
+//! earlier transaction wrote it. [`HotRanges::top`] returns the ranges with the greatest counts,
+//! and [`hot_lines`] and [`hot_members`] print them. The [`laws`] say what the list promises.
 //!
 //! `specs/` says, in reading order, what the conflicts of a transaction are (`Conflicts`), how
 //! ranges are counted (`Counts`), which of them are listed (`Top`) and what is printed (`Text`).

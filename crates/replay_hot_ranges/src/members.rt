@@ -24,11 +24,7 @@ pub fn hot_members(alloc: Global, top: &Top<'_>) -> Result<Vec<u8>, AllocError>
 }
 
 // Appends the array of the ranges.
-fn with_array(
-    alloc: Global,
-    out: Vec<u8>,
-    ranges: &[HotRange<'_>],
-) -> Result<Vec<u8>, AllocError>
+fn with_array(alloc: Global, out: Vec<u8>, ranges: &[HotRange<'_>]) -> Result<Vec<u8>, AllocError>
     ensures text { IfOk result (λ text. text.items ≡ out.items ++ hot_array ranges.now) }
 {
     let mut writer = Writer::new(out);
@@ -36,11 +32,7 @@ fn with_array(
     Ok(writer.into_inner())
 }
 
-fn put_array(
-    alloc: Global,
-    writer: &mut Writer,
-    ranges: &[HotRange<'_>],
-) -> Result<(), AllocError>
+fn put_array(alloc: Global, writer: &mut Writer, ranges: &[HotRange<'_>]) -> Result<(), AllocError>
     ensures tokens { OnOk result (writer.new.tokens
         ≡ writer.old.tokens ++ (json_tokens (list_json hot_json ranges.now))) }
     ensures before { writer.new.before ≡ writer.old.before }
@@ -51,11 +43,7 @@ fn put_array(
     Ok(())
 }
 
-fn put_each(
-    alloc: Global,
-    writer: &mut Writer,
-    ranges: &[HotRange<'_>],
-) -> Result<(), AllocError>
+fn put_each(alloc: Global, writer: &mut Writer, ranges: &[HotRange<'_>]) -> Result<(), AllocError>
     ensures tokens { OnOk result (writer.new.tokens
         ≡ writer.old.tokens ++ (all_tokens hot_json ranges.now)) }
     ensures before { writer.new.before ≡ writer.old.before }
@@ -68,11 +56,7 @@ fn put_each(
 }
 
 #[tactic(auto, unfolding(crate::specs::Text::hot_json))]
-fn put_hot(
-    writer: &mut Writer,
-    form: &mut Vec<u8>,
-    hot: &HotRange<'_>,
-) -> Result<(), AllocError>
+fn put_hot(writer: &mut Writer, form: &mut Vec<u8>, hot: &HotRange<'_>) -> Result<(), AllocError>
     ensures tokens { OnOk result (writer.new.tokens
         ≡ writer.old.tokens ++ (json_tokens (hot_json hot.now))) }
     ensures before { writer.new.before ≡ writer.old.before }

@@ -33,8 +33,9 @@ returns-in-Conflict c = record {
       let reads = put t txns at (search rules) (c.in_ok-begin.ensures.begun txns before) in
       let n = c.add_reads.new.self.txns in
       subst (λ (all : List (List InConflict)). AreTallies all c.add_reads.new.self)
-      (sym (ap (λ (v : Verdict). txns ++ rejected_by v conflicts) c.in-Conflict.is))
-      (ended read_side txns conflicts n c.add_reads.new.self.reads reads.0,
-      ended written_side txns conflicts n c.add_reads.new.self.writes reads.1))
+      (sym (ap (λ (v : Verdict). txns ++ rejected_by v conflicts) c.in-Conflict.is)) (
+        ended read_side txns conflicts n c.add_reads.new.self.reads reads.0,
+        ended written_side txns conflicts n c.add_reads.new.self.writes reads.1,
+      ))
       c.add_reads.ensures.added;
 }

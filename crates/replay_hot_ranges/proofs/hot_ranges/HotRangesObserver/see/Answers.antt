@@ -26,7 +26,7 @@ returns-clause-seen c =
     ∙ ap (λ (x : Processed). int_max before.history.edge (edge before.history.window x.batch)) pushed in
     let newest : newest_of h.kept ≡ Some p.batch = c.in_ok-push.ensures.newest ∙ ap (λ (x : Processed). Some x.batch) pushed in
     let added : (txns : List (List InConflict)) → AreTallies txns before.tallies
-        → AreTallies (txns ++ rejected_from h.kept p.batch 0 p.batch.txns p.reply.entries) c.add_batch.new.self =
+    → AreTallies (txns ++ rejected_from h.kept p.batch 0 p.batch.txns p.reply.entries) c.add_batch.new.self =
     λ txns counted.
     subst (λ (es : List Entry). AreTallies (txns ++ rejected_from h.kept p.batch 0 p.batch.txns es) c.add_batch.new.self)
     c.as_slice.ensures.items (c.in_ok-add_batch.ensures.added p.batch txns newest counted) in
