@@ -85,10 +85,8 @@ impl Tally {
         let range = range.to_range(alloc)?;
         let key = (range.begin, range.end);
         let count = Count::after(self.counts.get(&key).copied(), txn)?;
-        match self.counts.insert(key, count) {
-            Ok(_) => Ok(()),
-            Err(_) => Err(AllocError),
-        }
+        self.counts.insert(key, count)?;
+        Ok(())
     }
 
     /// Returns all ranges with their counts, in the order of their begins, and then of their ends.

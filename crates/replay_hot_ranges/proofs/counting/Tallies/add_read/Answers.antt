@@ -6,7 +6,7 @@ use Rattle.explanations.specs.Explains.{explaining_newest}
 use Rattle.explanations.specs.Written.{Written}
 use Rattle.replay_hot_ranges.specs.Conflicts.{InConflict, in_conflict, newest}
 use Rattle.replay_hot_ranges.specs.Tally.{AreTalliesWith}
-use Rattle.replay_hot_ranges.proofs.Counting.{explained}
+use Rattle.replay_hot_ranges.proofs.Adding.{explained}
 use Rattle.replay_hot_ranges.proofs.counting.Tallies.add_read.Goals as goal
 
 pub returns-in-Some : goal.returns-in-Some

@@ -3,7 +3,7 @@ use Rattle.std.proofs.lemmas.Option.{slice_get_read}
 use Rattle.keys.proofs.callers.Lists.{some_at}
 use Rattle.replay_hot_ranges.specs.Conflicts.{InConflict, rejected_from}
 use Rattle.replay_hot_ranges.specs.Tally.{AreTallies}
-use Rattle.replay_hot_ranges.proofs.Counting.{rejected_more}
+use Rattle.replay_hot_ranges.proofs.Adding.{rejected_more}
 use Rattle.replay_hot_ranges.proofs.counting.Tallies.add_txns.Goals as goal
 
 pub loop-txn-preserved : goal.loop-txn-preserved

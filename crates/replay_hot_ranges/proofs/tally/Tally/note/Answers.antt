@@ -1,16 +1,27 @@
-use Rattle.std.proofs.Common.{◌≡◌, sym, ap, subst}
+use Rattle.std.proofs.Common.{◌≡◌, ℕ, ◌+◌, ◌&&◌, ◌==◌, cond, not, subst}
 use Rattle.keys.specs.declared.range.Range.{Range}
+use Rattle.replay_hot_ranges.specs.Counts.{Ends, has_ends}
+use Rattle.replay_hot_ranges.specs.Tally.{conflicts_at, is_last}
+use Rattle.replay_hot_ranges.specs.declared.tally.Tally.{Tally}
 use Rattle.replay_hot_ranges.proofs.Noting.{noted_conflicts, noted_last}
 use Rattle.replay_hot_ranges.proofs.tally.Tally.note.Goals as goal
 
-pub returns-in-Ok : goal.returns-in-Ok
-returns-in-Ok c = record {
-  conflicts =
-      noted_conflicts c.args.self.now (record { counts = c.insert.new.self }) c.args.range.now c.args.txn c.in_ok-count.count
-      (subst (λ (r : Range). _) c.in_ok-range.ensures.equal c.in-Ok.ensures.updates.0)
-      c.in_ok-count.ensures.last c.in_ok-count.ensures.conflicts;
-  last =
-      noted_last c.args.self.now (record { counts = c.insert.new.self }) c.args.range.now c.args.txn c.in_ok-count.count
-      (subst (λ (r : Range). _) c.in_ok-range.ensures.equal c.in-Ok.ensures.updates.0)
-      c.in_ok-count.ensures.last c.in_ok-count.ensures.conflicts;
-}
+pub returns : goal.returns
+returns c =
+    let old = c.args.self.now in
+    let new : Tally = record { counts = c.insert.new.self } in
+    let txn = c.args.txn in
+    let count = c.in_ok-count.count in
+    record {
+      conflicts =
+          subst (λ (r : Range). (ends : Ends) → conflicts_at new ends
+          ≡ cond (has_ends ends r && not (is_last old txn ends)) (conflicts_at old ends + 1) (conflicts_at old ends))
+          c.in_ok-range.ensures.equal
+          (noted_conflicts old new c.in_ok-range.range txn count c.in_ok-insert.ensures.updates.0 c.in_ok-count.ensures.last
+          c.in_ok-count.ensures.conflicts);
+      last =
+          subst (λ (r : Range). (ends : Ends) (other : ℕ) → is_last new other ends ≡ cond (has_ends ends r) (txn == other) (is_last old other ends))
+          c.in_ok-range.ensures.equal
+          (noted_last old new c.in_ok-range.range txn count c.in_ok-insert.ensures.updates.0 c.in_ok-count.ensures.last
+          c.in_ok-count.ensures.conflicts);
+    }
