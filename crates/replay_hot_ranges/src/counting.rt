@@ -93,8 +93,9 @@ impl Tallies {
             Verdict::Committed => Ok(()),
             Verdict::TooOld => Ok(()),
             Verdict::Conflict => {
+                let transaction = batch.txns.txn(txn);
                 self.begin()?;
-                self.add_reads(history, batch, txn, &batch.txns.txn(txn).reads)
+                self.add_reads(history, batch, txn, &transaction.reads)
             }
         }
     }
@@ -160,6 +161,7 @@ impl Tallies {
             (conflicts ++ record { read = read.now; written = written.now } ∷ []) self.new) }
     {
         self.reads.note(self.alloc, self.txns, read)?;
-        self.writes.note(self.alloc, self.txns, written)
+        self.writes.note(self.alloc, self.txns, written)?;
+        Ok(())
     }
 }

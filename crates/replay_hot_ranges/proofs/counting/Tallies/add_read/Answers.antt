@@ -17,7 +17,7 @@ returns-in-Some c =
       added =
           on_ok_weaker c.note.result
           (λ put range txns conflicts at before.
-          let same : c.get.result ≡ range = same_Some range (sym c.get.ensures.range ∙ at) in
+          let same : c.get.result ≡ range = same_Some c.get.result range (sym c.get.ensures.range ∙ at) in
           subst (λ (cs : List InConflict). AreTalliesWith txns (conflicts ++ cs) c.note.new.self)
           (ap (λ (r : Range). record { read = r; written = found.newest.range } ∷ []) same
           ∙ explained range ws found.newest found.further c.in-Some.ensures.found)

@@ -1,4 +1,5 @@
 use Rattle.std.proofs.Common.{◌≡◌, ◌++◌, [], ◌∷◌, List, Some, slice_get, sym, ap, subst, ◌∙◌, append-nil}
+use Rattle.std.proofs.lemmas.Option.{same_Some}
 use Rattle.std.proofs.lemmas.Result.{on_ok_weaker}
 use Rattle.keyspace.specs.declared.reply.Verdict.{Verdict}
 use Rattle.keyspace.specs.declared.txn.Txn.{Txn}
@@ -24,13 +25,15 @@ returns-in-TooOld c = record {
       ∙ append-nil txns)) before;
 }
 
-pub returns-in-Conflict : goal.returns-in-Conflict
-returns-in-Conflict c = record {
+pub returns-in_ok-begin-in-Conflict : goal.returns-in_ok-begin-in-Conflict
+returns-in_ok-begin-in-Conflict c = record {
   added =
       on_ok_weaker c.add_reads.result
       (λ put t txns at before.
       let conflicts = conflicts_of c.args.history.now.kept c.args.batch.now c.args.txn t in
-      let reads = put t txns at (search rules) (c.in_ok-begin.ensures.begun txns before) in
+      let same : c.txn-transaction.result ≡ t = same_Some c.txn-transaction.result t (sym c.txn-transaction.ensures.txn ∙ at) in
+      let reads_are : c.transaction.inside.reads ≡ t.reads = ap (λ (u : Txn). u.reads) (c.transaction.view_is ∙ same) in
+      let reads = put t txns at reads_are (c.in_ok-begin.ensures.begun txns before) in
       let n = c.add_reads.new.self.txns in
       subst (λ (all : List (List InConflict)). AreTallies all c.add_reads.new.self)
       (sym (ap (λ (v : Verdict). txns ++ rejected_by v conflicts) c.in-Conflict.is)) (

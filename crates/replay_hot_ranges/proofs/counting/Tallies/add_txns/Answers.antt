@@ -1,5 +1,5 @@
-use Rattle.std.proofs.Common.{◌≡◌, ◌<◌, ◌++◌, List, Some, length, slice_get, take, refl, subst, arith}
-use Rattle.std.proofs.lemmas.Option.{slice_get_read}
+use Rattle.std.proofs.Common.{◌≡◌, ◌<◌, ◌++◌, List, Some, get_or, length, slice_get, take, subst, arith}
+use Rattle.std.proofs.lemmas.Option.{slice_get-get_or}
 use Rattle.keys.proofs.callers.Lists.{some_at}
 use Rattle.replay_hot_ranges.specs.Conflicts.{InConflict, rejected_from}
 use Rattle.replay_hot_ranges.specs.Tally.{AreTallies}
@@ -12,11 +12,11 @@ loop-txn-preserved c = λ txns before.
     let b = c.args.batch.now in
     let entries = c.args.entries.now in
     let n = c.loop-txn.txn in
-    let e = c.index-entries-txn.result in
     let within : n < length entries = omega arith in
     let inside : n < length b.txns = omega (arith, within, c.requires.entries) in
     let found = some_at b.txns n inside in
-    let at_e : slice_get entries n ≡ Some e = slice_get_read entries (length entries) n e refl within c.index-entries-txn.is in
+    let e = get_or entries n c.index-entries-txn.result in
+    let at_e : slice_get entries n ≡ Some e = slice_get-get_or entries n c.index-entries-txn.result within in
     subst (λ (all : List (List InConflict)). AreTallies all c.add_txn.new.self)
     (rejected_more txns kept b b.txns entries n found.0 e found.1 at_e)
     (c.in_ok-add_txn.ensures.added found.0 (txns ++ rejected_from kept b 0 (take n b.txns) (take n entries)) found.1
