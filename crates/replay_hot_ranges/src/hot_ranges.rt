@@ -81,7 +81,7 @@ impl Observer for HotRanges {
             return Err(AllocError);
         }
         self.has_failed = true;
-        let processed = ProcessedBatch::new(proxy, batch, reply.copy(self.alloc)?);
+        let processed = ProcessedBatch::new(self.alloc, proxy, batch, reply.copy(self.alloc)?)?;
         self.history.push(processed)?;
         self.tallies
             .add_batch(&self.history, reply.entries.as_slice())?;

@@ -15,9 +15,9 @@ returns-clause-seen c =
     let before = c.args.self.now in
     let h = c.push.new.self in
     let p : Processed = record { proxy = c.args.proxy; batch = c.args.batch; reply = c.args.reply.now } in
-    let pushed : c.new-processed.result ≡ p =
-    same_processed c.new-processed.result p c.new-processed.ensures.proxy c.new-processed.ensures.batch
-    (c.new-processed.ensures.reply ∙ c.in_ok-copy.ensures.equal) in
+    let pushed : c.in_ok-processed.processed ≡ p =
+    same_processed c.in_ok-processed.processed p c.in_ok-processed.ensures.proxy c.in_ok-processed.ensures.batch
+    (c.in_ok-processed.ensures.reply ∙ c.in_ok-copy.ensures.equal) in
     let keeps : (ps : List Processed) → Keeps ps before.history → Keeps (ps ++ p ∷ []) h =
     subst (λ (x : Processed). (ps : List Processed) → Keeps ps before.history → Keeps (ps ++ x ∷ []) h) pushed
     c.in_ok-push.ensures.keeps in
