@@ -1,4 +1,4 @@
-use Rattle.std.proofs.Common.{◌≡◌, ◌++◌, [], ◌∷◌, List, Some, slice_get, sym, ap, subst, ◌∙◌, append-nil}
+use Rattle.std.proofs.Common.{◌≡◌, ◌++◌, [], ◌∷◌, List, Some, slice_get, rules, sym, ap, subst, ◌∙◌, append-nil}
 use Rattle.std.proofs.lemmas.Option.{same_Some}
 use Rattle.std.proofs.lemmas.Result.{on_ok_weaker}
 use Rattle.keys.specs.declared.range.Range.{Range}
@@ -18,8 +18,10 @@ returns-in-Some c =
           on_ok_weaker c.note.result
           (λ put range txns conflicts at before.
           let same : c.get.result ≡ range = same_Some c.get.result range (sym c.get.ensures.range ∙ at) in
+          let written_is : c.explanation.inside.0.0.range ≡ found.newest.range = search rules in
           subst (λ (cs : List InConflict). AreTalliesWith txns (conflicts ++ cs) c.note.new.self)
-          (ap (λ (r : Range). record { read = r; written = found.newest.range } ∷ []) same
+          (ap (λ (w : Range). record { read = c.get.result; written = w } ∷ []) written_is
+          ∙ ap (λ (r : Range). record { read = r; written = found.newest.range } ∷ []) same
           ∙ explained range ws found.newest found.further c.in-Some.ensures.found)
           (put txns conflicts before))
           c.note.ensures.noted;

@@ -33,7 +33,7 @@ returns-in_ok-begin-in-Conflict c = record {
       let conflicts = conflicts_of c.args.history.now.kept c.args.batch.now c.args.txn t in
       let same : c.txn-transaction.result ≡ t = same_Some c.txn-transaction.result t (sym c.txn-transaction.ensures.txn ∙ at) in
       let reads_are : c.transaction.inside.reads ≡ t.reads = ap (λ (u : Txn). u.reads) (c.transaction.view_is ∙ same) in
-      let reads = put t txns at reads_are (c.in_ok-begin.ensures.begun txns before) in
+      let reads = put t txns at reads_are (c.in_ok-begin-in-Conflict.ensures.begun txns before) in
       let n = c.add_reads.new.self.txns in
       subst (λ (all : List (List InConflict)). AreTallies all c.add_reads.new.self)
       (sym (ap (λ (v : Verdict). txns ++ rejected_by v conflicts) c.in-Conflict.is)) (
