@@ -10,7 +10,7 @@ ghost use Rattle.replay_hot_ranges.specs.Conflicts.{InConflict, conflicts_of, in
 ghost use Rattle.replay_hot_ranges.specs.Conflicts.{newest, rejected_by, rejected_from};
 
 use crate::tally::Tally;
-use explanations::History;
+use explanations::{History, WrittenRef};
 use keys::RangeRef;
 use keyspace::{Batch, Entry, RangesRef, Verdict};
 use std::alloc::{AllocError, Global};
@@ -149,9 +149,18 @@ impl Tallies {
             ++ in_conflict range (newest (explaining_newest history.now.kept txn read))) self.new) }
     {
         match history.explain(txn, read) {
-            Some(explanation) => self.note(&reads.get(read), &explanation.newest.range),
+            Some(explanation) => self.note_write(&reads.get(read), &explanation.newest),
             None => Ok(()),
         }
+    }
+
+    // Counts a conflict with this write, of the transaction that was begun.
+    fn note_write(&mut self, read: &RangeRef<'_>, write: &WrittenRef<'_>) -> Result<(), AllocError>
+        ensures noted { OnOk result ((txns : List (List InConflict)) (conflicts : List InConflict)
+            → AreTalliesWith txns conflicts self.old → AreTalliesWith txns
+            (conflicts ++ record { read = read.now; written = write.now.range } ∷ []) self.new) }
+    {
+        self.note(read, &write.range)
     }
 
     // Counts a conflict of the transaction that was begun.

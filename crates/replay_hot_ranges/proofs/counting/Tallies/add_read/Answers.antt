@@ -1,4 +1,4 @@
-use Rattle.std.proofs.Common.{◌≡◌, ◌++◌, [], ◌∷◌, List, Some, slice_get, rules, sym, ap, subst, ◌∙◌, append-nil}
+use Rattle.std.proofs.Common.{◌≡◌, ◌++◌, [], ◌∷◌, List, sym, ap, subst, ◌∙◌, append-nil}
 use Rattle.std.proofs.lemmas.Option.{same_Some}
 use Rattle.std.proofs.lemmas.Result.{on_ok_weaker}
 use Rattle.keys.specs.declared.range.Range.{Range}
@@ -15,16 +15,14 @@ returns-in-Some c =
     let found = c.in-Some.explanation in
     record {
       added =
-          on_ok_weaker c.note.result
+          on_ok_weaker c.note_write.result
           (λ put range txns conflicts at before.
           let same : c.get.result ≡ range = same_Some c.get.result range (sym c.get.ensures.range ∙ at) in
-          let written_is : c.explanation.inside.0.0.range ≡ found.newest.range = search rules in
-          subst (λ (cs : List InConflict). AreTalliesWith txns (conflicts ++ cs) c.note.new.self)
-          (ap (λ (w : Range). record { read = c.get.result; written = w } ∷ []) written_is
-          ∙ ap (λ (r : Range). record { read = r; written = found.newest.range } ∷ []) same
+          subst (λ (cs : List InConflict). AreTalliesWith txns (conflicts ++ cs) c.note_write.new.self)
+          (ap (λ (r : Range). record { read = r; written = found.newest.range } ∷ []) same
           ∙ explained range ws found.newest found.further c.in-Some.ensures.found)
           (put txns conflicts before))
-          c.note.ensures.noted;
+          c.note_write.ensures.noted;
     }
 
 pub returns-in-None : goal.returns-in-None

@@ -1,4 +1,4 @@
-use Rattle.std.proofs.Common.{◌≡◌, ◌++◌, [], ◌∷◌, List, Some, slice_get, sym, ap, subst, ◌∙◌, append-nil}
+use Rattle.std.proofs.Common.{◌≡◌, ◌++◌, [], ◌∷◌, List, sym, ap, subst, ◌∙◌, append-nil}
 use Rattle.std.proofs.lemmas.Option.{same_Some}
 use Rattle.std.proofs.lemmas.Result.{on_ok_weaker}
 use Rattle.keyspace.specs.declared.reply.Verdict.{Verdict}
@@ -34,11 +34,12 @@ returns-in_ok-begin-in-Conflict c = record {
       let same : c.txn-transaction.result ≡ t = same_Some c.txn-transaction.result t (sym c.txn-transaction.ensures.txn ∙ at) in
       let reads_are : c.transaction.inside.reads ≡ t.reads = ap (λ (u : Txn). u.reads) (c.transaction.view_is ∙ same) in
       let reads = put t txns at reads_are (c.in_ok-begin-in-Conflict.ensures.begun txns before) in
-      let n = c.add_reads.new.self.txns in
-      subst (λ (all : List (List InConflict)). AreTallies all c.add_reads.new.self)
-      (sym (ap (λ (v : Verdict). txns ++ rejected_by v conflicts) c.in-Conflict.is)) (
-        ended read_side txns conflicts n c.add_reads.new.self.reads reads.0,
-        ended written_side txns conflicts n c.add_reads.new.self.writes reads.1,
-      ))
+      let tallies = c.add_reads.new.self in
+      let whole : AreTallies (txns ++ conflicts ∷ []) tallies = (
+        ended read_side txns conflicts tallies.txns tallies.reads reads.0,
+        ended written_side txns conflicts tallies.txns tallies.writes reads.1,
+      ) in
+      subst (λ (all : List (List InConflict)). AreTallies all tallies)
+      (sym (ap (λ (v : Verdict). txns ++ rejected_by v conflicts) c.in-Conflict.is)) whole)
       c.add_reads.ensures.added;
 }
