@@ -1,5 +1,5 @@
 -- What is counted, from the batches that were seen before to one more.
-use Rattle.std.proofs.Common.{◌≡◌, ℕ, Bool, true, false, cond, List, [], ◌∷◌, ◌++◌, Some, None, Option, refl, sym, ap, subst, ◌∙◌, arith, append_assoc, append-nil}
+use Rattle.std.proofs.Common.{◌≡◌, Bool, true, false, cond, List, [], ◌∷◌, ◌++◌, Some, None, Option, refl, sym, ap, subst, ◌∙◌, arith, append_assoc, append-nil}
 use Rattle.std.specs.Prelude.{ℤ, ◌≤ℤ◌, ◌<ℤ◌, ◌-ℤ◌, pos, All, IfSome, OnErr, Result, Ok, Err, int_lt}
 use Rattle.std.specs.Int.{int_max}
 use Rattle.std.proofs.lemmas.Int.{ints}
@@ -15,7 +15,6 @@ use Rattle.explanations.proofs.callers.Chains.{Precedes, versions_below, newest_
 use Rattle.replay_hot_ranges.specs.Conflicts.{InConflict, rejected, rejected_after, rejected_from, rejected_last}
 use Rattle.replay_hot_ranges.specs.HotRanges.{FollowsChain, HasCounted, HasSeen}
 use Rattle.replay_hot_ranges.specs.Tally.{AreTallies}
-use Rattle.replay_hot_ranges.specs.declared.counting.Tallies.{Tallies}
 use Rattle.replay_hot_ranges.specs.declared.hot_ranges.HotRanges.{HotRanges}
 use Rattle.replay_hot_ranges.proofs.Same.{same_rejected}
 

@@ -1,5 +1,5 @@
 -- What is counted of the batches that were seen. This project's own.
-use Rattle.std.specs.Prelude.{◌≡◌, ℤ, pos, ◌≤ℤ◌, false, List, None, IfSome}
+use Rattle.std.specs.Prelude.{◌≡◌, pos, ◌≤ℤ◌, false, List, None, IfSome}
 use Rattle.keyspace.specs.Chain.{IsChain}
 use Rattle.keyspace.specs.Judged.{edge}
 use Rattle.keyspace.specs.Processed.{Processed}

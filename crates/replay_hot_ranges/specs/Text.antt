@@ -6,7 +6,6 @@ use Rattle.json.specs.Print.{print}
 use Rattle.json.specs.Tree.{json_tokens}
 use Rattle.json_lines.specs.KeyForm.{key_form}
 use Rattle.json_lines.specs.Written.{key_json, list_json}
-use Rattle.replay_hot_ranges.specs.Counts.{Ends}
 use Rattle.replay_hot_ranges.specs.declared.hot_range.HotRange.{HotRange}
 use Rattle.replay_hot_ranges.specs.declared.hot_range.Top.{Top}
 

@@ -7,7 +7,7 @@ use Rattle.explanations.specs.Explains.{newest_of}
 use Rattle.explanations.specs.History.{Keeps}
 use Rattle.replay_hot_ranges.specs.Conflicts.{InConflict, rejected_from}
 use Rattle.replay_hot_ranges.specs.Tally.{AreTallies}
-use Rattle.replay_hot_ranges.proofs.Seen.{has_failed, has_seen_more, on_err, same_processed}
+use Rattle.replay_hot_ranges.proofs.Seen.{has_seen_more, same_processed}
 use Rattle.replay_hot_ranges.proofs.hot_ranges.HotRangesObserver.see.Goals as goal
 
 pub returns-clause-seen : goal.returns-clause-seen
