@@ -1,6 +1,6 @@
 -- What is counted, from the batches that were seen before to one more.
 use Rattle.std.proofs.Common.{◌≡◌, Bool, true, false, cond, List, [], ◌∷◌, ◌++◌, Some, None, Option, refl, sym, ap, subst, ◌∙◌, arith, append_assoc, append-nil}
-use Rattle.std.specs.Prelude.{ℤ, ◌≤ℤ◌, ◌<ℤ◌, ◌-ℤ◌, pos, All, IfSome, OnErr, Result, Ok, Err, int_lt}
+use Rattle.std.specs.Prelude.{ℤ, ◌≤ℤ◌, ◌<ℤ◌, ◌-ℤ◌, pos, All, IfSome, int_lt}
 use Rattle.std.specs.Int.{int_max}
 use Rattle.std.proofs.lemmas.Int.{ints}
 use Rattle.std.proofs.lemmas.Option.{none-some, same_Some}
@@ -102,15 +102,6 @@ rejected_after-more before (q ∷ ps) p =
 -- the parts of a processed batch
 pub same_processed : (p q : Processed) → p.proxy ≡ q.proxy → p.batch ≡ q.batch → p.reply ≡ q.reply → p ≡ q
 same_processed p q proxy batch reply = λ i. record { proxy = proxy i; batch = batch i; reply = reply i }
-
--- what holds after an error
-pub on_err : {A E : Type 0} (r : Result A E) (P : Type 0) → P → OnErr r P
-on_err (Ok x) P p = tt
-on_err (Err e) P p = p
-
--- memory was refused
-pub has_failed : (h : HotRanges) (ps : List Processed) → h.has_failed ≡ true → HasSeen h ps
-has_failed h ps failed = λ working chain. absurd (let both : true ≡ false = sym failed ∙ working in cc)
 
 module _ (e f : HotRanges) (p : Processed) (open_before : e.has_failed ≡ false)
     (same_window : f.history.window ≡ e.history.window)
