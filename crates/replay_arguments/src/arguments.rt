@@ -6,8 +6,8 @@ ghost use Rattle.clap.specs.Words.{all_of, found_of, rows_of};
 ghost use Rattle.replay_arguments.specs.Asked.{IsLineOf};
 ghost use Rattle.replay_arguments.specs.Words.{AsksForAll, AsksForText, HasInputOnce, HoldsExplain};
 ghost use Rattle.replay_arguments.specs.Words.{HoldsOptions, HoldsStream, HoldsSummary, IsAlone};
-ghost use Rattle.replay_arguments.specs.Words.{IsMistaken, IsPlain, IsRefusalBy, IsTaken, faults_of};
-ghost use Rattle.replay_arguments.specs.Words.{named, rows_of_words};
+ghost use Rattle.replay_arguments.specs.Words.{IsMistaken, IsPlain, IsRefusalBy, IsTaken};
+ghost use Rattle.replay_arguments.specs.Words.{faults_of, named, rows_of_words};
 
 use crate::arguments::asked::{Asked, asked_of};
 use clap::ArgMatches;
@@ -70,7 +70,8 @@ pub fn read_words<'a>(alloc: Global, words: &'a [String]) -> Result<CommandLine<
     ensures input { OnOk result (HasInputOnce (rows_of_words (map string_bytes words.entry.now))) }
     ensures streamed { IfOk result (λ line.
         HoldsStream (rows_of_words (map string_bytes words.entry.now)) line.is_streamed) }
-    ensures plain { IfOk result (λ line. line.is_streamed ≡ true → line.options.style.form ≢ Form.Kept) }
+    ensures plain { IfOk result (λ line. line.is_streamed ≡ true
+        → line.options.style.form ≢ Form.Kept) }
     ensures records { IfOk result (λ line. map (λ name. name.now) line.records.items
         ≡ named (all_of (codes "replies") (rows_of_words (map string_bytes words.entry.now)))) }
     ensures records_each { IfOk result (λ line. (vec_len line.records ≡ 0)

@@ -2,8 +2,9 @@
 
 ghost use Rattle.std.specs.Prelude.{◌≡◌, IfOk, false};
 ghost use Rattle.clap.specs.Words.{app_of, rule_of};
-ghost use Rattle.replay_arguments.specs.Command.{capacity_rule, check_rule, explain_rule, file_rule};
-ghost use Rattle.replay_arguments.specs.Command.{frames_rule, json_rule, limit_rule, number_rule};
+ghost use Rattle.replay_arguments.specs.Command.{capacity_rule, check_rule, explain_rule};
+ghost use Rattle.replay_arguments.specs.Command.{file_rule, frames_rule, json_rule, limit_rule};
+ghost use Rattle.replay_arguments.specs.Command.{number_rule};
 ghost use Rattle.replay_arguments.specs.Command.{only_rule, quiet_rule, replay_app, replies_rule};
 ghost use Rattle.replay_arguments.specs.Command.{stream_rule, summary_rule, versions_rule};
 ghost use Rattle.replay_arguments.specs.Command.{window_rule};

@@ -9,8 +9,8 @@ use clap::ArgMatches;
 use replay_output::Form;
 use replay_summary::SummaryForm;
 
-/// Returns whether rejections are to be explained, unless another option asks for something else than
-/// lines of words at the end.
+/// Returns whether rejections are to be explained, unless another option asks for something else
+/// than lines of words at the end.
 pub fn explains(
     matches: &ArgMatches,
     form: Form,

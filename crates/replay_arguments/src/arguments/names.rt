@@ -31,7 +31,8 @@ pub fn names_of<'m, 'a>(
     printing: Printing,
 ) -> Result<Names<'m, 'a>, Mistake>
     ensures names { IfOk result (HoldsNames (rows_of (found_of matches.entry.now)) printing) }
-    ensures none { OnErr result (HoldsForm (rows_of (found_of matches.entry.now)) printing.style.form
+    ensures none { OnErr result (
+        HoldsForm (rows_of (found_of matches.entry.now)) printing.style.form
         → HoldsStream (rows_of (found_of matches.entry.now)) printing.is_streamed
         → NamesNothing (rows_of (found_of matches.entry.now))) }
 {
