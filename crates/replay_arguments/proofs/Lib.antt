@@ -5,4 +5,3 @@ pub mod Refusals
 pub mod Summaries
 pub mod Openings
 pub mod Explaining
-pub mod Asked
