@@ -8,7 +8,7 @@ ghost use Rattle.replay_arguments.specs.Opening.{opening_line, replies_of};
 
 use itoa::Buffer;
 use replay_output::{StartError, Status, begin_line, print_start_error};
-use std::alloc::{AllocError, Global};
+use std::alloc::Global;
 use wire::{Failed, Sink, write_all};
 
 mod files;
