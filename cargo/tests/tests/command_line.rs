@@ -32,7 +32,17 @@ fn options_text(line: &CommandLine) -> String {
     let summary = line.summary.map_or(String::new(), |form| format!(" summary {form:?}"));
     let names = line.replies.iter().chain(line.records.iter());
     let names: String = names.map(|name| format!(" {name}")).collect();
-    format!(" {capacity} {window} {limit}{form}{}{streamed}{summary}{names}", filter_text(&style.filter))
+    let details = details_text(line);
+    format!(" {capacity} {window} {limit}{form}{}{streamed}{summary}{names}{details}", filter_text(&style.filter))
+}
+
+fn details_text(line: &CommandLine) -> String {
+    let output = line.output.map(|name| format!(" to {name}"));
+    let summary = line.summary_to.map(|file| format!(" summary {:?} to {}", file.form, file.name));
+    let top = line.top.map(|top| format!(" top {top}"));
+    let reports = line.reports_all.then(|| " reports".to_owned());
+    let verbose = line.is_verbose.then(|| " verbose".to_owned());
+    [output, summary, top, reports, verbose].into_iter().flatten().collect()
 }
 
 fn filter_text(filter: &Filter) -> String {
@@ -120,6 +130,27 @@ fn refused_words() {
         "--summary --quiet f",
         "--summary --only tooold f",
         "--summary --versions .. f",
+        "-o r",
+        "f -o",
+        "-o r --output s f",
+        "--summary-to r",
+        "--summary-to r --summary-to s f",
+        "--summary-to r --summary f",
+        "--summary-to r --check s f",
+        "--summary-to r --stream f",
+        "--summary-to r --frames f",
+        "--top 5 f",
+        "--top 5 --stream f",
+        "--top 0 --summary f",
+        "--top 1001 --summary f",
+        "--top -1 --summary f",
+        "--top many --summary f",
+        "--top 5 --top 5 --summary f",
+        "--report-all --report-all f",
+        "--report-all=yes f",
+        "--report-all --check r f",
+        "--verbose --verbose f",
+        "--verbose=yes f",
     ] {
         refuses(given);
     }
@@ -140,6 +171,12 @@ fn reasons_of_refusals() {
             "--summary --quiet f",
             "error: --summary is wanted without --check, --stream, --frames, --quiet, --only and --versions\n",
         ),
+        (
+            "--summary-to r --stream f",
+            "error: --summary-to is wanted without --check, --stream, --summary and --frames\n",
+        ),
+        ("--top 5 f", "error: --top is wanted with --summary or --summary-to\n"),
+        ("--report-all --check r f", "error: --report-all is wanted without --check\n"),
         ("--replies r f", "error: --replies OUT is wanted with --stream\n"),
         ("--stream --replies r f g", "error: --replies OUT is wanted once a file\n"),
         ("- f -", "error: standard input (-) can be given only once\n"),
@@ -175,6 +212,25 @@ fn words_and_options() {
         ("--replies r a --stream --json", "a | 16 5000000 1000000 json stream r"),
         ("--stream --replies - a --replies=s b", "a b | 16 5000000 1000000 stream - s"),
         ("--capacity=1024 --window 1099511627776 --limit 16777216 a", "a | 1024 1099511627776 16777216"),
+        ("-o r a", "a | 16 5000000 1000000 to r"),
+        ("a --output=r --frames", "a | 16 5000000 1000000 frames to r"),
+        ("-or a --check s", "a | 16 5000000 1000000 check s to r"),
+        ("--stream a --output - --replies s", "a | 16 5000000 1000000 stream s to -"),
+        ("--summary -o r a", "a | 16 5000000 1000000 summary Words to r"),
+        ("--explain --output r a", "a | 16 5000000 1000000 to r"),
+        ("--summary-to r a", "a | 16 5000000 1000000 summary Words to r"),
+        ("a --json --summary-to=r", "a | 16 5000000 1000000 json summary Json to r"),
+        ("--summary-to r --quiet --only tooold a", "a | 16 5000000 1000000 quiet only TooOld summary Words to r"),
+        ("--explain --summary-to r -o s a", "a | 16 5000000 1000000 to s summary Words to r"),
+        ("--top 1 --summary a", "a | 16 5000000 1000000 summary Words top 1"),
+        ("--summary --json --top=+01000 a", "a | 16 5000000 1000000 json summary Json top 1000"),
+        ("--top 20 --summary-to r a", "a | 16 5000000 1000000 summary Words to r top 20"),
+        ("--report-all a", "a | 16 5000000 1000000 reports"),
+        ("--frames --stream a --report-all", "a | 16 5000000 1000000 frames stream reports"),
+        ("--report-all --summary a", "a | 16 5000000 1000000 summary Words reports"),
+        ("--explain --report-all a", "a | 16 5000000 1000000 reports"),
+        ("--verbose a", "a | 16 5000000 1000000 verbose"),
+        ("--check r --verbose a", "a | 16 5000000 1000000 check r verbose"),
     ] {
         assert_eq!(read(given), expected);
     }

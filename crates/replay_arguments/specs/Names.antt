@@ -1,10 +1,10 @@
 -- The names of files that are found among the arguments.
-use Rattle.std.specs.Prelude.{◌≡◌, ◌≤◌, ◌⊎◌, ℕ, List, true, Some, codes, length, map}
+use Rattle.std.specs.Prelude.{◌≡◌, ◌≤◌, ◌⊎◌, ℕ, List, true, Some, codes, is_some, length, map, option_map}
 use Rattle.std.specs.Borrow.{Bor}
-use Rattle.clap.specs.Words.{Row, all_of}
+use Rattle.clap.specs.Words.{Row, all_of, first_of}
 use Rattle.resolver.specs.declared.resolver_core.TheConstants.{MAX_PROXIES}
 use Rattle.replay_output.specs.declared.options.form.Form.TheVariants.{Kept}
-use Rattle.replay_arguments.specs.Words.{HasInputOnce, named}
+use Rattle.replay_arguments.specs.Words.{HasInputOnce, HoldsSummaryFile, IsBeside, named}
 use Rattle.replay_arguments.specs.declared.arguments.names.Names.{Names}
 use Rattle.replay_arguments.specs.declared.arguments.printing.Printing.{Printing}
 
@@ -24,3 +24,6 @@ pub record HoldsNames (rows : List Row) (printing : Printing) (names : Names) : 
   pub records : texts names.records ≡ named (all_of (codes "replies") rows)
   pub records_each : (length names.records.now ≡ 0)
       ⊎ ((printing.is_streamed ≡ true) × (length names.records.now ≡ length names.files.now))
+  pub output : first_of (codes "output") rows ≡ option_map (λ name. name.now) names.output
+  pub summary : HoldsSummaryFile rows printing.style.form names.summary
+  pub beside : is_some names.summary ≡ true → IsBeside rows

@@ -21,6 +21,8 @@ use Rattle.replay_output.specs.declared.options.Options.{Options}
 use Rattle.replay_summary.specs.declared.text.SummaryForm.{SummaryForm}
 use Rattle.replay_summary.specs.declared.text.SummaryForm.TheVariants as summaries
 use Rattle.replay_arguments.specs.Command.{replay_app}
+use Rattle.replay_arguments.specs.declared.arguments.details.TheConstants.{MAX_TOP}
+use Rattle.replay_arguments.specs.declared.arguments.summary_file.SummaryFile.{SummaryFile}
 use Rattle.replay_arguments.specs.declared.arguments.refusal.Refusal.{Refusal}
 use Rattle.replay_arguments.specs.declared.arguments.refusal.Refusal.TheVariants.{Memory, Refused, Shown}
 
@@ -257,6 +259,65 @@ pub record IsPlain (rows : List Row) : Type 0 where
 abbrev pub HasExplain : List Row → Type 0
 HasExplain rows = (explains : Bool) × HoldsExplain rows explains × (explains ≡ true → IsPlain rows)
 
+-- The file for the summary that is found. The form of the summary is that of the lines.
+abbrev pub HoldsSummaryFile : List Row → Form → Option SummaryFile → Type 0
+HoldsSummaryFile rows form None = first_of (codes "summary-to") rows ≡ None
+HoldsSummaryFile rows form (Some file) =
+    (first_of (codes "summary-to") rows ≡ Some file.name.now) × (summary_form form ≡ Some file.form)
+
+-- lines of words or JSON are found to be printed, once all was resolved
+pub record IsBeside (rows : List Row) : Type 0 where
+  pub frames : one_of (codes "frames") rows ≡ Some (bool_text false)
+  pub check : is_some (all_of (codes "check") rows) ≡ false
+  pub stream : HoldsStream rows false
+  pub summary : one_of (codes "summary") rows ≡ Some (bool_text false)
+
+-- a file for the summary is found beside such lines alone
+abbrev pub HasSummaryFile : List Row → Type 0
+HasSummaryFile rows = is_some (first_of (codes "summary-to") rows) ≡ true → IsBeside rows
+
+-- the text of a number from 1 to `MAX_TOP`
+abbrev pub IsTopOf : List ℕ → ℕ → Type 0
+IsTopOf text top = IsUnsignedIn 1 MAX_TOP text × (top ≡ digits_value 10 (without_leading_plus text))
+
+-- the number that is found, if one is given
+abbrev pub IsTop : Option (List ℕ) → Option ℕ → Type 0
+IsTop None None = ⊤
+IsTop (Some text) (Some top) = IsTopOf text top
+IsTop _ _ = ⊥
+
+-- how many ranges are found to be listed
+abbrev pub HoldsTop : List Row → Option ℕ → Type 0
+HoldsTop rows top = IsTop (first_of (codes "top") rows) top
+
+-- a summary is found to be printed instead of answers
+abbrev pub IsSummarized : List Row → Type 0
+IsSummarized rows = one_of (codes "summary") rows ≡ Some (bool_text true)
+
+-- a summary is found to be printed, or written to a file
+abbrev pub HasSomeSummary : List Row → Type 0
+HasSomeSummary rows = IsSummarized rows ⊎ (is_some (first_of (codes "summary-to") rows) ≡ true)
+
+-- how many ranges are to be listed is found or not, and if it is, a summary too
+abbrev pub HasTop : List Row → Type 0
+HasTop rows = ((top : Option ℕ) × HoldsTop rows top) × (is_some (first_of (codes "top") rows) ≡ true → HasSomeSummary rows)
+
+-- whether every report is found to be requested
+abbrev pub HoldsReportAll : List Row → Bool → Type 0
+HoldsReportAll rows reports = one_of (codes "report-all") rows ≡ Some (bool_text reports)
+
+-- every report is found to be requested or not, and if it is, answers aren't compared
+abbrev pub HasReportAll : List Row → Type 0
+HasReportAll rows = (reports : Bool) × HoldsReportAll rows reports
+    × (reports ≡ true → is_some (all_of (codes "check") rows) ≡ false)
+
+-- whether messages are found to say what to do
+abbrev pub HoldsVerbose : List Row → Bool → Type 0
+HoldsVerbose rows verbose = one_of (codes "verbose") rows ≡ Some (bool_text verbose)
+
+abbrev pub HasVerbose : List Row → Type 0
+HasVerbose rows = (verbose : Bool) × HoldsVerbose rows verbose
+
 -- What the options that are found ask to print is of no use: two forms, a filter that is none or beside a comparison, answers that are
 -- to be compared as they come, a summary beside another option that says what to print, or explanations without lines of words.
 pub data PrintsNothing (rows : List Row) : Type 0 where
@@ -267,16 +328,25 @@ pub data PrintsNothing (rows : List Row) : Type 0 where
   no_explanations : ¬ (HasExplain rows) → PrintsNothing rows
 
 -- The names that are found are of no use: no files or too many, standard input twice, other than one file of replies a file, or other
--- than one file for records a file.
+-- than one file for records a file, or a file for the summary without lines of words or JSON at the end.
 pub data NamesNothing (rows : List Row) : Type 0 where
   no_files : ¬ (HasFiles rows) → NamesNothing rows
   no_input : ¬ (HasInputOnce rows) → NamesNothing rows
   no_replies : ¬ (HasRepliesEach rows) → NamesNothing rows
   no_records : ¬ (HasRecordsEach rows) → NamesNothing rows
+  no_summary_file : ¬ (HasSummaryFile rows) → NamesNothing rows
 
--- the arguments that are found are of no use: what to print, the names, or a number out of its range
+-- The details that are found are of no use: ranges without a summary, every report of answers that are to be compared, or a value of
+-- `--verbose`.
+pub data DetailsNothing (rows : List Row) : Type 0 where
+  no_top : ¬ (HasTop rows) → DetailsNothing rows
+  no_reports : ¬ (HasReportAll rows) → DetailsNothing rows
+  no_verbose : ¬ (HasVerbose rows) → DetailsNothing rows
+
+-- the arguments that are found are of no use: what to print, its details, the names, or a number out of its range
 pub data IsOfNoUse (rows : List Row) : Type 0 where
   no_printing : PrintsNothing rows → IsOfNoUse rows
+  no_details : DetailsNothing rows → IsOfNoUse rows
   no_numbers : ¬ (HasNumbers rows) → IsOfNoUse rows
   no_names : NamesNothing rows → IsOfNoUse rows
 

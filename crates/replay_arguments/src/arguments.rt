@@ -1,13 +1,15 @@
 //! The words of the command line.
 
 ghost use Rattle.std.specs.Prelude.{◌≡◌, ◌≢◌, ◌≤◌, ◌⊎◌, IfErr, IfOk, OnOk, Some, codes, is_some};
-ghost use Rattle.std.specs.Prelude.{map, string_bytes, true, vec_len};
-ghost use Rattle.clap.specs.Words.{all_of, found_of, rows_of};
+ghost use Rattle.std.specs.Prelude.{false, map, option_map, string_bytes, true, vec_len};
+ghost use Rattle.clap.specs.Words.{all_of, first_of, found_of, rows_of};
 ghost use Rattle.replay_arguments.specs.Asked.{IsLineOf};
 ghost use Rattle.replay_arguments.specs.Words.{AsksForAll, AsksForText, HasInputOnce, HoldsExplain};
 ghost use Rattle.replay_arguments.specs.Words.{HoldsOptions, HoldsStream, HoldsSummary, IsAlone};
 ghost use Rattle.replay_arguments.specs.Words.{IsMistaken, IsPlain, IsRefusalBy, IsTaken};
-ghost use Rattle.replay_arguments.specs.Words.{faults_of, named, rows_of_words};
+ghost use Rattle.replay_arguments.specs.Words.{HasSomeSummary, HoldsReportAll, HoldsSummaryFile};
+ghost use Rattle.replay_arguments.specs.Words.{HoldsTop, HoldsVerbose, IsBeside, faults_of, named};
+ghost use Rattle.replay_arguments.specs.Words.{rows_of_words};
 
 use crate::arguments::asked::{Asked, asked_of};
 use clap::ArgMatches;
@@ -18,16 +20,21 @@ use std::alloc::{AllocError, Global};
 
 mod asked;
 mod command;
+mod details;
 mod explaining;
 mod filtering;
+mod flag;
 mod input;
 mod mistake;
 mod names;
 mod printing;
 mod refusal;
 mod summary;
+mod summary_file;
 
+pub use details::MAX_TOP;
 pub use refusal::Refusal;
+pub use summary_file::SummaryFile;
 
 /// What the command line asks for. `Options` keeps its numbers within their ranges.
 #[derive(Debug, Drop)]
@@ -47,6 +54,17 @@ pub struct CommandLine<'a> {
     pub summary: Option<SummaryForm>,
     /// Rejections are explained.
     pub explains: bool,
+    /// The name of the file for the output, if it isn't standard output.
+    pub output: Option<&'a str>,
+    /// The file for the summary that is written beside the lines, if one is requested.
+    pub summary_to: Option<SummaryFile<'a>>,
+    /// How many of the ranges that conflict most the summary lists, from 1 to [`MAX_TOP`], if a
+    /// number is given.
+    pub top: Option<usize>,
+    /// Every transaction's report is requested.
+    pub reports_all: bool,
+    /// Messages say what happened, and what to do.
+    pub is_verbose: bool,
     pub options: Options,
 }
 
@@ -84,6 +102,24 @@ pub fn read_words<'a>(alloc: Global, words: &'a [String]) -> Result<CommandLine<
         HoldsExplain (rows_of_words (map string_bytes words.entry.now)) line.explains) }
     ensures explained_plain { IfOk result (λ line. line.explains ≡ true
         → IsPlain (rows_of_words (map string_bytes words.entry.now))) }
+    ensures output { IfOk result (λ line.
+        first_of (codes "output") (rows_of_words (map string_bytes words.entry.now))
+        ≡ option_map (λ name. name.now) line.output) }
+    ensures summary_file { IfOk result (λ line.
+        HoldsSummaryFile (rows_of_words (map string_bytes words.entry.now))
+        line.options.style.form line.summary_to) }
+    ensures beside { IfOk result (λ line. is_some line.summary_to ≡ true
+        → IsBeside (rows_of_words (map string_bytes words.entry.now))) }
+    ensures top { IfOk result (λ line.
+        HoldsTop (rows_of_words (map string_bytes words.entry.now)) line.top) }
+    ensures summarized { IfOk result (λ line. is_some line.top ≡ true
+        → HasSomeSummary (rows_of_words (map string_bytes words.entry.now))) }
+    ensures reports { IfOk result (λ line.
+        HoldsReportAll (rows_of_words (map string_bytes words.entry.now)) line.reports_all) }
+    ensures reported { IfOk result (λ line. line.reports_all ≡ true → is_some
+        (all_of (codes "check") (rows_of_words (map string_bytes words.entry.now))) ≡ false) }
+    ensures verbose { IfOk result (λ line.
+        HoldsVerbose (rows_of_words (map string_bytes words.entry.now)) line.is_verbose) }
     ensures taken { OnOk result (IsTaken (map string_bytes words.entry.now)) }
     ensures shown { (text : _) → result ≡ Err (Refusal.Shown text)
         → AsksForText (map string_bytes words.entry.now) }
@@ -108,6 +144,11 @@ impl<'a> CommandLine<'a> {
             records: Vec::from_slice(alloc, asked.names.records)?,
             summary: asked.printing.summary,
             explains: asked.printing.explains,
+            output: asked.names.output,
+            summary_to: asked.names.summary,
+            top: asked.details.top,
+            reports_all: asked.details.reports_all,
+            is_verbose: asked.details.is_verbose,
             options: asked.options,
         })
     }

@@ -9,7 +9,7 @@
 mod arguments;
 mod opening;
 
-pub use arguments::{CommandLine, Refusal, read_words};
+pub use arguments::{CommandLine, MAX_TOP, Refusal, SummaryFile, read_words};
 pub use opening::{
     FileError, Files, OpeningError, STANDARD_INPUT, create_files, fail_to_create, fail_to_open,
     open_files,

@@ -5,10 +5,12 @@ ghost use Rattle.clap.specs.Words.{app_of, rule_of};
 ghost use Rattle.replay_arguments.specs.Command.{capacity_rule, check_rule, explain_rule};
 ghost use Rattle.replay_arguments.specs.Command.{file_rule, frames_rule, json_rule, limit_rule};
 ghost use Rattle.replay_arguments.specs.Command.{number_rule};
-ghost use Rattle.replay_arguments.specs.Command.{only_rule, quiet_rule, replay_app, replies_rule};
-ghost use Rattle.replay_arguments.specs.Command.{stream_rule, summary_rule, versions_rule};
-ghost use Rattle.replay_arguments.specs.Command.{window_rule};
+ghost use Rattle.replay_arguments.specs.Command.{only_rule, output_rule, quiet_rule, replay_app};
+ghost use Rattle.replay_arguments.specs.Command.{replies_rule, report_all_rule, stream_rule};
+ghost use Rattle.replay_arguments.specs.Command.{summary_rule, summary_to_rule, top_rule};
+ghost use Rattle.replay_arguments.specs.Command.{verbose_rule, versions_rule, window_rule};
 
+use crate::arguments::details::MAX_TOP;
 use clap::builder::ValueParser;
 use clap::{Arg, ArgAction, Command};
 use conflict::MAX_WINDOW;
@@ -44,6 +46,11 @@ pub fn command<'a>(alloc: Global) -> Result<Command<'a>, AllocError>
         .arg(check(alloc))?
         .arg(stream(alloc))?
         .arg(replies(alloc))?
+        .arg(output(alloc))?
+        .arg(summary_to(alloc))?
+        .arg(top(alloc))?
+        .arg(report_all(alloc))?
+        .arg(verbose(alloc))?
         .arg(file(alloc))
 }
 
@@ -189,6 +196,58 @@ fn replies<'a>(alloc: Global) -> Arg<'a>
         .value_name("OUT")
         .action(ArgAction::Append)
         .help("With --stream, writes the records of answers to a file; once a FILE, in order")
+}
+
+fn output<'a>(alloc: Global) -> Arg<'a>
+    ensures rule { rule_of result ≡ output_rule }
+    ensures local { result.global ≡ false }
+{
+    Arg::new(alloc, "output")
+        .short('o')
+        .long("output")
+        .value_name("FILE")
+        .help("Writes the output to a file instead of standard output")
+}
+
+fn summary_to<'a>(alloc: Global) -> Arg<'a>
+    ensures rule { rule_of result ≡ summary_to_rule }
+    ensures local { result.global ≡ false }
+{
+    Arg::new(alloc, "summary-to")
+        .long("summary-to")
+        .value_name("FILE")
+        .help("Writes a summary to a file, beside the answers")
+}
+
+fn top<'a>(alloc: Global) -> Arg<'a>
+    ensures rule { rule_of result ≡ top_rule }
+    ensures local { result.global ≡ false }
+{
+    Arg::new(alloc, "top")
+        .long("top")
+        .value_name("N")
+        .value_parser(ValueParser::unsigned(1, MAX_TOP as u64))
+        .help("Lists in the summary the N ranges that conflict most, from 1 to 1000")
+}
+
+fn report_all<'a>(alloc: Global) -> Arg<'a>
+    ensures rule { rule_of result ≡ report_all_rule }
+    ensures local { result.global ≡ false }
+{
+    Arg::new(alloc, "report-all")
+        .long("report-all")
+        .action(ArgAction::SetTrue)
+        .help("Reports the conflicting read ranges of every transaction")
+}
+
+fn verbose<'a>(alloc: Global) -> Arg<'a>
+    ensures rule { rule_of result ≡ verbose_rule }
+    ensures local { result.global ≡ false }
+{
+    Arg::new(alloc, "verbose")
+        .long("verbose")
+        .action(ArgAction::SetTrue)
+        .help("Says under each message what happened and what to do")
 }
 
 fn file<'a>(alloc: Global) -> Arg<'a>

@@ -27,6 +27,12 @@ pub enum Mistake {
     Summary,
     /// Explanations are requested without lines of words at the end.
     Explain,
+    /// Ranges are requested without a summary.
+    Top,
+    /// Every report is requested of answers that are to be compared.
+    ReportAll,
+    /// `--verbose` has a value. `clap` refuses it itself.
+    Verbose,
     /// A number is out of its range. `clap` refuses it itself.
     Number,
     /// There are no files, or too many.
@@ -39,6 +45,8 @@ pub enum Mistake {
     RecordsAlone,
     /// The files for records are another number than the files.
     Records,
+    /// A file for the summary is given without lines of words or JSON at the end.
+    SummaryFile,
 }
 
 impl Mistake {
@@ -66,12 +74,18 @@ impl Mistake {
             Mistake::Explain => {
                 "--explain is wanted without --check, --stream, --summary, --frames and --json"
             }
+            Mistake::Top => "--top is wanted with --summary or --summary-to",
+            Mistake::ReportAll => "--report-all is wanted without --check",
+            Mistake::Verbose => "--verbose takes no value",
             Mistake::Number => "a number is out of its range",
             Mistake::Files => "from 1 to 64 files are wanted",
             Mistake::Input => "standard input (-) can be given only once",
             Mistake::Replies => "--check REPLIES is wanted once a file",
             Mistake::RecordsAlone => "--replies OUT is wanted with --stream",
             Mistake::Records => "--replies OUT is wanted once a file",
+            Mistake::SummaryFile => {
+                "--summary-to is wanted without --check, --stream, --summary and --frames"
+            }
         }
     }
 }

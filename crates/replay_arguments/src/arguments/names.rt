@@ -5,11 +5,12 @@ ghost use Rattle.std.specs.Prelude.{length, map, true};
 ghost use Rattle.clap.specs.Words.{all_of, found_of, rows_of};
 ghost use Rattle.replay_arguments.specs.Names.{HoldsNames};
 ghost use Rattle.replay_arguments.specs.Words.{HasFiles, HasRecords, HasReplies, HoldsForm};
-ghost use Rattle.replay_arguments.specs.Words.{HoldsStream, NamesNothing, named};
+ghost use Rattle.replay_arguments.specs.Words.{HoldsStream, HoldsSummary, NamesNothing, named};
 
 use crate::arguments::input::has_input_once;
 use crate::arguments::mistake::Mistake;
 use crate::arguments::printing::Printing;
+use crate::arguments::summary_file::{SummaryFile, summary_file};
 use clap::ArgMatches;
 use replay_output::Form;
 use resolver::MAX_PROXIES;
@@ -23,6 +24,10 @@ pub struct Names<'m, 'a> {
     pub replies: &'m [&'a str],
     /// Those for records of answers, one per file if they are requested, and otherwise none.
     pub records: &'m [&'a str],
+    /// That of the file for the output, if it isn't standard output.
+    pub output: Option<&'a str>,
+    /// The file for the summary, if there is one.
+    pub summary: Option<SummaryFile<'a>>,
 }
 
 /// Returns the names, unless they are too few or too many for what is printed.
@@ -30,10 +35,14 @@ pub fn names_of<'m, 'a>(
     matches: &'m ArgMatches<'a>,
     printing: Printing,
 ) -> Result<Names<'m, 'a>, Mistake>
-    ensures names { IfOk result (HoldsNames (rows_of (found_of matches.entry.now)) printing) }
+    ensures names { HoldsForm (rows_of (found_of matches.entry.now)) printing.style.form
+        → HoldsStream (rows_of (found_of matches.entry.now)) printing.is_streamed
+        → HoldsSummary (rows_of (found_of matches.entry.now)) printing.style.form printing.summary
+        → IfOk result (HoldsNames (rows_of (found_of matches.entry.now)) printing) }
     ensures none { OnErr result (
         HoldsForm (rows_of (found_of matches.entry.now)) printing.style.form
         → HoldsStream (rows_of (found_of matches.entry.now)) printing.is_streamed
+        → HoldsSummary (rows_of (found_of matches.entry.now)) printing.style.form printing.summary
         → NamesNothing (rows_of (found_of matches.entry.now))) }
 {
     let Some(files) = files_of(matches) else {
@@ -44,10 +53,15 @@ pub fn names_of<'m, 'a>(
     }
     let replies = replies_of(matches, printing.style.form, files.len())?;
     let records = records_of(matches, printing.is_streamed, files.len())?;
+    let Some(summary) = summary_file(matches, printing) else {
+        return Err(Mistake::SummaryFile);
+    };
     Ok(Names {
         files,
         replies,
         records,
+        output: matches.get_str("output"),
+        summary,
     })
 }
 

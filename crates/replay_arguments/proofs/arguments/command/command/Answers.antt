@@ -31,8 +31,13 @@ returns c =
     let eleven = c.in_ok-arg-11.ensures.shape c.check.ensures.local ∙ ap₂ with_rule ten c.check.ensures.rule in
     let twelve = c.in_ok-arg-12.ensures.shape c.stream.ensures.local ∙ ap₂ with_rule eleven c.stream.ensures.rule in
     let thirteen = c.in_ok-arg-13.ensures.shape c.replies.ensures.local ∙ ap₂ with_rule twelve c.replies.ensures.rule in
+    let fourteen = c.in_ok-arg-14.ensures.shape c.output.ensures.local ∙ ap₂ with_rule thirteen c.output.ensures.rule in
+    let fifteen = c.in_ok-arg-15.ensures.shape c.summary_to.ensures.local ∙ ap₂ with_rule fourteen c.summary_to.ensures.rule in
+    let sixteen = c.in_ok-arg-16.ensures.shape c.top.ensures.local ∙ ap₂ with_rule fifteen c.top.ensures.rule in
+    let seventeen = c.in_ok-arg-17.ensures.shape c.report_all.ensures.local ∙ ap₂ with_rule sixteen c.report_all.ensures.rule in
+    let eighteen = c.in_ok-arg-18.ensures.shape c.verbose.ensures.local ∙ ap₂ with_rule seventeen c.verbose.ensures.rule in
     record {
-      app = IfOk-weaker c.arg-14.result _ _
-          (λ command added. added.shape c.file.ensures.local ∙ ap₂ with_rule thirteen c.file.ensures.rule)
-          c.arg-14.ensures;
+      app = IfOk-weaker c.arg-19.result _ _
+          (λ command added. added.shape c.file.ensures.local ∙ ap₂ with_rule eighteen c.file.ensures.rule)
+          c.arg-19.ensures;
     }
