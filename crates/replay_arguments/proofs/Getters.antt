@@ -99,18 +99,18 @@ is_some_mapped f None = refl
 is_some_mapped f (Some a) = refl
 
 -- the flag that is found is the one that was read
-pub flag_read : {E : Type 0} (found : Found) (id : List ℕ) (read : Option Bool) → (one_text found id ≡ None → read ≡ None)
+pub flag_read : (E : Type 0) (found : Found) (id : List ℕ) (read : Option Bool) → (one_text found id ≡ None → read ≡ None)
     → ((text : List ℕ) → one_text found id ≡ Some text → ReadsOne (ParsesBool {E = E}) text read)
     → IfSome read (λ on. one_of id (rows_of found) ≡ Some (bool_text on))
-flag_read {E} found id None none value = tt
-flag_read {E} found id (Some on) none value =
+flag_read E found id None none value = tt
+flag_read E found id (Some on) none value =
     text_read {E = E} found id ParsesBool bool_text on none value (λ text parses. text_of_bool on text parses)
 
 -- if none was read, none is found
-pub no_flag : {E : Type 0} (found : Found) (id : List ℕ) (read : Option Bool)
+pub no_flag : (E : Type 0) (found : Found) (id : List ℕ) (read : Option Bool)
     → ((text : List ℕ) → one_text found id ≡ Some text → ReadsOne (ParsesBool {E = E}) text read)
     → (on : Bool) → read ≡ None → ¬ (one_of id (rows_of found) ≡ Some (bool_text on))
-no_flag {E} found id read value on none is =
+no_flag E found id read value on none is =
     let reads = has_read {E = E} found id ParsesBool read value (λ text. (b : Bool) × (text ≡ bool_text b)) (λ b. Unit {0})
     (λ text b inside parses. tt) (λ text e inside parses. bool_err text e inside parses) (bool_text on, is, (on, refl)) in
     let bad : None ≡ Some reads.0 = sym none ∙ reads.1 in

@@ -1,5 +1,4 @@
 use Rattle.std.proofs.Common.{◌≡◌, ◌∙◌, ap, sym}
-use Rattle.std.specs.Prelude.{true}
 use Rattle.std.proofs.lemmas.Bool.{false≢true}
 use Rattle.replay_arguments.specs.Words.{is_kept}
 use Rattle.replay_arguments.proofs.Getters.{bool_text_same}

@@ -5,7 +5,7 @@ use Rattle.replay_arguments.proofs.arguments.flag.flag.Goals as goal
 
 pub returns : goal.returns
 returns c = record {
-  flag = flag_read {E = ParseBoolError} (found_of c.args.matches.now) c.args.name.now c.get_one.result
+  flag = flag_read ParseBoolError (found_of c.args.matches.now) c.args.name.now c.get_one.result
       c.get_one.ensures.none c.get_one.ensures.value;
-  none = no_flag {E = ParseBoolError} (found_of c.args.matches.now) c.args.name.now c.get_one.result c.get_one.ensures.value;
+  none = no_flag ParseBoolError (found_of c.args.matches.now) c.args.name.now c.get_one.result c.get_one.ensures.value;
 }
