@@ -10,6 +10,8 @@ mod Reports
 mod Misfits
 mod Together
 mod Going
+mod Among
+mod AmongOthers
 mod NoMore
 mod BuiltTables
 mod KeyOrders
