@@ -1,38 +1,41 @@
 -- The answers of all shards to a batch as one. That a transaction commits if all resolvers admit it is FoundationDB's. What becomes of
 -- a batch that some shard doesn't reply to is this project's own.
-use Rattle.std.specs.Prelude.{◌≡◌, ◌⊎◌, ℕ, ℤ, List, [], Option, None, Some, IfSome, IfNone, map, option_map, ⊤, ⊥}
-use Rattle.std.specs.List.{All, Any, AllZip}
+use Rattle.std.specs.Prelude.{◌≡◌, ℕ, ℤ, List, [], ◌∷◌, length, map, Option, None, Some, option_map, slice_get, ⊤}
+use Rattle.std.specs.List.{All, Any}
 use Rattle.keyspace.specs.declared.answer.Answer.{Answer}
 use Rattle.keyspace.specs.declared.answer.Answer.TheVariants as answer
-use Rattle.keyspace.specs.declared.batch.Batch.{Batch}
 use Rattle.keyspace.specs.declared.reply.Entry.{Entry}
 use Rattle.keyspace.specs.declared.reply.Reply.{Reply}
 use Rattle.shards.specs.declared.shard_reply.ShardReply.{ShardReply}
-use Rattle.shards.specs.Combined.{Fits, IsCombined}
-use Rattle.replay_shards.specs.declared.entries.ShardEntries.{ShardEntries}
+use Rattle.shards.specs.Combined.{HasPlaces, IsCombinedEntry}
+use Rattle.replay_shards.specs.declared.noted_reply.NotedReply.{NotedReply}
 
--- the entries of a shard's reply, and the original indices of its read ranges, if the batch has a note
-pub record EntriesOf : Type 0 where
-  pub entries : List Entry
-  pub reads : Option (List (List ℕ))
+-- A shard's reply beside the note of the batch, as `shards` combines it. Without a note the shard can report no read range.
+abbrev pub noted : Reply → Option (List (List ℕ)) → ShardReply
+noted reply None = record { reply = reply; reads = map (λ e. []) reply.entries }
+noted reply (Some reads) = record { reply = reply; reads = reads }
 
-abbrev pub entries_in : ShardEntries → EntriesOf
-entries_in own = record { entries = own.entries.now; reads = option_map (λ reads. reads.now) own.reads }
+abbrev pub noted_in : NotedReply → ShardReply
+noted_in own = noted own.reply.now (option_map (λ reads. reads.now) own.reads)
 
-abbrev pub entries_of : List ShardEntries → List EntriesOf
-entries_of each = map entries_in each
+abbrev pub noted_each : List NotedReply → List ShardReply
+noted_each each = map noted_in each
 
--- this is the reply of the shard: without a note, nothing is reported
-pub record AgreesWith (own : EntriesOf) (s : ShardReply) : Type 0 where
-  pub entries : s.reply.entries ≡ own.entries
-  pub noted : IfSome own.reads (λ reads. s.reads ≡ reads)
-  pub not_noted : IfNone own.reads (All (λ e. e.places ≡ []) own.entries)
+-- this can be the reply to a batch with that many transactions, and the note of it
+pub record FitsIn (count : ℕ) (s : ShardReply) : Type 0 where
+  pub entries : length s.reply.entries ≡ count
+  pub reads : length s.reads ≡ count
+  pub places : HasPlaces s
 
--- these are replies of all shards to some batch of this version
-pub record DoFit (version : ℤ) (each : List EntriesOf) (b : Batch) (replies : List ShardReply) : Type 0 where
-  pub of_version : b.version ≡ version
-  pub agree : AllZip AgreesWith each replies
-  pub fit : All (Fits b) replies
+-- these can be the replies of all shards to one batch
+abbrev pub AreOfOneBatch : List ShardReply → Type 0
+AreOfOneBatch each = (count : ℕ) × All (FitsIn count) each
+
+-- the reply of all shards to the batch of this version: `IsCombined` of `shards`, without the batch
+pub record IsReplyTogether (version : ℤ) (each : List ShardReply) (reply : Reply) : Type 0 where
+  pub version : reply.version ≡ version
+  pub count : All (λ s. length s.reply.entries ≡ length reply.entries) each
+  pub entries : (j : ℕ) (e : Entry) → slice_get reply.entries j ≡ Some e → IsCombinedEntry each j e
 
 abbrev pub IsNever : Answer → Type 0
 IsNever (answer.Reply reply) = ⊥
@@ -44,21 +47,19 @@ IsHeld (answer.Reply reply) = ⊥
 IsHeld (answer.Never version) = ⊥
 IsHeld (answer.Held version) = ⊤
 
--- the answer is this reply
-abbrev pub Replies : Answer → EntriesOf → Type 0
-Replies (answer.Reply reply) own = reply.entries ≡ own.entries
-Replies (answer.Never version) own = ⊥
-Replies (answer.Held version) own = ⊥
+-- every shard has replied, and these are the replies, each beside the shard's note of the batch
+abbrev pub HaveReplied : List Answer → List (Option (List (List ℕ))) → List ShardReply → Type 0
+HaveReplied [] [] [] = ⊤
+HaveReplied (answer.Reply reply ∷ answers) (note ∷ notes) (s ∷ each) = (s ≡ noted reply note) × HaveReplied answers notes each
+HaveReplied _ _ _ = ⊥
 
--- the shards have replied with these entries, beside these notes of the batch
-abbrev pub HaveReplied : List Answer → List (Option (List (List ℕ))) → List EntriesOf → Type 0
-HaveReplied answers notes each = AllZip Replies answers each × (map (λ own. own.reads) each ≡ notes)
-
--- The answer to batch b: `Never` if a shard says so, otherwise `Held` if one says so, otherwise the combined reply.
-pub record IsAnswerTogether (b : Batch) (answers : List Answer) (notes : List (Option (List (List ℕ)))) (together : Answer)
+-- The answer of all shards to the batch of this version: `Never` if a shard says so, otherwise `Held` if one says so, otherwise the
+-- combined reply. If they have replied to different batches of this version, the answer is `Never` too.
+pub record IsAnswerTogether (version : ℤ) (answers : List Answer) (notes : List (Option (List (List ℕ)))) (together : Answer)
     : Type 0 where
-  pub never : Any IsNever answers → together ≡ answer.Never b.version
-  pub held : ¬ (Any IsNever answers) → Any IsHeld answers → together ≡ answer.Held b.version
+  pub never : Any IsNever answers → together ≡ answer.Never version
+  pub held : ¬ (Any IsNever answers) → Any IsHeld answers → together ≡ answer.Held version
   pub reply :
-      (each : List EntriesOf) (replies : List ShardReply) → HaveReplied answers notes each → DoFit b.version each b replies
-      → (reply : Reply) × (together ≡ answer.Reply reply) × IsCombined b replies reply
+      (each : List ShardReply) → HaveReplied answers notes each → AreOfOneBatch each
+      → (reply : Reply) × (together ≡ answer.Reply reply) × IsReplyTogether version each reply
+  pub misfit : (each : List ShardReply) → HaveReplied answers notes each → ¬ AreOfOneBatch each → together ≡ answer.Never version

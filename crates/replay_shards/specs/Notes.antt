@@ -1,6 +1,7 @@
 -- What is kept beside clips, so that reports get the indices of the original batches. This project's own.
-use Rattle.std.specs.Prelude.{◌≡◌, ℕ, ℤ, Bool, true, false, if◌then◌else◌, int_eq, List, [], ◌∷◌, map, list_any, Option, None, Some}
-use Rattle.std.specs.List.{flat_map}
+use Rattle.std.specs.Prelude.{◌≡◌, ℕ, ℤ, Bool, true, false, if◌then◌else◌, List, [], ◌∷◌, map, Option, None, Some}
+use Rattle.std.specs.List.{flat_map, list_any}
+use Rattle.std.specs.Ordering.{int_eq}
 use Rattle.keyspace.specs.declared.batch.Batch.{Batch}
 use Rattle.keyspace.specs.declared.txn.Txn.{Txn}
 use Rattle.serial.specs.Shards.{Shard}
@@ -33,3 +34,7 @@ are_notes_of shard batches notes = notes ≡ notes_of shard batches
 abbrev pub first_note : ℤ → List Note → Option (List (List ℕ))
 first_note version [] = None
 first_note version (note ∷ notes) = if int_eq note.version version then Some note.reads else first_note version notes
+
+-- of each shard
+abbrev pub first_notes : ℤ → List (List Note) → List (Option (List (List ℕ)))
+first_notes version notes = map (first_note version) notes

@@ -1,5 +1,5 @@
 -- Split points as lines of a file: each is a key in its printed form. This project's own.
-use Rattle.std.specs.Prelude.{◌≡◌, ◌⊎◌, ℕ, List, [], ◌∷◌, ◌++◌, Some}
+use Rattle.std.specs.Prelude.{◌≡◌, ◌⊎◌, ℕ, ◌<◌, List, [], ◌∷◌, ◌++◌, length, Some}
 use Rattle.std.specs.Io.BufRead.{take_through}
 use Rattle.keys.specs.declared.key.TheConstants.{MAX_KEY_LENGTH}
 use Rattle.json_lines.specs.Ranges.{key_within}
@@ -13,5 +13,5 @@ IsPointLine line key =
 abbrev pub ArePointLines : List ℕ → List (List ℕ) → Type 0
 ArePointLines bytes [] = bytes ≡ []
 ArePointLines bytes (key ∷ keys) =
-    (rest : List ℕ) × (bytes ≡ take_through 10 bytes ++ rest) × IsPointLine (take_through 10 bytes) key
+    (rest : List ℕ) × (0 < length bytes) × (bytes ≡ take_through 10 bytes ++ rest) × IsPointLine (take_through 10 bytes) key
     × ArePointLines rest keys

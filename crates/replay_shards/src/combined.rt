@@ -1,14 +1,22 @@
 //! What all shards have answered together.
 
-ghost use Rattle.std.specs.Prelude.{◌≡◌, ◌≤◌, ◌↔◌, [], IfOk, map, true, vec_capacity, vec_items};
+ghost use Rattle.std.specs.Prelude.{◌≡◌, ◌<◌, ◌≤◌, ◌↔◌, [], IfOk, map, true, vec_capacity, vec_items};
 ghost use Rattle.std.specs.Prelude.{vec_len};
 ghost use Rattle.std.specs.List.{All};
-ghost use Rattle.replay_output.specs.Line.{AreLines, answers_of};
-ghost use Rattle.replay_shards.specs.Combined.{AreAnswersTogether, IsFirstStop, IsFailureTogether};
+ghost use Rattle.keyspace.specs.Answer.{version_of_answer};
+ghost use Rattle.checking.specs.InOrder.{Rise, in_order_by};
+ghost use Rattle.replay_output.specs.Line.{AreLines, answer_of, answers_of, version_of_line};
+ghost use Rattle.replay_shards.specs.Combined.{AreAnswersTogether, IsFailureTogether, IsFirstStop};
+ghost use Rattle.replay_shards.specs.Combined.{IsKept, IsOfProxies, proxies_of};
+ghost use Rattle.replay_shards.specs.Notes.{version_of_note};
 
-use crate::merging::{ShardAnswers, merge_answers};
+use crate::merging::merge_answers;
+use crate::note::Note;
 use crate::runs::ShardRun;
+use checking::sort_by_version;
+use keyspace::Answer;
 use replay_output::{Line, ProxyFailure, Style};
+use replay_summary::Outcome;
 use resolver::Stop;
 use std::alloc::{AllocError, Global};
 use std::mem;
@@ -52,7 +60,8 @@ impl Combined {
 }
 
 /// Combines what the shards have answered. If memory is refused for the lines of a proxy, that proxy
-/// has a loss, and the lines of its first versions remain.
+/// has a loss, and the lines of its first versions remain. The runs are of the same proxies, and
+/// there is room for as many.
 pub fn combine_runs<S: Source>(
     alloc: Global,
     style: Style,
@@ -60,7 +69,12 @@ pub fn combine_runs<S: Source>(
     room: Combined,
 ) -> Combined
     requires some { 1 ≤ vec_len runs }
-    ensures answers { AreAnswersTogether runs.items (map answers_of (map vec_items result.lines.items))
+    requires proxies { All (IsOfProxies (proxies_of runs.items)) runs.items }
+    requires room { (proxies_of runs.items ≤ vec_capacity room.lines)
+        × (proxies_of runs.items ≤ vec_capacity room.failures) }
+    requires empty { (room.lines.items ≡ []) × (room.failures.items ≡ []) }
+    ensures proxies { vec_len result.lines ≡ proxies_of runs.items }
+    ensures answers { AreAnswersTogether runs.items (map vec_items result.lines.items)
         result.failures.items }
     ensures lines { AreLines style (map vec_items result.lines.items) }
     ensures complete { result.complete ≡ true ↔ All (λ own. own.complete ≡ true) runs.items }
@@ -68,7 +82,7 @@ pub fn combine_runs<S: Source>(
 {
     let mut runs = runs;
     let mut combined = room;
-    for proxy in 0..proxies_of(&runs) {
+    for proxy in 0..runs[0].lines.len() {
         let mut lines = Vec::new(alloc);
         let mut failure = failure_of(&runs, proxy);
         if put_lines(alloc, style, proxy, &mut runs, &mut lines).is_err() {
@@ -82,15 +96,9 @@ pub fn combine_runs<S: Source>(
     combined
 }
 
-fn proxies_of<S>(runs: &[ShardRun<S>]) -> usize {
-    match runs.first() {
-        Some(first) => first.lines.len(),
-        None => 0,
-    }
-}
-
 // Returns the first fault of the proxy in the order of the shards, and whether an answer was lost.
 fn failure_of<S>(runs: &[ShardRun<S>], proxy: usize) -> ProxyFailure
+    requires within { All (λ own. proxy < vec_len own.failures) runs.now }
     ensures failure { IsFailureTogether runs.now proxy result }
 {
     let mut together = ProxyFailure {
@@ -126,11 +134,57 @@ fn put_lines<S: Source>(
     lines: &mut Vec<Line>,
 ) -> Result<(), AllocError> {
     let mut each = Vec::with_capacity(alloc, runs.len())?;
+    let mut notes = Vec::with_capacity(alloc, runs.len())?;
     for own in runs {
-        each.push_reserved(ShardAnswers {
-            lines: mem::replace(&mut own.lines[proxy], Vec::new(alloc)),
-            notes: own.batches[proxy].take_notes(),
-        });
+        let kept = mem::replace(&mut own.lines[proxy], Vec::new(alloc));
+        each.push(answers_in_order(alloc, kept)?)?;
+        notes.push(notes_in_order(alloc, own.batches[proxy].take_notes())?)?;
     }
-    merge_answers(alloc, style, proxy, each, lines)
+    let mut merged = Vec::new(alloc);
+    let outcome = merge_answers(alloc, each, &notes, &mut merged);
+    for answer in merged {
+        let Some(line) = Line::new(alloc, style, proxy, answer) else {
+            return Err(AllocError);
+        };
+        lines.push(line)?;
+    }
+    outcome
+}
+
+// Returns the answers of lines that were kept, in the order of their versions.
+fn answers_in_order(alloc: Global, lines: Vec<Line>) -> Result<Vec<Answer>, AllocError>
+    requires kept { All IsKept lines.items }
+    ensures answers { IfOk result (λ answers. answers.items
+        ≡ answers_of (in_order_by version_of_line lines.items)) }
+    ensures in_order { IfOk result (λ answers. Rise version_of_answer answers.items) }
+{
+    let mut lines = lines;
+    sort_by_version(alloc, &mut lines)?;
+    let mut answers = Vec::with_capacity(alloc, lines.len())?;
+    for line in lines {
+        answers.push(kept_answer(line))?;
+    }
+    Ok(answers)
+}
+
+fn notes_in_order(alloc: Global, notes: Vec<Note>) -> Result<Vec<Note>, AllocError>
+    ensures notes { IfOk result (λ sorted. sorted.items ≡ in_order_by version_of_note notes.items) }
+    ensures in_order { IfOk result (λ sorted. Rise version_of_note sorted.items) }
+{
+    let mut notes = notes;
+    sort_by_version(alloc, &mut notes)?;
+    Ok(notes)
+}
+
+// Returns the answer of a line that was kept.
+fn kept_answer(line: Line) -> Answer
+    requires kept { IsKept line }
+    ensures answer { result ≡ answer_of line }
+{
+    let Line { counted, reply, .. } = line;
+    match (reply, counted.outcome) {
+        (Some(reply), _) => Answer::Reply(reply),
+        (None, Outcome::Held) => Answer::Held(counted.version),
+        (None, _) => Answer::Never(counted.version),
+    }
 }

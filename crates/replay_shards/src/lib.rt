@@ -5,16 +5,19 @@
 //! [`combine_runs`] combines what the shards have answered: of each proxy, by version. Split points
 //! are read from a file ([`read_points`]) or chosen by the first batches ([`points_of_sample`]).
 //!
-//! What became of all shards is `AreRuns`, in `specs/Runs.antt`. What the combined answers are is
-//! `AreCombinedAnswers`, in `specs/Answers.antt`.
+//! What became of all shards is `AreRuns`, in `specs/Runs.antt`. The answer of all shards to one
+//! batch is `IsAnswerTogether`, in `specs/Answers.antt`; those to one proxy are `AreMerged`, in
+//! `specs/Merging.antt`.
 #![tactic(auto)]
 
 mod answer;
 mod clips;
 mod combined;
 mod entries;
+mod matching;
 mod merging;
 mod note;
+mod noted_reply;
 mod points;
 mod runs;
 mod sampling;

@@ -1,6 +1,7 @@
 //! What is kept beside the clip of a batch, so that reports get the indices of the original batch.
 
-ghost use Rattle.std.specs.Prelude.{◌≡◌, IfSome, None, Some, list_any};
+ghost use Rattle.std.specs.Prelude.{◌≡◌, option_map};
+ghost use Rattle.std.specs.List.{list_any};
 ghost use Rattle.checking.specs.InOrder.{Rise};
 ghost use Rattle.replay_shards.specs.Notes.{first_note, requests_report, version_of_note};
 
@@ -41,8 +42,7 @@ pub fn requests_report(batch: &Batch) -> bool
 /// order of their versions.
 pub fn note_of(notes: &[Note], version: i64) -> Option<&ReadIndices>
     requires in_order { Rise version_of_note notes.now }
-    ensures first { IfSome result (λ reads. first_note version notes.now ≡ Some reads.now) }
-    ensures none { result ≡ None → first_note version notes.now ≡ None }
+    ensures first { option_map (λ reads. reads.now) result ≡ first_note version notes.now }
 {
     let first = notes.partition_point(|note| note.version < version);
     match notes.get(first) {

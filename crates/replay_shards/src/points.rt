@@ -1,7 +1,12 @@
 //! Split points as lines of a file.
 
-ghost use Rattle.std.specs.Prelude.{◌≡◌, ◌+◌, IfOk, IfSome, length};
-ghost use Rattle.replay_shards.specs.Points.{ArePointLines};
+ghost use Rattle.std.specs.Prelude.{◌≡◌, ◌≢◌, ◌+◌, ◌≤◌, ◌<◌, ◌↔◌, ◌⊎◌, ◌++◌, ◌∷◌, [], ℕ};
+ghost use Rattle.std.specs.Prelude.{IfOk, IfSome, IsErrOf, length, take, vec_len};
+ghost use Rattle.std.specs.Io.BufRead.{take_through};
+ghost use Rattle.std.specs.Io.KnownBytes.{Consumes, IsAtEnd};
+ghost use Rattle.shards.specs.SplitPoints.{IsFirstFall};
+ghost use Rattle.shards.specs.declared.split_points.TheConstants.{MAX_SPLIT_POINTS};
+ghost use Rattle.replay_shards.specs.Points.{ArePointLines, IsPointLine};
 ghost use Rattle.replay_shards.specs.declared.points.PointsError.TheVariants.{Memory};
 
 use json_lines::{Cause, Refusal, read_key};
@@ -48,7 +53,7 @@ impl<T: Drop> From<AllocFailed<T>> for PointsError {
     }
 }
 
-// So many bytes are read at a time.
+// The number of bytes per read.
 const CHUNK: usize = 4_096;
 
 /// Reads the split points of this many shards to the end of the input, one key in its printed form
@@ -58,24 +63,22 @@ pub fn read_points<S: Source>(
     reader: &mut S,
     shards: usize,
 ) -> Result<SplitPoints, PointsError>
+    requires some { 1 ≤ shards }
+    requires few { shards ≤ MAX_SPLIT_POINTS + 1 }
     ensures points { IfOk result (λ points. IfSome (S.remaining reader.old)
         (λ bytes. ArePointLines bytes points)) }
     ensures count { IfOk result (λ points. length points + 1 ≡ shards) }
 {
     let bytes = read_to_end(alloc, reader)?;
-    let mut points = Vec::new(alloc);
-    let mut rest = bytes.as_slice();
-    let mut number: u64 = 0;
-    while !rest.is_empty() {
-        number = number.saturating_add(1);
-        let (line, after) = split_line(rest);
-        points.push(key_of_line(alloc, number, line)?)?;
-        rest = after;
-    }
+    let points = keys_of_lines(alloc, &bytes)?;
     checked(points, shards)
 }
 
-fn read_to_end<S: Source>(alloc: Global, reader: &mut S) -> Result<Vec<u8>, PointsError> {
+fn read_to_end<S: Source>(alloc: Global, reader: &mut S) -> Result<Vec<u8>, PointsError>
+    ensures bytes { IfOk result
+        (λ bytes. Consumes (S.remaining reader.old) (S.remaining reader.new) bytes.items) }
+    ensures end { IfOk result (λ _. IsAtEnd (S.remaining reader.new)) }
+{
     let mut bytes = Vec::new(alloc);
     let mut chunk = [0; CHUNK];
     for _ in 0..u64::MAX {
@@ -89,33 +92,72 @@ fn read_to_end<S: Source>(alloc: Global, reader: &mut S) -> Result<Vec<u8>, Poin
     Err(PointsError::Memory)
 }
 
-// Returns the first line without its line feed, and what follows it.
-fn split_line(bytes: &[u8]) -> (&[u8], &[u8]) {
-    match bytes.iter().position(|byte| *byte == b'\n') {
-        Some(end) => (&bytes[..end], &bytes[end + 1..]),
-        None => (bytes, &[]),
+fn keys_of_lines(alloc: Global, bytes: &[u8]) -> Result<Vec<Key>, PointsError>
+    ensures lines { IfOk result (λ keys. ArePointLines bytes.now keys.items) }
+{
+    let mut keys = Vec::new(alloc);
+    let mut rest = bytes;
+    while !rest.is_empty() {
+        let (line, after) = rest.split_at(line_length(rest));
+        keys.push(key_of_line(alloc, keys.len() as u64, line)?)?;
+        rest = after;
     }
+    Ok(keys)
 }
 
-fn key_of_line(alloc: Global, number: u64, line: &[u8]) -> Result<Key, PointsError> {
-    match read_key(alloc, line) {
+// Returns the length of the first line, with its line feed if there is one.
+fn line_length(bytes: &[u8]) -> usize
+    ensures line { take result bytes.now ≡ take_through 10 bytes.now }
+    ensures within { result ≤ length bytes.now }
+    ensures some { 0 < length bytes.now → 0 < result }
+{
+    for (index, byte) in bytes.iter().enumerate() {
+        if *byte == b'\n' {
+            return index + 1;
+        }
+    }
+    bytes.len()
+}
+
+// Reads the key of a line, before which there are that many lines.
+fn key_of_line(alloc: Global, before: u64, line: &[u8]) -> Result<Key, PointsError>
+    ensures key { IfOk result (IsPointLine line.now) }
+{
+    match read_key(alloc, without_feed(line)) {
         Ok(key) => Ok(key),
         Err(refusal) if refusal.cause == Cause::Memory => Err(PointsError::Memory),
-        Err(refusal) => Err(PointsError::Line(number, refusal)),
+        Err(refusal) => Err(PointsError::Line(before.saturating_add(1), refusal)),
     }
 }
 
-fn checked(points: Vec<Key>, shards: usize) -> Result<SplitPoints, PointsError> {
-    let (count, wanted) = (points.len() as u64, (shards as u64).saturating_sub(1));
-    if count != wanted {
-        return Err(PointsError::Count(wanted, count));
+fn without_feed(line: &[u8]) -> &[u8]
+    ensures text { (line.now ≡ result.now ++ 10 ∷ []) ⊎ (line.now ≡ result.now) }
+{
+    match line.split_last() {
+        Some((b'\n', text)) => text,
+        _ => line,
+    }
+}
+
+// Takes the keys as split points if they rise, and there are as many as are wanted.
+fn checked(points: Vec<Key>, shards: usize) -> Result<SplitPoints, PointsError>
+    requires some { 1 ≤ shards }
+    requires few { shards ≤ MAX_SPLIT_POINTS + 1 }
+    ensures points { IfOk result (λ split. split ≡ points.items) }
+    ensures count { IfOk result (λ split. length split + 1 ≡ shards) }
+    ensures other { (wanted found : ℕ) → IsErrOf result (PointsError.Count wanted found)
+        ↔ (found ≡ vec_len points) × (wanted + 1 ≡ shards) × (wanted ≢ found) }
+    ensures not_rising { (line : ℕ) → IsErrOf result (PointsError.NotRising (line + 1))
+        ↔ (vec_len points + 1 ≡ shards) × IsFirstFall points.items line }
+{
+    let wanted = shards - 1;
+    if points.len() != wanted {
+        return Err(PointsError::Count(wanted as u64, points.len() as u64));
     }
     match SplitPoints::checked(points) {
         Ok(points) => Ok(points),
-        Err(SplitPointsError::TooMany) => Err(PointsError::Count(wanted, count)),
-        Err(SplitPointsError::NotRising(index)) => {
-            Err(PointsError::NotRising((index as u64).saturating_add(1)))
-        }
+        Err(SplitPointsError::TooMany) => unreachable!(),
+        Err(SplitPointsError::NotRising(index)) => Err(PointsError::NotRising(index as u64 + 1)),
     }
 }
 

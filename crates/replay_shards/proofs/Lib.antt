@@ -1,0 +1,9 @@
+mod Versions
+mod Left
+mod Cursors
+mod Matches
+mod NotedLists
+mod Replied
+mod Lines
+mod NoteOrder
+mod Samples
