@@ -7,3 +7,9 @@ mod Replied
 mod Lines
 mod NoteOrder
 mod Samples
+mod Requests
+mod OneReply
+mod Cases
+mod Completes
+mod Combining
+mod Merged

@@ -1,5 +1,5 @@
 -- The first note of a version, among notes in the order of their versions.
-use Rattle.std.specs.Prelude.{◌≡◌, ℕ, zero, suc, ◌<◌, ◌≤◌, ℤ, int_lt, true, false, List, [], ◌∷◌, length, Option, None, Some, slice_get, if◌then◌else◌}
+use Rattle.std.specs.Prelude.{◌≡◌, ℕ, zero, suc, ◌<◌, ◌≤◌, ℤ, int_lt, true, false, List, [], ◌∷◌, length, Option, None, Some, slice_get}
 use Rattle.std.proofs.Common.{refl, sym, ap, ◌∙◌, inl, inr, arith, get_or}
 use Rattle.std.specs.List.{AllWithin}
 use Rattle.std.specs.List.Sorted.{IsPartitionPoint, IsPartitionedBy}
@@ -8,7 +8,7 @@ use Rattle.std.proofs.lemmas.Bool.{cases_Bool, cond-true, cond-false}
 use Rattle.std.proofs.lemmas.Int.{ints}
 use Rattle.checking.specs.InOrder.{NoneBefore, Rise}
 use Rattle.replay_shards.specs.declared.note.Note.{Note}
-use Rattle.replay_shards.specs.Notes.{first_note, version_of_note}
+use Rattle.replay_shards.specs.Notes.{first_note, reads_at, version_of_note}
 use Rattle.replay_shards.proofs.Versions.{after_if, not_same_if_before, not_same_if_after, is_same, not_both_ways}
 
 irreflexive : (a : ℤ) → int_lt a a ≡ false
@@ -36,11 +36,6 @@ pub earlier_parted : (version : ℤ) (notes : List Note) → Rise version_of_not
     → IsPartitionedBy (λ (note : Note). int_lt note.version version) notes
 earlier_parted version notes rise i j d order within before =
     before_too (get_or notes i d).version (get_or notes j d).version version (rise_at notes rise i j d order within) before
-
--- the indices of a note that may be of the version
-abbrev pub reads_at : ℤ → Option Note → Option (List (List ℕ))
-reads_at version None = None
-reads_at version (Some note) = if int_eq note.version version then Some note.reads else None
 
 none_after : (version least : ℤ) (notes : List Note) → int_lt version least ≡ true → NoneBefore version_of_note least notes
     → first_note version notes ≡ None

@@ -1,6 +1,6 @@
 -- Replies of all shards, beside their notes.
-use Rattle.std.proofs.Common.{◌≡◌, ℕ, suc, ◌<◌, List, [], ◌∷◌, ◌++◌, length, map, get_or, ℤ, refl, sym, ap, ap₂, ◌∙◌, subst, inl, inr, All}
-use Rattle.std.specs.Prelude.{Option, None, Some, Any}
+use Rattle.std.proofs.Common.{◌≡◌, ℕ, suc, ◌<◌, List, [], ◌∷◌, ◌++◌, length, map, get_or, ℤ, refl, sym, ap, ap₂, ◌∙◌, subst, inl, inr, ◌⊎◌, arith, All}
+use Rattle.std.specs.Prelude.{◌≤ℤ◌, pos, Option, None, Some, Any}
 use Rattle.std.proofs.lemmas.List.Elements.{All-nil, All-cons, All-head, All-tail, All-get_or}
 use Rattle.keyspace.specs.declared.answer.Answer.{Answer}
 use Rattle.keyspace.specs.declared.answer.Answer.TheVariants.{Reply, Never, Held}
@@ -46,6 +46,14 @@ none_held (Reply r ∷ answers) (n ∷ notes) (s ∷ each) have =
     All-cons (λ a. IsHeld a → ⊥) (Reply r) answers (λ no. no) (none_held answers notes each have.1)
 none_held _ _ _ have = absurd have
 
+pub none_other : (answers : List Answer) (notes : Notes) (each : List ShardReply) → HaveReplied answers notes each
+    → All (λ a. (IsNever a ⊎ IsHeld a) → ⊥) answers
+none_other [] [] [] have = All-nil (λ a. (IsNever a ⊎ IsHeld a) → ⊥)
+none_other (Reply r ∷ answers) (n ∷ notes) (s ∷ each) have =
+    All-cons (λ a. (IsNever a ⊎ IsHeld a) → ⊥) (Reply r) answers (λ h. elim h [ | inl no ↦ no | inr no ↦ no ])
+    (none_other answers notes each have.1)
+none_other _ _ _ have = absurd have
+
 -- what holds of none holds of no element
 pub refuted : {X : Type 0} (P : X → Type 0) (xs : List X) → All (λ x. P x → ⊥) xs → Any P xs → ⊥
 refuted P xs none some = subst (λ x. P x → ⊥) some.3 (All-get_or (λ x. P x → ⊥) xs some.0 some.1 some.2 none) some.4
@@ -72,3 +80,16 @@ pub as_many : (answers : List Answer) (notes : Notes) (each : List ShardReply) �
 as_many [] [] [] have = refl
 as_many (Reply r ∷ answers) (n ∷ notes) (s ∷ each) have = ap suc (as_many answers notes each have.1)
 as_many _ _ _ have = absurd have
+
+-- the version of replies isn't negative
+pub natural_of : (version : ℤ) (answers : List Answer) (notes : Notes) (each : List ShardReply) → 0 < length answers
+    → All (λ a. version_of_answer a ≡ version) answers → HaveReplied answers notes each → pos 0 ≤ℤ version
+natural_of version [] notes each some all have = absurd (omega (arith, some))
+natural_of version (Reply r ∷ answers) notes each some all have =
+    subst (λ v. pos 0 ≤ℤ v) (All-head (λ (a : Answer). version_of_answer a ≡ version) (Reply r) answers all) r.natural
+natural_of version (Never v ∷ answers) [] each some all have = absurd have
+natural_of version (Never v ∷ answers) (n ∷ notes) [] some all have = absurd have
+natural_of version (Never v ∷ answers) (n ∷ notes) (s ∷ each) some all have = absurd have
+natural_of version (Held v ∷ answers) [] each some all have = absurd have
+natural_of version (Held v ∷ answers) (n ∷ notes) [] some all have = absurd have
+natural_of version (Held v ∷ answers) (n ∷ notes) (s ∷ each) some all have = absurd have

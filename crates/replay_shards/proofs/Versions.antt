@@ -29,12 +29,31 @@ not_same_if_before v least w before not_before =
       | inr differs ↦ differs
     ]
 
+irreflexive : (a : ℤ) → int_lt a a ≡ false
+irreflexive a = grind (arith, ints)
+
+-- of two versions, if none is before the other, they are the same
+same_both : (a b : ℤ) → int_lt a b ≡ false → int_lt b a ≡ false → a ≡ b
+same_both a b h k = grind (arith, ints)
+
 pub not_same_if_after : (v w : ℤ) → int_lt w v ≡ true → int_eq w v ≡ false
-not_same_if_after v w after = grind (arith, ints)
+not_same_if_after v w after =
+    elim (cases_Bool (int_eq w v)) [
+      | inl same ↦
+          let clash : int_lt v v ≡ true = ap (λ u. int_lt u v) (sym (same_if w v same)) ∙ after in
+          absurd (let no : true ≡ false = sym clash ∙ irreflexive v in cc)
+      | inr differs ↦ differs
+    ]
 
 -- what is neither before nor the same is after
 pub after_if : (v w : ℤ) → int_lt w v ≡ false → int_eq w v ≡ false → int_lt v w ≡ true
-after_if v w not_before differs = grind (arith, ints)
+after_if v w not_before differs =
+    elim (cases_Bool (int_lt v w)) [
+      | inl after ↦ after
+      | inr not_after ↦
+          let same : int_eq w v ≡ true = ap (λ u. int_eq w u) (sym (same_both w v not_before not_after)) ∙ is_same w in
+          absurd (let no : true ≡ false = sym same ∙ differs in cc)
+    ]
 
 module _ {X : Type 0} (version_of : X → ℤ) where
   -- if none has a lesser version than one, none has a version below that one

@@ -32,8 +32,8 @@ abbrev pub AreOfOneBatch : List ShardReply → Type 0
 AreOfOneBatch each = (count : ℕ) × All (FitsIn count) each
 
 -- the reply of all shards to the batch of this version: `IsCombined` of `shards`, without the batch
-pub record IsReplyTogether (version : ℤ) (each : List ShardReply) (reply : Reply) : Type 0 where
-  pub version : reply.version ≡ version
+pub record IsReplyTogether (at : ℤ) (each : List ShardReply) (reply : Reply) : Type 0 where
+  pub version : reply.version ≡ at
   pub count : All (λ s. length s.reply.entries ≡ length reply.entries) each
   pub entries : (j : ℕ) (e : Entry) → slice_get reply.entries j ≡ Some e → IsCombinedEntry each j e
 

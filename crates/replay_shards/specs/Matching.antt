@@ -1,5 +1,5 @@
 -- Not of the meaning: how the code matches answers in the order of their versions, one shard with those before it.
-use Rattle.std.specs.Prelude.{ℕ, ℤ, List, [], ◌∷◌, ◌++◌, drop, map, Option, None, Some, int_lt, if◌then◌else◌}
+use Rattle.std.specs.Prelude.{◌≡◌, ℕ, ℤ, List, [], ◌∷◌, ◌++◌, length, drop, map, All, Option, None, Some, int_lt, if◌then◌else◌}
 use Rattle.std.specs.Ordering.{int_eq}
 use Rattle.keyspace.specs.declared.answer.Answer.{Answer}
 use Rattle.keyspace.specs.Answer.{version_of_answer}
@@ -9,6 +9,11 @@ use Rattle.replay_shards.specs.Merging.{Match}
 
 abbrev pub match_of : Matched → Match
 match_of m = record { version = m.version; answers = m.answers.items }
+
+-- it has that many answers, all of its version
+pub record IsComplete (count : ℕ) (m : Match) : Type 0 where
+  pub as_many : length m.answers ≡ count
+  pub of_version : All (λ a. version_of_answer a ≡ m.version) m.answers
 
 -- the answers of a shard that are left
 abbrev pub left_in : Cursor → List Answer

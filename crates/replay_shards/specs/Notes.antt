@@ -30,6 +30,11 @@ notes_of (Some shard) batches = flat_map (note_in shard) batches
 abbrev pub are_notes_of : Option Shard → List Batch → List Note → Type 0
 are_notes_of shard batches notes = notes ≡ notes_of shard batches
 
+-- the indices of a note that may be there, if it has this version
+abbrev pub reads_at : ℤ → Option Note → Option (List (List ℕ))
+reads_at version None = None
+reads_at version (Some note) = if int_eq note.version version then Some note.reads else None
+
 -- the indices of the first note of this version
 abbrev pub first_note : ℤ → List Note → Option (List (List ℕ))
 first_note version [] = None

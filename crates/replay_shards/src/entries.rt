@@ -1,9 +1,10 @@
 //! The replies of all shards to a batch as one.
 
 ghost use Rattle.std.specs.Prelude.{◌≡◌, ◌<◌, ◌≤◌, ◌↔◌, ◌⊎◌, ℕ, All, Any, Contains, IfOk};
-ghost use Rattle.std.specs.Prelude.{IsTrue, MatchOption, Some, length, slice_get, vec_len};
+ghost use Rattle.std.specs.Prelude.{IsTrue, MatchOption, Some, length, pos, slice_get, vec_len, ◌≤ℤ◌};
 ghost use Rattle.std.specs.List.Sorted.{IsStrictlyIncreasing};
 ghost use Rattle.keyspace.specs.declared.reply.Entry.{Entry as EntryValue};
+ghost use Rattle.keyspace.specs.declared.batch.TheConstants.{MAX_TXNS};
 ghost use Rattle.shards.specs.Combined.{FitsAt, IsCombinedEntry, IsLeast, Reports, rank};
 ghost use Rattle.replay_shards.specs.Answers.{AreOfOneBatch, FitsIn, IsReplyTogether, noted_each};
 
@@ -20,18 +21,30 @@ pub fn combined_reply(
     each: &[NotedReply],
 ) -> Result<Option<Reply>, AllocError>
     requires some { 0 < length each.now }
-    requires of_version { All (λ s. s.reply.version ≡ version) (noted_each each.now) }
+    requires natural { pos 0 ≤ℤ version }
     ensures together { IfOk result (λ found. MatchOption found
         (¬ AreOfOneBatch (noted_each each.now))
         (λ reply. AreOfOneBatch (noted_each each.now)
             × IsReplyTogether version (noted_each each.now) reply)) }
 {
-    let count = each[0].reply.entries.len();
+    let count = count_in(each);
     if !do_fit(each, count) {
         return Ok(None);
     }
     let entries = combined_entries(alloc, each, count)?;
     Ok(Some(Reply::new(version, Sequence::new(entries))))
+}
+
+// Returns the number of entries in the first reply.
+fn count_in(each: &[NotedReply]) -> usize
+    requires some { 0 < length each.now }
+    ensures count { (n : ℕ) → All (FitsIn n) (noted_each each.now) → result ≡ n }
+    ensures few { result ≤ MAX_TXNS }
+{
+    let Some(first) = each.first() else {
+        unreachable!()
+    };
+    first.reply.entries.len()
 }
 
 // Returns whether all of them can be replies to a batch with that many transactions.

@@ -1,9 +1,9 @@
 //! What is kept beside the clip of a batch, so that reports get the indices of the original batch.
 
-ghost use Rattle.std.specs.Prelude.{◌≡◌, option_map};
+ghost use Rattle.std.specs.Prelude.{◌≡◌, option_map, slice_get};
 ghost use Rattle.std.specs.List.{list_any};
 ghost use Rattle.checking.specs.InOrder.{Rise};
-ghost use Rattle.replay_shards.specs.Notes.{first_note, requests_report, version_of_note};
+ghost use Rattle.replay_shards.specs.Notes.{first_note, reads_at, requests_report, version_of_note};
 
 use checking::Versioned;
 use keyspace::Batch;
@@ -45,8 +45,21 @@ pub fn note_of(notes: &[Note], version: i64) -> Option<&ReadIndices>
     ensures first { option_map (λ reads. reads.now) result ≡ first_note version notes.now }
 {
     let first = notes.partition_point(|note| note.version < version);
-    match notes.get(first) {
-        Some(note) if note.version == version => Some(&note.reads),
-        _ => None,
+    reads_at(notes, first, version)
+}
+
+// Returns the indices of the note at the index, if there is one of this version.
+fn reads_at(notes: &[Note], index: usize, version: i64) -> Option<&ReadIndices>
+    ensures reads { option_map (λ reads. reads.now) result
+        ≡ reads_at version (slice_get notes.now index) }
+{
+    if index >= notes.len() {
+        return None;
+    }
+    let note = &notes[index];
+    if note.version == version {
+        Some(&note.reads)
+    } else {
+        None
     }
 }

@@ -3,7 +3,7 @@
 ghost use Rattle.std.specs.Prelude.{◌≡◌, ◌<◌, ◌↔◌, ◌⊎◌, ℕ, All, Contains, IsTrue, OnOk, Some};
 ghost use Rattle.std.specs.Prelude.{length, slice_get};
 ghost use Rattle.keyspace.specs.declared.txn.TheConstants.{MAX_RANGES};
-ghost use Rattle.shards.specs.Combined.{FitsAt, HasPlaces, Reports};
+ghost use Rattle.shards.specs.Combined.{HasPlaces, Reports};
 ghost use Rattle.replay_shards.specs.Answers.{FitsIn, noted_in};
 
 use keyspace::{Entry, Reply};
@@ -75,7 +75,9 @@ impl NotedReply<'_> {
 
     /// Appends the original indices of the read ranges of a transaction that this reports.
     pub fn put_report(&self, index: usize, found: &mut Vec<u16>) -> Result<(), AllocError>
-        requires fit { FitsAt index (noted_in self.now) }
+        requires entries { index < length (noted_in self.now).reply.entries }
+        requires reads { index < length (noted_in self.now).reads }
+        requires places { HasPlaces (noted_in self.now) }
         requires below { All (λ read. read < MAX_RANGES) found.old.items }
         ensures below { OnOk result (All (λ read. read < MAX_RANGES) found.new.items) }
         ensures report { OnOk result ((read : ℕ) → Contains found.new.items read

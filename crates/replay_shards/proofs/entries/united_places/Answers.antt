@@ -16,13 +16,26 @@ use Rattle.replay_shards.proofs.NotedLists.{each_next, of_one}
 use Rattle.replay_shards.proofs.entries.united_places.Goals.{After-dedup}
 use Rattle.replay_shards.proofs.entries.united_places.Goals as goal
 
-pub put_report-requires-clause-fit : goal.put_report-requires-clause-fit
-put_report-requires-clause-fit c =
+pub put_report-requires-clause-entries : goal.put_report-requires-clause-entries
+put_report-requires-clause-entries c =
     let each = c.args.each.now in
     let i = c.loop-own.own-index in
     let own = c.own-item.result in
-    let at = slice_get_read each _ i own refl c.loop-own-test.true c.own-item.is in
-    of_one (FitsAt c.args.index) each i own at c.requires.fit
+    (of_one (FitsAt c.args.index) each i own (slice_get_read each _ i own refl c.loop-own-test.true c.own-item.is) c.requires.fit).entry
+
+pub put_report-requires-clause-reads : goal.put_report-requires-clause-reads
+put_report-requires-clause-reads c =
+    let each = c.args.each.now in
+    let i = c.loop-own.own-index in
+    let own = c.own-item.result in
+    (of_one (FitsAt c.args.index) each i own (slice_get_read each _ i own refl c.loop-own-test.true c.own-item.is) c.requires.fit).reads
+
+pub put_report-requires-clause-places : goal.put_report-requires-clause-places
+put_report-requires-clause-places c =
+    let each = c.args.each.now in
+    let i = c.loop-own.own-index in
+    let own = c.own-item.result in
+    (of_one (FitsAt c.args.index) each i own (slice_get_read each _ i own refl c.loop-own-test.true c.own-item.is) c.requires.fit).places
 
 pub loop-own-preserved : goal.loop-own-preserved
 loop-own-preserved c =
