@@ -1,6 +1,6 @@
 -- Replies with their notes, one shard after the other.
 use Rattle.std.proofs.Common.{◌≡◌, ℕ, zero, suc, ◌+◌, ◌<◌, List, [], ◌∷◌, ◌++◌, length, map, take, refl, sym, ap, ◌∙◌, subst, arith, All}
-use Rattle.std.specs.Prelude.{Option, None, Some, option_map, slice_get}
+use Rattle.std.specs.Prelude.{Option, None, Some, option_map, unwrap_or, slice_get}
 use denote.Ref.{Bor}
 use Rattle.keyspace.specs.declared.reply.Entry.{Entry}
 use Rattle.std.proofs.lemmas.List.Elements.{All-weaker, All-get_or}
@@ -8,10 +8,10 @@ use Rattle.std.proofs.lemmas.Option.{slice_get_within, get_or_from_slice_get}
 use Rattle.shards.specs.declared.shard_reply.ShardReply.{ShardReply}
 use Rattle.shards.specs.Combined.{FitsAt}
 use Rattle.replay_shards.specs.declared.noted_reply.NotedReply.{NotedReply}
-use Rattle.replay_shards.specs.Answers.{FitsIn, noted, noted_in, noted_each}
+use Rattle.replay_shards.specs.Answers.{FitsIn, indices_for, noted_in, noted_each}
 
-abbrev nothing : List ℕ
-nothing = []
+abbrev nothings : List (List ℕ)
+nothings = []
 
 pub each_next : (each : List NotedReply) (i : ℕ) (own : NotedReply) → slice_get each i ≡ Some own
     → noted_each (take (i + 1) each) ≡ noted_each (take i each) ++ noted_in own ∷ []
@@ -51,24 +51,47 @@ pub as_long : (each : List NotedReply) → length (noted_each each) ≡ length e
 as_long [] = refl
 as_long (x ∷ each) = ap suc (as_long each)
 
--- without a note, no indices
-nothing_at : (entries : List Entry) (i : ℕ) → i < length entries → slice_get (map (λ (e : Entry). nothing) entries) i ≡ Some nothing
-nothing_at [] i within = absurd (omega (arith, within))
-nothing_at (e ∷ entries) zero within = refl
-nothing_at (e ∷ entries) (suc i) within = nothing_at entries i (omega (arith, within))
+-- the indices in a note, or none
+nothing_left : (i : ℕ) → slice_get nothings i ≡ None
+nothing_left zero = refl
+nothing_left (suc i) = refl
 
-as_many : (entries : List Entry) → length (map (λ (e : Entry). nothing) entries) ≡ length entries
-as_many [] = refl
-as_many (e ∷ entries) = ap suc (as_many entries)
+indices_at : (entries : List Entry) (reads : List (List ℕ)) (i : ℕ) → i < length entries
+    → slice_get (indices_for entries reads) i ≡ Some (unwrap_or (slice_get reads i) [])
+indices_at [] reads i within = absurd (omega (arith, within))
+indices_at (e ∷ entries) [] zero within = ap (λ (o : Option (List ℕ)). Some (unwrap_or o [])) (sym (nothing_left zero))
+indices_at (e ∷ entries) [] (suc i) within =
+    indices_at entries [] i (omega (arith, within))
+    ∙ ap (λ (o : Option (List ℕ)). Some (unwrap_or o [])) (nothing_left i ∙ sym (nothing_left (suc i)))
+indices_at (e ∷ entries) (own ∷ reads) zero within = refl
+indices_at (e ∷ entries) (own ∷ reads) (suc i) within = indices_at entries reads i (omega (arith, within))
 
-pub none_at : (own : NotedReply) (i : ℕ) → own.reads ≡ None → i < length (noted_in own).reads
+indices_long : (entries : List Entry) (reads : List (List ℕ)) → length (indices_for entries reads) ≡ length entries
+indices_long [] reads = refl
+indices_long (e ∷ entries) [] = ap suc (indices_long entries [])
+indices_long (e ∷ entries) (own ∷ reads) = ap suc (indices_long entries reads)
+
+pub reads_long : (own : NotedReply) → length (noted_in own).reads ≡ length (noted_in own).reply.entries
+reads_long own =
+    indices_long own.reply.now.entries (unwrap_or (option_map (λ (reads : Bor (List (List ℕ))). reads.now) own.reads) [])
+
+pub some_at : (own : NotedReply) (reads : Bor (List (List ℕ))) (i : ℕ) (found : List ℕ) → own.reads ≡ Some reads
+    → found ≡ unwrap_or (slice_get reads.now i) [] → i < length (noted_in own).reply.entries
+    → slice_get (noted_in own).reads i ≡ Some found
+some_at own reads i found is found_is within =
+    let known : unwrap_or (option_map (λ (reads : Bor (List (List ℕ))). reads.now) own.reads) [] ≡ reads.now =
+    ap (λ (o : Option (Bor (List (List ℕ)))). unwrap_or (option_map (λ (reads : Bor (List (List ℕ))). reads.now) o) []) is in
+    indices_at own.reply.now.entries (unwrap_or (option_map (λ (reads : Bor (List (List ℕ))). reads.now) own.reads) []) i within
+    ∙ ap (λ (l : List (List ℕ)). Some (unwrap_or (slice_get l i) [])) known ∙ ap (λ (l : List ℕ). Some l) (sym found_is)
+
+pub none_at : (own : NotedReply) (i : ℕ) → own.reads ≡ None → i < length (noted_in own).reply.entries
     → slice_get (noted_in own).reads i ≡ Some []
 none_at own i is within =
-    let e : noted_in own ≡ noted own.reply.now None =
-    ap (λ (o : Option (Bor (List (List ℕ)))). noted own.reply.now (option_map (λ reads. reads.now) o)) is in
-    let inside : i < length (map (λ (e : Entry). nothing) own.reply.now.entries) = subst (λ (s : ShardReply). i < length s.reads) e within in
-    ap (λ (s : ShardReply). slice_get s.reads i) e
-    ∙ nothing_at own.reply.now.entries i (subst (λ n. i < n) (as_many own.reply.now.entries) inside)
+    let known : unwrap_or (option_map (λ (reads : Bor (List (List ℕ))). reads.now) own.reads) [] ≡ nothings =
+    ap (λ (o : Option (Bor (List (List ℕ)))). unwrap_or (option_map (λ (reads : Bor (List (List ℕ))). reads.now) o) []) is in
+    indices_at own.reply.now.entries (unwrap_or (option_map (λ (reads : Bor (List (List ℕ))). reads.now) own.reads) []) i within
+    ∙ ap (λ (l : List (List ℕ)). Some (unwrap_or (slice_get l i) [])) known
+    ∙ ap (λ (o : Option (List ℕ)). Some (unwrap_or o [])) (nothing_left i)
 
 -- all have as many entries
 pub counts_of : (count n : ℕ) → n ≡ count → (each : List ShardReply) → All (FitsIn count) each

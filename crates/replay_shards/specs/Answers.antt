@@ -1,6 +1,6 @@
 -- The answers of all shards to a batch as one. That a transaction commits if all resolvers admit it is FoundationDB's. What becomes of
 -- a batch that some shard doesn't reply to is this project's own.
-use Rattle.std.specs.Prelude.{◌≡◌, ℕ, ℤ, List, [], ◌∷◌, length, map, Option, None, Some, option_map, slice_get, ⊤}
+use Rattle.std.specs.Prelude.{◌≡◌, ℕ, ℤ, List, [], ◌∷◌, length, map, Option, Some, option_map, unwrap_or, slice_get, ⊤}
 use Rattle.std.specs.List.{All, Any}
 use Rattle.keyspace.specs.declared.answer.Answer.{Answer}
 use Rattle.keyspace.specs.declared.answer.Answer.TheVariants as answer
@@ -10,10 +10,15 @@ use Rattle.shards.specs.declared.shard_reply.ShardReply.{ShardReply}
 use Rattle.shards.specs.Combined.{HasPlaces, IsCombinedEntry}
 use Rattle.replay_shards.specs.declared.noted_reply.NotedReply.{NotedReply}
 
+-- per transaction of a reply, the original indices of the read ranges that the shard got: those in the note, or none
+abbrev pub indices_for : List Entry → List (List ℕ) → List (List ℕ)
+indices_for [] reads = []
+indices_for (e ∷ entries) [] = [] ∷ indices_for entries []
+indices_for (e ∷ entries) (own ∷ reads) = own ∷ indices_for entries reads
+
 -- A shard's reply beside the note of the batch, as `shards` combines it. Without a note the shard can report no read range.
 abbrev pub noted : Reply → Option (List (List ℕ)) → ShardReply
-noted reply None = record { reply = reply; reads = map (λ e. []) reply.entries }
-noted reply (Some reads) = record { reply = reply; reads = reads }
+noted reply note = record { reply = reply; reads = indices_for reply.entries (unwrap_or note []) }
 
 abbrev pub noted_in : NotedReply → ShardReply
 noted_in own = noted own.reply.now (option_map (λ reads. reads.now) own.reads)
@@ -21,7 +26,7 @@ noted_in own = noted own.reply.now (option_map (λ reads. reads.now) own.reads)
 abbrev pub noted_each : List NotedReply → List ShardReply
 noted_each each = map noted_in each
 
--- this can be the reply to a batch with that many transactions, and the note of it
+-- this can be the reply to a batch with that many transactions
 pub record FitsIn (count : ℕ) (s : ShardReply) : Type 0 where
   pub entries : length s.reply.entries ≡ count
   pub reads : length s.reads ≡ count

@@ -1,7 +1,7 @@
 //! The reply of one shard, with the note of the batch.
 
 ghost use Rattle.std.specs.Prelude.{◌≡◌, ◌<◌, ◌↔◌, ◌⊎◌, ℕ, All, Contains, IsTrue, OnOk, Some};
-ghost use Rattle.std.specs.Prelude.{length, slice_get};
+ghost use Rattle.std.specs.Prelude.{[], length, slice_get, unwrap_or};
 ghost use Rattle.keyspace.specs.declared.txn.TheConstants.{MAX_RANGES};
 ghost use Rattle.shards.specs.Combined.{HasPlaces, Reports};
 ghost use Rattle.replay_shards.specs.Answers.{FitsIn, noted_in};
@@ -19,29 +19,18 @@ pub struct NotedReply<'a> {
 
 impl NotedReply<'_> {
     /// Returns whether this can be the reply to a batch with that many transactions.
+    #[tactic(auto, using(crate::proofs::NotedLists::reads_long))]
     pub fn fits(&self, count: usize) -> bool
         ensures fits { IsTrue result ↔ FitsIn count (noted_in self.now) }
     {
-        if self.reply.entries.len() != count || self.reads_count() != count {
+        if self.reply.entries.len() != count {
             return false;
         }
         self.has_places()
     }
 
-    // Returns the number of transactions that the note has indices for.
-    fn reads_count(&self) -> usize
-        ensures count { result ≡ length (noted_in self.now).reads }
-    {
-        match self.reads {
-            Some(reads) => reads.len(),
-            None => self.reply.entries.len(),
-        }
-    }
-
     // Returns whether each place that is reported is one of a read range that the shard got.
     fn has_places(&self) -> bool
-        requires count { length (noted_in self.now).reply.entries
-            ≡ length (noted_in self.now).reads }
         ensures places { IsTrue result ↔ HasPlaces (noted_in self.now) }
     {
         for (index, entry) in self.reply.entries.as_slice().iter().enumerate() {
@@ -61,14 +50,14 @@ impl NotedReply<'_> {
         &self.reply.entries.as_slice()[index]
     }
 
-    // Returns the original indices of the read ranges of a transaction, or none without a note.
+    // Returns the original indices of the read ranges of a transaction, or none without a note of it.
     fn indices(&self, index: usize) -> &[u16]
-        requires within { index < length (noted_in self.now).reads }
-        ensures indices { slice_get (noted_in self.now).reads index ≡ Some result.now }
+        ensures indices { index < length (noted_in self.now).reply.entries
+            → slice_get (noted_in self.now).reads index ≡ Some result.now }
         ensures below { All (λ read. read < MAX_RANGES) result.now }
     {
         match self.reads {
-            Some(reads) => reads.txn(index),
+            Some(reads) => indices_in(reads, index),
             None => &[],
         }
     }
@@ -76,7 +65,6 @@ impl NotedReply<'_> {
     /// Appends the original indices of the read ranges of a transaction that this reports.
     pub fn put_report(&self, index: usize, found: &mut Vec<u16>) -> Result<(), AllocError>
         requires entries { index < length (noted_in self.now).reply.entries }
-        requires reads { index < length (noted_in self.now).reads }
         requires places { HasPlaces (noted_in self.now) }
         requires below { All (λ read. read < MAX_RANGES) found.old.items }
         ensures below { OnOk result (All (λ read. read < MAX_RANGES) found.new.items) }
@@ -88,6 +76,18 @@ impl NotedReply<'_> {
             found.push(indices[usize::from(*place)])?;
         }
         Ok(())
+    }
+}
+
+// Returns the indices of a transaction, or none if the note has no such transaction.
+fn indices_in(reads: &ReadIndices, index: usize) -> &[u16]
+    ensures indices { result.now ≡ unwrap_or (slice_get reads.now index) [] }
+    ensures below { All (λ read. read < MAX_RANGES) result.now }
+{
+    if index < reads.len() {
+        reads.txn(index)
+    } else {
+        &[]
     }
 }
 

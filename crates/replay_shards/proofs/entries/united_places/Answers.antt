@@ -23,13 +23,6 @@ put_report-requires-clause-entries c =
     let own = c.own-item.result in
     (of_one (FitsAt c.args.index) each i own (slice_get_read each _ i own refl c.loop-own-test.true c.own-item.is) c.requires.fit).entry
 
-pub put_report-requires-clause-reads : goal.put_report-requires-clause-reads
-put_report-requires-clause-reads c =
-    let each = c.args.each.now in
-    let i = c.loop-own.own-index in
-    let own = c.own-item.result in
-    (of_one (FitsAt c.args.index) each i own (slice_get_read each _ i own refl c.loop-own-test.true c.own-item.is) c.requires.fit).reads
-
 pub put_report-requires-clause-places : goal.put_report-requires-clause-places
 put_report-requires-clause-places c =
     let each = c.args.each.now in

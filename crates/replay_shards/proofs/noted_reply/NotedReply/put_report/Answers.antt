@@ -17,5 +17,5 @@ returns-clause-report c = λ read.
     ∙ ap shown (take_all c.loop-place.place-index c.as_slice-place-items.result.now c.loop-place-test.false)
     ∙ ap shown c.as_slice-place-items.ensures.places in
     subst (λ (items : List ℕ). Contains items read ↔ (Contains found read ⊎ Reports c.args.index read s)) (sym all)
-    (reported found indices c.args.index s e c.entry.ensures.entry c.indices-indices.ensures.indices
-    (c.requires.places c.args.index e indices c.entry.ensures.entry c.indices-indices.ensures.indices) read)
+    (reported found indices c.args.index s e c.entry.ensures.entry (c.indices-indices.ensures.indices c.requires.entries)
+    (c.requires.places c.args.index e indices c.entry.ensures.entry (c.indices-indices.ensures.indices c.requires.entries)) read)
