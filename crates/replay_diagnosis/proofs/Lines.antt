@@ -1,5 +1,5 @@
 -- No text of a finding has a line feed.
-use Rattle.std.proofs.Common.{◌≡◌, ℕ, suc, ◌+◌, ◌%◌, ◌<◌, ◌^◌, Bool, true, false, List, [], ◌∷◌, ◌++◌, codes, decimal, map, refl, sym, ap, ◌∙◌, append_assoc, arith, inl, inr}
+use Rattle.std.proofs.Common.{◌≡◌, ℕ, suc, ◌+◌, ◌%◌, ◌<◌, ◌^◌, Bool, true, false, List, [], ◌∷◌, ◌++◌, codes, decimal, map, refl, sym, ap, ap₂, ◌∙◌, append_assoc, arith, inl, inr}
 use Rattle.std.specs.Prelude.{ℤ, pos, negsuc, ◌==◌, ◌||◌, if◌then◌else◌}
 use Rattle.std.specs.Fmt.{signed_decimal}
 use Rattle.std.specs.Int.{w64}
@@ -19,7 +19,7 @@ abbrev IsWithin : List ℕ → Type 0
 IsWithin text = has_line_feed text ≡ false
 
 both : (xs ys : List ℕ) → IsWithin xs → IsWithin ys → IsWithin (xs ++ ys)
-both xs ys first second = list_any-append (λ byte. byte == 10) xs ys ∙ (λ i. first i || second i)
+both xs ys first second = list_any-append (λ byte. byte == 10) xs ys ∙ ap₂ (λ (a b : Bool). a || b) first second
 
 other_byte : (byte : ℕ) → ¬ (byte ≡ 10) → IsWithin (byte ∷ [])
 other_byte byte other = ap (λ (b : Bool). b || false) (ne_eqb byte 10 other)
@@ -47,7 +47,7 @@ shown_byte_within byte =
 
 shown_within : (name : List ℕ) → IsWithin (shown name)
 shown_within [] = refl
-shown_within (byte ∷ name) = λ i. shown_byte_within byte i || shown_within name i
+shown_within (byte ∷ name) = ap₂ (λ (a b : Bool). a || b) (shown_byte_within byte) (shown_within name)
 
 position_within : (at : Position) → PositionFits at → IsWithin (position_text at)
 position_within at fits =

@@ -9,7 +9,7 @@ use Rattle.wire.proofs.callers.Frames.{at_least_four, is_fault, is_reply_fault}
 use Rattle.replay_diagnosis.specs.declared.position.Position.{Position}
 use Rattle.replay_diagnosis.specs.declared.finding.Finding.{Finding}
 use Rattle.replay_diagnosis.specs.declared.finding.Finding.TheVariants as found
-use Rattle.replay_diagnosis.specs.Content.{BeginsAsJson, BeginsWithReply, EndsInFrame, IsFindingAt, IsNoFrame, IsNoJson}
+use Rattle.replay_diagnosis.specs.Content.{BeginsAsJson, BeginsWithReply, EndsInFrame, HasNoBatch, IsFindingAt, IsNoFrame, IsNoJson}
 use Rattle.replay_diagnosis.proofs.FrontLengths.{same_frame_length}
 
 json : (left now : Option (List ℕ)) (front : List ℕ) → Consumes left now front → BeginsAsJson front → IfSome left BeginsAsJson
@@ -27,6 +27,13 @@ reply (Some xs) (Some ys) front taken begins = (
   taken ∙ ap (λ (t : List ℕ). t ++ ys) begins.3 ∙ append_assoc begins.1 begins.2 ys,
   begins.4,
 )
+
+no_batch : (left now : Option (List ℕ)) (front : List ℕ) → Consumes left now front → front ≢ []
+    → (length front < frame_length front → IsAtEnd now) → HasNoBatch front → IfSome left HasNoBatch
+no_batch None now front taken some end none = tt
+no_batch (Some xs) None front taken some end none = absurd taken
+no_batch (Some xs) (Some ys) front taken some end none =
+    (none.0, is_fault none.0 (Some xs) (Some ys) front taken some end none.1.1)
 
 -- the first byte is in the front
 begins_in_front : (front rest : List ℕ) → front ≢ [] → BeginsAsJson (front ++ rest) → BeginsAsJson front
@@ -71,8 +78,10 @@ pub settled : (position : Position) (left now : Option (List ℕ)) (front : List
     → IsFindingAt position left finding
 settled position left now front found.Memory taken some end is = tt
 settled position left now front (found.Unreadable at) taken some end is = is
-settled position left now front found.Json taken some end is = (is.0, json left now front taken is.1)
-settled position left now front (found.Reply at) taken some end is = (is.0, reply left now front taken is.1)
+settled position left now front found.Json taken some end is =
+    (is.0, json left now front taken is.1, no_batch left now front taken some end is.2)
+settled position left now front (found.Reply at) taken some end is =
+    (is.0, reply left now front taken is.1, no_batch left now front taken some end is.2)
 settled position left now front (found.Truncated at missing) taken some end is =
     (is.0, ends missing left now front taken end is.1, no_json position left now front taken some is.2)
 settled position left now front (found.NotAFrame at fault) taken some end is =

@@ -21,6 +21,10 @@ use Rattle.replay_diagnosis.specs.Following.{HasLeast}
 abbrev pub position_after : List ℕ → List Batch → Position
 position_after bytes batches = record { frame = length batches + 1; offset = length bytes }
 
+-- something is left, and no frame of a batch is at the front
+abbrev pub HasNoBatch : List ℕ → Type 0
+HasNoBatch bytes = (fault : WireError) × IsFaultOf fault bytes
+
 -- an object of JSON begins with a brace
 abbrev pub BeginsAsJson : List ℕ → Type 0
 BeginsAsJson bytes = (rest : List ℕ) × (bytes ≡ 123 ∷ rest)
@@ -49,8 +53,10 @@ pub record IsNoFrame (fault : WireError) (bytes : List ℕ) : Type 0 where
 abbrev pub IsFindingAt : Position → Option (List ℕ) → Finding → Type 0
 IsFindingAt position left found.Memory = Unit {0}
 IsFindingAt position left (found.Unreadable at) = at ≡ position
-IsFindingAt position left found.Json = (position.offset ≡ 0) × IfSome left BeginsAsJson
-IsFindingAt position left (found.Reply at) = (at ≡ position) × IfSome left BeginsWithReply
+IsFindingAt position left found.Json =
+    (position.offset ≡ 0) × IfSome left BeginsAsJson × IfSome left HasNoBatch
+IsFindingAt position left (found.Reply at) =
+    (at ≡ position) × IfSome left BeginsWithReply × IfSome left HasNoBatch
 IsFindingAt position left (found.Truncated at missing) =
     (at ≡ position) × IfSome left (EndsInFrame missing) × IfSome left (IsNoJson position)
 IsFindingAt position left (found.NotAFrame at fault) =

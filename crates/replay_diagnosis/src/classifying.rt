@@ -11,11 +11,24 @@ use byteorder::{BigEndian, ByteOrder};
 use std::alloc::Global;
 use wire::{MAX_BODY_LENGTH, WireError, decode_reply};
 
-/// Returns what is at a position of a file that has this fault. The front is as much of the bytes
-/// from there on as settles what the frame says, or all of them.
+/// Returns what is at a position of a file where no batch was decoded, with this fault. The front is
+/// as much of the bytes from there on as settles what the frame says, or all of them.
 pub fn classify(alloc: Global, position: Position, front: &[u8], fault: WireError) -> Finding
     requires some { 0 < length front.now }
     requires fault { fault ≢ WireError.Memory → batch_fault front.now ≡ Some fault }
+    ensures finding { IsFindingAt position (Some front.now) result }
+    ensures readable { ¬ IsUnreadable result }
+{
+    match fault {
+        WireError::Memory => Finding::Memory,
+        fault => faulty(alloc, position, front, fault),
+    }
+}
+
+// Returns what is at a position where the frame of a batch has this fault.
+fn faulty(alloc: Global, position: Position, front: &[u8], fault: WireError) -> Finding
+    requires some { 0 < length front.now }
+    requires fault { batch_fault front.now ≡ Some fault }
     ensures finding { IsFindingAt position (Some front.now) result }
     ensures readable { ¬ IsUnreadable result }
 {
@@ -29,10 +42,7 @@ pub fn classify(alloc: Global, position: Position, front: &[u8], fault: WireErro
             missing: (settled - front.len()) as u64,
         };
     }
-    match fault {
-        WireError::Memory => Finding::Memory,
-        fault => without_batch(alloc, position, front, fault),
-    }
+    without_batch(alloc, position, front, fault)
 }
 
 // Returns whether the front is that of a file that begins as JSON does.

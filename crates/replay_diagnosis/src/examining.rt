@@ -1,7 +1,7 @@
 //! What a file contains.
 
 ghost use Rattle.std.specs.Prelude.{◌≡◌, ◌<◌, ◌≤◌, Some, length, IfErr, IfNone, IfOk, IfSome};
-ghost use Rattle.std.specs.Prelude.{OnOk};
+ghost use Rattle.std.specs.Prelude.{OnOk, vec_len};
 ghost use Rattle.std.specs.Io.KnownBytes.{Consumes, IsAtEnd};
 ghost use Rattle.wire.specs.FrameLength.{frame_length};
 ghost use Rattle.wire.specs.NextFrame.{IsFrameOf};
@@ -70,16 +70,37 @@ fn next_batch<R: Source>(
     ensures others { IfErr result (λ finding. ¬ IsUnreadable finding
         → R.failures reader.new ≡ R.failures reader.old) }
 {
-    match fill_frame(reader, frame) {
-        Ok(()) => {}
-        Err(WireError::Read) => return Err(Finding::Unreadable(position)),
-        Err(_) => return Err(Finding::Memory),
-    }
+    next_frame(position, reader, frame)?;
     if frame.is_empty() {
         return Ok(None);
     }
     let batch = batch_in(alloc, position, frame)?;
     Ok(Some(batch))
+}
+
+// Reads the bytes of the next frame into the buffer, as `fill_frame` does.
+fn next_frame<R: Source>(
+    position: Position,
+    reader: &mut R,
+    frame: &mut Vec<u8>,
+) -> Result<(), Finding>
+    ensures taken { OnOk result (Consumes (R.remaining reader.old) (R.remaining reader.new)
+        frame.new.items) }
+    ensures within { OnOk result (vec_len frame.new ≤ frame_length frame.new.items) }
+    ensures end { OnOk result
+        (vec_len frame.new < frame_length frame.new.items → IsAtEnd (R.remaining reader.new)) }
+    ensures finding { IfErr result (IsFindingAt position (R.remaining reader.old)) }
+    ensures ok { OnOk result (R.failures reader.new ≡ R.failures reader.old) }
+    ensures read { IfErr result (λ finding. IsUnreadable finding
+        → R.failures reader.old < R.failures reader.new) }
+    ensures others { IfErr result (λ finding. ¬ IsUnreadable finding
+        → R.failures reader.new ≡ R.failures reader.old) }
+{
+    match fill_frame(reader, frame) {
+        Ok(()) => Ok(()),
+        Err(WireError::Read) => Err(Finding::Unreadable(position)),
+        Err(_) => Err(Finding::Memory),
+    }
 }
 
 // Returns the batch of the frame at this position, or what is there instead.
