@@ -62,7 +62,7 @@ least_of_both so_far version other batches more le le_other either least least_m
 
 -- of one batch
 pub least_of_one : (batch : Batch) → HasLeast (batch ∷ []) (Some batch.previous)
-least_of_one batch = ((omega (arith, ints), tt), [], batch, [], refl, refl)
+least_of_one batch = ((omega (arith, ints), tt), ([], batch, [], refl, refl))
 
 pub none_begins : (version : ℤ) (batches : List Batch) → negsuc 0 <ℤ version → NoneFollowsBelow version batches → NoneBegins batches
 none_begins version batches lt none =

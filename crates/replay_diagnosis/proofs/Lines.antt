@@ -49,9 +49,14 @@ shown_within : (name : List ℕ) → IsWithin (shown name)
 shown_within [] = refl
 shown_within (byte ∷ name) = ap₂ (λ (a b : Bool). a || b) (shown_byte_within byte) (shown_within name)
 
+three : (xs ys zs : List ℕ) → IsWithin xs → IsWithin ys → IsWithin zs → IsWithin (xs ++ ys ++ zs)
+three xs ys zs first second third = both (xs ++ ys) zs (both xs ys first second) third
+
 position_within : (at : Position) → PositionFits at → IsWithin (position_text at)
 position_within at fits =
-    both _ _ (both _ _ (both (codes "frame ") _ refl (decimal_within at.frame fits.0)) refl) (decimal_within at.offset fits.1)
+    both (codes "frame " ++ decimal at.frame ++ codes " at byte ") (decimal at.offset)
+    (three (codes "frame ") (decimal at.frame) (codes " at byte ") refl (decimal_within at.frame fits.0) refl)
+    (decimal_within at.offset fits.1)
 
 either_within : (test : Bool) (xs ys : List ℕ) → IsWithin xs → IsWithin ys → IsWithin (if test then xs else ys)
 either_within true xs ys first second = first
@@ -59,11 +64,15 @@ either_within false xs ys first second = second
 
 advice_within : (at : Position) → PositionFits at → IsWithin (advice at)
 advice_within at fits =
-    either_within (at.offset == 0) _ _ refl (both _ _ (both _ _ refl (decimal_within at.offset fits.1)) refl)
+    let keep = codes ": record it again, or keep the frames before it with `head -c " in
+    either_within (at.offset == 0) (codes ": name a file of batches") (keep ++ decimal at.offset ++ codes "`") refl
+    (three keep (decimal at.offset) (codes "`") refl (decimal_within at.offset fits.1) refl)
 
 unreadable_within : (at : Position) → PositionFits at → IsWithin (unreadable_text at)
 unreadable_within at fits =
-    either_within (at.offset == 0) _ _ refl (both _ _ (both _ _ refl (position_within at fits)) refl)
+    either_within (at.offset == 0) (codes " can't be read: it is a directory, or its device fails")
+    (codes " can't be read at " ++ position_text at ++ codes ": check its device") refl
+    (three (codes " can't be read at ") (position_text at) (codes ": check its device") refl (position_within at fits) refl)
 
 finding_within : (finding : Finding) → FindingFits finding → IsWithin (finding_text finding)
 finding_within found.CannotOpen fits = refl
@@ -72,18 +81,30 @@ finding_within found.StandardInput fits = refl
 finding_within found.Memory fits = refl
 finding_within (found.Unreadable at) fits = unreadable_within at fits
 finding_within found.Json fits = refl
-finding_within (found.Reply at) fits = both _ _ (both _ _ refl (position_within at fits)) refl
+finding_within (found.Reply at) fits =
+    three (codes " contains replies, not batches, from ") (position_text at) (codes " on: give them to `--check`") refl
+    (position_within at fits) refl
 finding_within (found.Truncated at missing) fits =
-    both _ _ (both _ _ (both _ _ (both _ _ (both _ _ refl (position_within at fits.0)) refl) (decimal_within missing fits.1)) refl)
+    let begin = codes " ends inside " ++ position_text at ++ codes ", " in
+    both (begin ++ decimal missing ++ codes " bytes too early") (advice at)
+    (three begin (decimal missing) (codes " bytes too early")
+    (three (codes " ends inside ") (position_text at) (codes ", ") refl (position_within at fits.0) refl)
+    (decimal_within missing fits.1) refl)
     (advice_within at fits.0)
 finding_within (found.NotAFrame at fault) fits =
-    both _ _ (both _ _ refl (position_within at fits)) (advice_within at fits)
+    three (codes " has no frame of a batch as ") (position_text at) (advice at) refl (position_within at fits) (advice_within at fits)
 
 run_finding_within : (finding : RunFinding) → RunFindingFits finding → IsWithin (run_finding_text finding)
-run_finding_within (run.AllHeld version) fits = both _ _ (both _ _ refl (signed_within version fits)) refl
+run_finding_within (run.AllHeld version) fits =
+    three (codes "no batch follows version -1, so all are held: begin the chain with `batches opening --version ")
+    (signed_decimal version) (codes "`") refl (signed_within version fits) refl
 run_finding_within run.GateFull fits = refl
 run_finding_within (run.ArenaFull version limit) fits =
-    both _ _ (both _ _ (both _ _ (both _ _ refl (signed_within version fits.0)) refl) (decimal_within limit fits.1)) refl
+    let begin = codes "version " ++ signed_decimal version ++ codes " was reached with a limit of " in
+    three begin (decimal limit) (codes " boundaries: raise `--limit`, or use a smaller `--window`")
+    (three (codes "version ") (signed_decimal version) (codes " was reached with a limit of ") refl
+    (signed_within version fits.0) refl)
+    (decimal_within limit fits.1) refl
 run_finding_within run.Output fits = refl
 
 pub remedy_is_line : (name : List ℕ) (finding : Finding) → FindingFits finding → IsIndentedLine (remedy_line name finding)

@@ -86,8 +86,17 @@ fn put_unreadable(out: &mut Vec<u8>, position: &Position) -> io::Result<()>
     ensures text { OnOk result (out.new.items ≡ out.old.items ++ unreadable_text position.now) }
 {
     if position.offset == 0 {
-        return out.write_all(b" can't be read: it is a directory, or its device fails");
+        out.write_all(b" can't be read: it is a directory, or its device fails")
+    } else {
+        put_unreadable_at(out, position)
     }
+}
+
+fn put_unreadable_at(out: &mut Vec<u8>, position: &Position) -> io::Result<()>
+    ensures text { OnOk result (out.new.items ≡ out.old.items
+        ++ (codes " can't be read at " ++ position_text position.now
+        ++ codes ": check its device")) }
+{
     out.write_all(b" can't be read at ")?;
     put_position(out, position)?;
     out.write_all(b": check its device")

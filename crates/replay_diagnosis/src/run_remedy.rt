@@ -68,13 +68,21 @@ fn put_finding(out: &mut Vec<u8>, finding: &RunFinding) -> io::Result<()>
             b"too many batches wait for one that is missing: make all files one chain, with \
               rising versions in each file",
         ),
-        RunFinding::ArenaFull { version, limit } => write!(
-            out,
-            "version {version} was reached with a limit of {limit} boundaries: raise `--limit`, \
-             or use a smaller `--window`"
-        ),
+        RunFinding::ArenaFull { version, limit } => put_arena_full(out, *version, *limit),
         RunFinding::Output => out.write_all(
             b"standard output can't be written: free its disk, or read it to its end",
         ),
     }
+}
+
+fn put_arena_full(out: &mut Vec<u8>, version: i64, limit: usize) -> io::Result<()>
+    ensures text { OnOk result (out.new.items ≡ out.old.items
+        ++ run_finding_text (RunFinding.ArenaFull version limit)) }
+{
+    write!(out, "version {version}")?;
+    write!(
+        out,
+        " was reached with a limit of {limit} boundaries: raise `--limit`, or use a smaller \
+         `--window`"
+    )
 }
