@@ -1,0 +1,38 @@
+// spawn OUTPUT PROGRAM ARGUMENT..: as bench/spawn.c, and prints the processor seconds (user and system) after the seconds by the clock.
+#define _GNU_SOURCE
+#include <fcntl.h>
+#include <stdio.h>
+#include <stdlib.h>
+#include <sys/resource.h>
+#include <sys/wait.h>
+#include <time.h>
+#include <unistd.h>
+
+static double now(void) {
+    struct timespec time;
+    clock_gettime(CLOCK_MONOTONIC, &time);
+    return (double)time.tv_sec + (double)time.tv_nsec / 1e9;
+}
+
+static double seconds(struct timeval t) { return (double)t.tv_sec + (double)t.tv_usec / 1e6; }
+
+int main(int count, char **arguments) {
+    if (count < 3) return 2;
+    int output = open(arguments[1], O_WRONLY | O_CREAT | O_TRUNC, 0644);
+    if (output < 0) return perror("spawn"), 1;
+    double start = now();
+    pid_t child = fork();
+    if (child < 0) return perror("spawn"), 1;
+    if (child == 0) {
+        dup2(output, STDOUT_FILENO);
+        execv(arguments[2], arguments + 2);
+        perror(arguments[2]);
+        _exit(127);
+    }
+    int status;
+    struct rusage usage;
+    if (wait4(child, &status, 0, &usage) != child) return perror("spawn"), 1;
+    printf("%.6f %.6f %ld %d\n", now() - start, seconds(usage.ru_utime) + seconds(usage.ru_stime), usage.ru_maxrss,
+           WIFEXITED(status) ? WEXITSTATUS(status) : 128 + WTERMSIG(status));
+    return 0;
+}
