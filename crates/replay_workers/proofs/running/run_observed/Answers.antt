@@ -4,12 +4,12 @@ use Rattle.std.specs.Prelude.{Option, map, vec_items}
 use Rattle.std.proofs.lemmas.List.{length-map}
 use Rattle.keyspace.specs.Run.{Step}
 use Rattle.resolver.specs.Observed.{HasSeen}
+use Rattle.wire.specs.declared.frames.Frames.{Frames}
 use Rattle.wire.specs.Frames.{frames_reader}
 use Rattle.wire.specs.NextFrame.{TakesFrame}
 use Rattle.replay_workers.specs.Worker.{IsFaultAt}
 use Rattle.replay_workers.specs.Run.{IsRun, IsObservedRun, is_complete}
 use Rattle.replay_workers.proofs.Seen.{map_twice, run_seen, run_seen_log}
-use Rattle.replay_workers.proofs.running.run_observed.Goals.{In_ok-streams}
 use Rattle.replay_workers.proofs.running.run_observed.Goals as goal
 
 pub run_over-requires : goal.run_over-requires
@@ -25,7 +25,7 @@ run_over-requires g c =
 
 pub returns : goal.returns
 returns g c =
-    let view = λ frames. g.S.Source.remaining (frames_reader frames) in
+    let view = λ (frames : Frames g.row.S.Denot). g.S.Source.remaining (frames_reader frames) in
     let streams = c.in_ok-streams.streams.items in
     let options = c.args.options in
     let outcome = c.in_ok-outcome.outcome in

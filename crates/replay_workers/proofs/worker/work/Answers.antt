@@ -1,6 +1,7 @@
 use Rattle.std.proofs.Common.{ap, subst}
 use Rattle.std.specs.Io.KnownBytes.{IsAtEnd}
 use Rattle.std.specs.Prelude.{Option, List, ℕ}
+use Rattle.wire.specs.declared.frames.Frames.{Frames}
 use Rattle.wire.specs.Frames.{frames_reader}
 use Rattle.wire.specs.NextFrame.{TakesFrame}
 use Rattle.replay_workers.specs.Worker.{HasWorked, IsFaultAt}
@@ -9,7 +10,7 @@ use Rattle.replay_workers.proofs.worker.work.Goals as goal
 
 pub returns-clause-worked : goal.returns-clause-worked
 returns-clause-worked g c =
-    let view = λ frames. g.S.Source.remaining (frames_reader frames) in
+    let view = λ (frames : Frames g.row.S.Denot). g.S.Source.remaining (frames_reader frames) in
     let assignment = c.args.assignment in
     subst (λ (bytes : Option (List ℕ)). HasWorked assignment.style assignment.proxy bytes c.args.client c.work_over.result)
     (ap g.S.Source.remaining c.read_frames-frames.ensures.reader)
