@@ -28,17 +28,17 @@ loop-worker-preserved g c =
     record {
       joined = (
         before.0 ++ given ∷ [],
-        before.1 ++ c.join.result ∷ [],
+        before.1 ++ c.join-finished.result ∷ [],
         append_assoc before.0 (given ∷ []) (map given_to rest)
             ∙ ap (λ workers. before.0 ++ map given_to workers) (sym c.in-Some.ensures.steps.0) ∙ before.2,
         AllZip-also (HasWorkedOn g.B.Batches.gives g.B.Batches.is_at_end g.B.Batches.is_at_fault g.B.Batches.stays) before.0
-            before.1 given c.join.result before.3 c.join.ensures,
+            before.1 given c.join-finished.result before.3 c.join-finished.ensures,
         subst (λ (all : List Finished). IsOutcomeOf all c.push.new.self)
-            (sym (map-append (λ (w : Worked g.row.B.Denot). w.finished) before.1 (c.join.result ∷ [])))
-            (outcome_also (finished_of before.1) c.loop-worker.outcome c.push.new.self c.join.result.finished before.4
+            (sym (map-append (λ (w : Worked g.row.B.Denot). w.finished) before.1 (c.join-finished.result ∷ [])))
+            (outcome_also (finished_of before.1) c.loop-worker.outcome c.push.new.self c.join-finished.result.finished before.4
             c.push.ensures.clients c.push.ensures.lines c.push.ensures.failures c.push.ensures.all_sent c.push.ensures.sends_all),
-        c.push_reserved.ensures.items ∙ ap (λ (l : List g.row.B.Denot). l ++ c.join.result.batches ∷ []) before.5
-            ∙ sym (map-append (λ (w : Worked g.row.B.Denot). w.batches) before.1 (c.join.result ∷ [])),
+        c.push_reserved.ensures.items ∙ ap (λ (l : List g.row.B.Denot). l ++ c.join-finished.result.batches ∷ []) before.5
+            ∙ sym (map-append (λ (w : Worked g.row.B.Denot). w.batches) before.1 (c.join-finished.result ∷ [])),
       );
       room = grind (arith, common_steps);
       streams_room = grind (arith, common_steps);
