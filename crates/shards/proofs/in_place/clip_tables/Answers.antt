@@ -68,10 +68,12 @@ keep_all-requires-clause-built c =
     rw (c.deref.ensures.value, c.deref-2.ensures.value)
     (shard_at points c.args.shard, c.args.shard, it.0, c.in_ok-tables.ensures.built, it.2, left at.In_ok-tables it.0 it.1 it.3)
 
-pub returns-clause-built : goal.returns-clause-built
-returns-clause-built c = λ txns told few zipped.
-    let at = goal.at.returns-clause-built c in
-    let m = c.args.shard in
-    let shard = shard_at c.args.points.now m in
-    c.in_ok-keep_all.ensures.built shard m txns c.in_ok-tables.ensures.built few
-    (rw (c.deref.ensures.value, c.deref-2.ensures.value) (left at.In_ok-tables txns told zipped))
+pub returns : goal.returns
+returns c = record {
+  built = λ txns told few zipped.
+      let at = goal.at.returns c in
+      let m = c.args.shard in
+      let shard = shard_at c.args.points.now m in
+      c.in_ok-keep_all.ensures.built shard m txns c.in_ok-tables.ensures.built few
+      (rw (c.deref.ensures.value, c.deref-2.ensures.value) (left at.In_ok-tables txns told zipped));
+}

@@ -5,7 +5,8 @@ use Rattle.wire.specs.Fields.{batch_fields}
 use Rattle.wire.specs.Lying.{batch_told}
 use Rattle.wire.proofs.batch.batch_of.Goals as goal
 
-pub returns-clause-fields : goal.returns-clause-fields
-returns-clause-fields c =
-    IfOk-weaker c.order.result _ (λ (batch : Batch). batch_fields batch ≡ batch_told c.args.frame.items c.args.tables)
-    (λ batch same. ap batch_fields same ∙ c.in_ok-batch.ensures.fields) c.order.ensures.batch
+pub returns : goal.returns
+returns c = record {
+  fields = IfOk-weaker c.order.result _ (λ (batch : Batch). batch_fields batch ≡ batch_told c.args.frame.items c.args.tables)
+      (λ batch same. ap batch_fields same ∙ c.in_ok-batch.ensures.fields) c.order.ensures.batch;
+}

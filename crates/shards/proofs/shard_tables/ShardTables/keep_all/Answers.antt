@@ -67,18 +67,20 @@ loop-row-preserved c = record {
       );
 }
 
-pub returns-clause-built : goal.returns-clause-built
-returns-clause-built c = λ shard m txns built few left.
-    let l = c.loop-row in
-    let old = c.args.self.now in
-    let rows = c.args.rows.now in
-    let count : length txns ≤ l.row-index =
-    omega (
-      arith,
-      c.loop-row-test.false,
-      ap length left.told,
-      length-map txns txn_fields,
-      length-told old.buffer.items c.args.spans.now 0 rows,
-    ) in
-    subst (λ (front : List Txn). IsBuilt shard m front l.self) (take_all l.row-index txns count)
-    (l.invariant.each shard m txns built few left).0
+pub returns : goal.returns
+returns c = record {
+  built = λ shard m txns built few left.
+      let l = c.loop-row in
+      let old = c.args.self.now in
+      let rows = c.args.rows.now in
+      let count : length txns ≤ l.row-index =
+      omega (
+        arith,
+        c.loop-row-test.false,
+        ap length left.told,
+        length-map txns txn_fields,
+        length-told old.buffer.items c.args.spans.now 0 rows,
+      ) in
+      subst (λ (front : List Txn). IsBuilt shard m front l.self) (take_all l.row-index txns count)
+      (l.invariant.each shard m txns built few left).0;
+}
