@@ -1,4 +1,4 @@
-use Rattle.std.proofs.Common.{◌≡◌, ◌<◌, ◌+◌, ◌++◌, ◌∷◌, ◌∙◌, List, [], true, length, map, take, get_or, sym, ap, subst, arith}
+use Rattle.std.proofs.Common.{◌≡◌, ◌<◌, ◌≤◌, ◌+◌, ◌++◌, ◌∷◌, ◌∙◌, List, [], true, length, map, take, get_or, sym, ap, subst, arith, take_all}
 use Rattle.std.specs.Prelude.{Some}
 use Rattle.std.proofs.lemmas.List.{length-map}
 use Rattle.std.proofs.lemmas.Option.{get_or_from_slice_get, slice_get-get_or}
@@ -58,3 +58,19 @@ loop-index-preserved c = λ shard m buffer ranges has within told zipped.
           subst (λ (all : List RangeFields). ArePut buffer old all buffer c.if-includes.kept.items) clips
           (rw w.kept-is before)
     ]
+
+pub returns : goal.returns
+returns c = record {
+  kept = λ shard m buffer ranges has within told zipped.
+      let count : length ranges ≤ c.loop-index.index =
+      omega (
+        arith,
+        c.loop-index-test.false,
+        c.requires.count,
+        ap length told,
+        length-map c.args.spans.now (range_told buffer),
+        length-map ranges range_fields,
+      ) in
+      subst (λ (front : List Range). ArePut buffer c.args.kept.now.items (clips_of shard front) buffer c.loop-index.kept.items)
+      (take_all c.loop-index.index ranges count) (c.loop-index.invariant shard m buffer ranges has within told zipped);
+}
