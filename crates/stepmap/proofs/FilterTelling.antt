@@ -1,9 +1,8 @@
 -- What the filter tells, and that it goes on telling where a step map changes.
-use Rattle.std.proofs.Common.{◌≡◌, ℕ, List, None, Option, Some, inl, inr, ap, sym, subst, arith}
+use Rattle.std.proofs.Common.{◌≡◌, ℕ, List, inl, inr, sym, subst, arith}
 use Rattle.std.specs.Prelude.{ℤ, ◌≤ℤ◌, ◌<ℤ◌}
 use Rattle.std.proofs.lemmas.Int.{ints}
 use Rattle.filter.specs.Filter.{FilterState, bound}
-use Rattle.keys.specs.Hash.{IsHashOf, hash_of}
 use Rattle.keys.specs.Range.{Holds}
 use Rattle.keys.specs.declared.range.Range.{Range}
 use Rattle.keys.proofs.callers.KeyOrder.{not_both, before_or_at_most}
@@ -11,7 +10,7 @@ use Rattle.stepmap.specs.Boundary.{value_at}
 use Rattle.stepmap.specs.StepMap.{Steps}
 use Rattle.stepmap.specs.Covers.{SameFrom, IsAbove}
 use Rattle.keys.specs.Range.{IsSingle}
-use Rattle.stepmap.specs.Filtering.{FilterTells, IsBound}
+use Rattle.stepmap.specs.Filtering.{FilterTells}
 use Rattle.stepmap.proofs.SingleKeys.{single_holds}
 
 -- the function isn't above a number at a single key whose bound isn't
@@ -23,14 +22,6 @@ not_above f m range s tells from single low above =
     let there : s <ℤ bound f range.begin =
     subst (λ key. s <ℤ bound f key) (single_holds range key single above.2) higher in
     absurd (omega (arith, ints))
-
--- the bound of the key of a hash is a bound of the range that has the hash
-pub is_bound : (f : FilterState) (m : Steps) (range : Range) (hash : Option ℕ) (found : ℤ) → FilterTells f m
-    → IsHashOf range hash → ((key : List ℕ) → hash ≡ Some (hash_of key) → found ≡ bound f key) → IsBound m range found
-is_bound f m range None found tells is_hash told = λ single. absurd (is_hash single)
-is_bound f m range (Some hash) found tells is_hash told = λ single s from low.
-    let same : found ≡ bound f range.begin = told range.begin (ap Some is_hash.1) in
-    not_above f m range s tells from single (subst (λ (b : ℤ). b ≤ℤ s) same low)
 
 module _ (f : FilterState) (old new : Steps) (tells : FilterTells f old) where
   -- where the function stays the same at and above the edge

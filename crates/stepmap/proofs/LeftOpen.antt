@@ -1,210 +1,149 @@
--- The queries that are left open, and the answers that are put for them.
-use Rattle.std.proofs.Common.{◌≡◌, ℕ, zero, suc, ◌+◌, ◌-◌, ◌<◌, ◌≤◌, ℤ, Bool, true, false, cond, List, [], ◌∷◌, ◌++◌, length, set, take, drop, refl, sym, ◌∙◌, ap, subst, arith, append-nil, append_assoc, drop_of_length-le, length-append, length-drop, length-set}
-use Rattle.std.specs.Prelude.{◌↔◌, IsTrue, IsSomeAnd, Some, slice_get, slice_range}
+-- Those that are left open, and the answers that are told for them.
+use Rattle.std.proofs.Common.{◌≡◌, ℕ, zero, suc, ◌+◌, ◌<◌, ◌≤◌, ℤ, Bool, true, false, cond, List, [], ◌∷◌, ◌++◌, length, take, drop, refl, sym, ◌∙◌, ap, subst, arith, append-nil, drop_of_length-le, length-append, length-drop, length-take, map}
+use Rattle.std.specs.Prelude.{◌↔◌, IsTrue, IsSomeAnd, Some, count_by, slice_get}
 use Rattle.std.specs.List.{All, AllZip}
 use Rattle.std.proofs.Math.Seq.{take-add}
-use Rattle.std.proofs.lemmas.List.{drop-drop, drop_at, length-take-le, length_push, set_at, take-append-drop, take_all, take_at}
-use Rattle.std.proofs.lemmas.List.Elements.{All-nil, All-cons}
-use Rattle.std.proofs.lemmas.Slice.Zip.{AllZip-long}
+use Rattle.std.proofs.lemmas.List.{take_all, get_or-drop, get_or-take, length-take-le}
+use Rattle.std.proofs.lemmas.List.Sums.{sum_by-cons}
+use Rattle.std.proofs.lemmas.Option.{get_or_from_slice_get, slice_get-get_or, slice_get_within}
+use Rattle.std.proofs.lemmas.Slice.Zip.{AllZip-long, all_zipped_more}
 use Rattle.keys.specs.Range.{IsEmpty}
 use Rattle.keys.specs.declared.range.Range.{Range}
-use Rattle.keys.proofs.callers.Lists.{part_get}
+use Rattle.keys.proofs.callers.Lists.{part_more}
 use Rattle.stepmap.specs.Covers.{IsAbove}
-use Rattle.stepmap.specs.Filtering.{IsMark, open_from, with_answers}
+use Rattle.stepmap.specs.Filtering.{left_of, with_told, AreMarked}
 use Rattle.stepmap.specs.StepMap.{Steps}
-use Rattle.stepmap.proofs.InTurn.{AllZip-append, AllZip-take, AllZip-drop}
+use Rattle.stepmap.proofs.InTurn.{AllZip-append, AllZip-second, AllZip-through}
 
--- one mark more
-pub open_more : (index : ℕ) (marks : List Bool) (mark : Bool)
-    → open_from index (marks ++ mark ∷ []) ≡ open_from index marks ++ cond mark ((index + length marks) ∷ []) []
-open_more index [] true = ap (λ (i : ℕ). i ∷ []) (let e : index ≡ index + 0 = omega arith in e)
-open_more index [] false = refl
-open_more index (true ∷ marks) mark =
-    let last : (index + 1) + length marks ≡ index + length (true ∷ marks) = omega arith in
-    ap (λ rest. index ∷ rest)
-    (open_more (index + 1) marks mark ∙ ap (λ (i : ℕ). open_from (index + 1) marks ++ cond mark (i ∷ []) []) last)
-open_more index (false ∷ marks) mark =
-    let last : (index + 1) + length marks ≡ index + length (false ∷ marks) = omega arith in
-    open_more (index + 1) marks mark ∙ ap (λ (i : ℕ). open_from (index + 1) marks ++ cond mark (i ∷ []) []) last
+module _ (Above : Range × ℤ → Type 0) where
+  -- answers that are right of those that are left, and no of the others, are right of all
+  pub told_of_all : (queries : List (Range × ℤ)) (marks told : List Bool)
+      → AllZip (λ q mark. ¬ IsTrue mark → ¬ Above q) queries marks
+      → AllZip (λ q above. IsTrue above ↔ Above q) (left_of queries marks) told
+      → AllZip (λ q above. IsTrue above ↔ Above q) queries (with_told marks told)
+  told_of_all [] [] told others left = tt
+  told_of_all [] (mark ∷ marks) told others left = absurd others
+  told_of_all (q ∷ queries) [] told others left = absurd others
+  told_of_all (q ∷ queries) (false ∷ marks) told others left =
+      let no : ¬ Above q = others.0 (λ e. cc) in
+      ((λ e. cc, λ above. absurd (no above)), told_of_all queries marks told others.1 left)
+  told_of_all (q ∷ queries) (true ∷ marks) [] others left = absurd left
+  told_of_all (q ∷ queries) (true ∷ marks) (above ∷ told) others left =
+      (left.0, told_of_all queries marks told others.1 left.1)
 
--- the indices of marks are below that behind the last
-within_all : (bound index : ℕ) (marks : List Bool) → index + length marks ≤ bound
-    → All (λ place. place < bound) (open_from index marks)
-within_all bound index [] le = All-nil (λ place. place < bound)
-within_all bound index (true ∷ marks) le =
-    All-cons (λ place. place < bound) index (open_from (index + 1) marks) (omega (arith, le))
-    (within_all bound (index + 1) marks (omega (arith, le)))
-within_all bound index (false ∷ marks) le = within_all bound (index + 1) marks (omega (arith, le))
+-- as many are left as are marked
+pub length-left_of : (queries : List (Range × ℤ)) (marks : List Bool) → length marks ≤ length queries
+    → length (left_of queries marks) ≡ count_by (λ mark. mark) marks
+length-left_of [] [] le = refl
+length-left_of [] (mark ∷ marks) le = absurd (omega (arith, le))
+length-left_of (q ∷ queries) [] le = refl
+length-left_of (q ∷ queries) (false ∷ marks) le = length-left_of queries marks (omega (arith, le))
+length-left_of (q ∷ queries) (true ∷ marks) le =
+    omega (arith, length-left_of queries marks (omega (arith, le)), sum_by-cons (λ (mark : Bool). cond mark 1 0) true marks)
 
--- answers are put for marks, of which there stay as many
-pub length_answered : (marks : List Bool) (places : List ℕ) (answers : List Bool)
-    → length (with_answers marks places answers) ≡ length marks
-length_answered marks [] answers = refl
-length_answered marks (place ∷ places) [] = refl
-length_answered marks (place ∷ places) (answer ∷ answers) =
-    length_answered (set marks place answer) places answers ∙ length-set marks place answer
+-- one more is marked
+left_of_more : (queries : List (Range × ℤ)) (marks : List Bool) (q : Range × ℤ) (mark : Bool)
+    → length queries ≡ length marks
+    → left_of (queries ++ q ∷ []) (marks ++ mark ∷ []) ≡ left_of queries marks ++ cond mark (q ∷ []) []
+left_of_more [] [] q true same = refl
+left_of_more [] [] q false same = refl
+left_of_more [] (m ∷ marks) q mark same = absurd (omega (arith, same))
+left_of_more (p ∷ queries) [] q mark same = absurd (omega (arith, same))
+left_of_more (p ∷ queries) (false ∷ marks) q mark same = left_of_more queries marks q mark (omega (arith, same))
+left_of_more (p ∷ queries) (true ∷ marks) q mark same =
+    ap (λ rest. p ∷ rest) (left_of_more queries marks q mark (omega (arith, same)))
 
--- the answers instead of the marks that are set, in order
-abbrev answered : List Bool → List Bool → List Bool
-answered [] answers = []
-answered (false ∷ marks) answers = false ∷ answered marks answers
-answered (true ∷ marks) [] = true ∷ answered marks []
-answered (true ∷ marks) (answer ∷ answers) = answer ∷ answered marks answers
+module _ (m : Steps) (queries : List (Range × ℤ)) (from : ℕ) where
+  module _ (marks : List Bool) (places : List ℕ) (are : AreMarked m queries from marks places) where
+    abbrev part : List (Range × ℤ)
+    part = take (length marks) (drop from queries)
 
-length_these : (marks answers : List Bool) → length (answered marks answers) ≡ length marks
-length_these [] answers = refl
-length_these (false ∷ marks) answers = ap suc (length_these marks answers)
-length_these (true ∷ marks) [] = ap suc (length_these marks [])
-length_these (true ∷ marks) (answer ∷ answers) = ap suc (length_these marks answers)
+    long : length part ≡ length marks
+    long = length-take-le (length marks) (drop from queries) (omega (arith, are.within, length-drop from queries))
 
--- the answers at the indices of the marks of a part stand in that part
-put_open : (R : ℕ → Bool → Type 0) (index : ℕ) (before marks after answers : List Bool) → length before ≡ index
-    → AllZip R (open_from index marks) answers
-    → with_answers (before ++ (marks ++ after)) (open_from index marks) answers ≡ before ++ (answered marks answers ++ after)
-put_open R index before [] after answers is all = refl
-put_open R index before (false ∷ marks) after answers is all =
-    let more : length (before ++ false ∷ []) ≡ index + 1 = omega (arith, length_push before false, is) in
-    ap (λ (ms : List Bool). with_answers ms (open_from (index + 1) marks) answers)
-    (sym (append_assoc before (false ∷ []) (marks ++ after)))
-    ∙ put_open R (index + 1) (before ++ false ∷ []) marks after answers more all
-    ∙ append_assoc before (false ∷ []) (answered marks answers ++ after)
-put_open R index before (true ∷ marks) after [] is all = absurd all
-put_open R index before (true ∷ marks) after (answer ∷ answers) is all =
-    let more : length (before ++ answer ∷ []) ≡ index + 1 = omega (arith, length_push before answer, is) in
-    ap (λ (ms : List Bool). with_answers ms (open_from (index + 1) marks) answers)
-    (set_at before true (marks ++ after) answer index is ∙ sym (append_assoc before (answer ∷ []) (marks ++ after)))
-    ∙ put_open R (index + 1) (before ++ answer ∷ []) marks after answers more all.1
-    ∙ append_assoc before (answer ∷ []) (answered marks answers ++ after)
+    module _ (q : Range × ℤ) (is : slice_get queries (from + length marks) ≡ Some q) where
+      more : (mark : Bool) → length (marks ++ mark ∷ []) ≡ length marks + 1
+      more mark = length-append marks (mark ∷ [])
 
-module _ (m : Steps) (queries : List (Range × ℤ)) where
-  abbrev pub Right : ℕ → Bool → Type 0
-  Right place above = IsSomeAnd (slice_get queries place) (λ q. IsTrue above ↔ IsAbove m q.0 q.1)
+      next : (mark : Bool) → take (length (marks ++ mark ∷ [])) (drop from queries) ≡ part ++ q ∷ []
+      next mark = ap (λ n. take n (drop from queries)) (more mark) ∙ part_more queries from (length marks) q is
 
-  -- these queries stand among all from the index on
-  abbrev AreFrom : ℕ → List (Range × ℤ) → Type 0
-  AreFrom index qs = (k : ℕ) (q : Range × ℤ) → slice_get qs k ≡ Some q → slice_get queries (index + k) ≡ Some q
+      within : (mark : Bool) → from + length (marks ++ mark ∷ []) ≤ length queries
+      within mark = omega (arith, more mark, slice_get_within queries (from + length marks) q is)
 
-  first : (index : ℕ) (q : Range × ℤ) (qs : List (Range × ℤ)) → AreFrom index (q ∷ qs) → slice_get queries index ≡ Some q
-  first index q qs are =
-      let same : index ≡ index + 0 = omega arith in
-      ap (slice_get queries) same ∙ are 0 q refl
+      others : (mark : Bool) → (¬ IsTrue mark → ¬ IsAbove m q.0 q.1)
+          → AllZip (λ q mark. ¬ IsTrue mark → ¬ IsAbove m q.0 q.1)
+          (take (length (marks ++ mark ∷ [])) (drop from queries)) (marks ++ mark ∷ [])
+      others mark it = subst (λ qs. AllZip (λ q mark. ¬ IsTrue mark → ¬ IsAbove m q.0 q.1) qs (marks ++ mark ∷ []))
+          (sym (next mark)) (all_zipped_more _ part marks q mark are.others it)
 
-  others : (index : ℕ) (q : Range × ℤ) (qs : List (Range × ℤ)) → AreFrom index (q ∷ qs) → AreFrom (index + 1) qs
-  others index q qs are k p is =
-      let same : (index + 1) + k ≡ index + suc k = omega arith in
-      ap (slice_get queries) same ∙ are (suc k) p is
+      left : (mark : Bool) → left_of (take (length (marks ++ mark ∷ [])) (drop from queries)) (marks ++ mark ∷ [])
+          ≡ left_of part marks ++ cond mark (q ∷ []) []
+      left mark = ap (λ qs. left_of qs (marks ++ mark ∷ [])) (next mark) ∙ left_of_more part marks q mark long
 
-  -- the ranges of open queries aren't empty
-  filled : (index : ℕ) (qs : List (Range × ℤ)) (marks : List Bool) → AreFrom index qs → AllZip (λ q mark. IsMark m q mark) qs marks
-      → All (λ place. IsSomeAnd (slice_get queries place) (λ q. ¬ IsEmpty q.0)) (open_from index marks)
-  filled index [] [] are marked = All-nil (λ place. IsSomeAnd (slice_get queries place) (λ q. ¬ IsEmpty q.0))
-  filled index [] (mark ∷ marks) are marked = absurd marked
-  filled index (q ∷ qs) [] are marked = absurd marked
-  filled index (q ∷ qs) (false ∷ marks) are marked = filled (index + 1) qs marks (others index q qs are) marked.1
-  filled index (q ∷ qs) (true ∷ marks) are marked =
-      All-cons (λ place. IsSomeAnd (slice_get queries place) (λ q. ¬ IsEmpty q.0)) index (open_from (index + 1) marks)
-      (subst (λ o. IsSomeAnd o (λ (q : Range × ℤ). ¬ IsEmpty q.0)) (sym (first index q qs are)) (marked.0.0 cc))
-      (filled (index + 1) qs marks (others index q qs are) marked.1)
+      abbrev At : Range × ℤ → ℕ → Type 0
+      At q place = (slice_get queries place ≡ Some q) × (¬ IsEmpty q.0)
 
-  -- answers that are right of the open queries, and no of the others, are right of all
-  right_of_all : (index : ℕ) (qs : List (Range × ℤ)) (marks answers : List Bool) → AreFrom index qs
-      → AllZip (λ q mark. IsMark m q mark) qs marks → AllZip Right (open_from index marks) answers
-      → AllZip (λ q above. IsTrue above ↔ IsAbove m q.0 q.1) qs (answered marks answers)
-  right_of_all index [] [] answers are marked right = tt
-  right_of_all index [] (mark ∷ marks) answers are marked right = absurd marked
-  right_of_all index (q ∷ qs) [] answers are marked right = absurd marked
-  right_of_all index (q ∷ qs) (false ∷ marks) answers are marked right =
-      let no : ¬ IsAbove m q.0 q.1 = marked.0.1 (λ e. cc) in (
-        (λ e. cc, λ above. absurd (no above)),
-        right_of_all (index + 1) qs marks answers (others index q qs are) marked.1 right,
-      )
-  right_of_all index (q ∷ qs) (true ∷ marks) [] are marked right = absurd right
-  right_of_all index (q ∷ qs) (true ∷ marks) (answer ∷ answers) are marked right = (
-    subst (λ o. IsSomeAnd o (λ (q : Range × ℤ). IsTrue answer ↔ IsAbove m q.0 q.1)) (first index q qs are) right.0,
-    right_of_all (index + 1) qs marks answers (others index q qs are) marked.1 right.1,
-  )
+      -- one more is marked that is left open
+      pub marked_open : ¬ IsEmpty q.0 → AreMarked m queries from (marks ++ true ∷ []) (places ++ (from + length marks) ∷ [])
+      marked_open filled = record {
+        within = within true;
+        others = others true (λ h. absurd (h cc));
+        left = subst (λ qs. AllZip At qs (places ++ (from + length marks) ∷ [])) (sym (left true))
+            (all_zipped_more At (left_of part marks) places q (from + length marks) are.left (is, filled));
+      }
 
-  module _ (marks : List Bool) (from to : ℕ) (rises : from < to) (within : to ≤ length marks)
-      (marked : AllZip (λ q mark. IsMark m q mark) (drop from queries) (drop from marks))
-    where
-      abbrev qs : List (Range × ℤ)
-      qs = slice_range queries from to
+      -- one more is marked that isn't
+      pub marked_other : ¬ IsAbove m q.0 q.1 → AreMarked m queries from (marks ++ false ∷ []) places
+      marked_other below = record {
+        within = within false;
+        others = others false (λ e. below);
+        left = subst (λ qs. AllZip At qs places) (sym (left false ∙ append-nil (left_of part marks))) are.left;
+      }
 
-      abbrev part : List Bool
-      part = slice_range marks from to
+    -- the ranges that are left open aren't empty
+    pub places_filled : All (λ place. IsSomeAnd (slice_get queries place) (λ q. ¬ IsEmpty q.0)) places
+    places_filled = AllZip-second (λ (q : Range × ℤ) place. (slice_get queries place ≡ Some q) × (¬ IsEmpty q.0))
+        (λ place. IsSomeAnd (slice_get queries place) (λ q. ¬ IsEmpty q.0))
+        (λ q place at. subst (λ o. IsSomeAnd o (λ q. ¬ IsEmpty q.0)) (sym at.0) at.1) (left_of part marks) places are.left
 
-      part_marked : AllZip (λ q mark. IsMark m q mark) qs part
-      part_marked = AllZip-take (λ (q : Range × ℤ) mark. IsMark m q mark) (to - from) (drop from queries) (drop from marks) marked
+    -- answers that are right of the queries at the places are right of those that are left
+    module _ (told : List Bool)
+        (right : AllZip (λ place above. IsSomeAnd (slice_get queries place) (λ q. IsTrue above ↔ IsAbove m q.0 q.1)) places told)
+      where
+        told_left : AllZip (λ q above. IsTrue above ↔ IsAbove m q.0 q.1) (left_of part marks) told
+        told_left = AllZip-through (λ (q : Range × ℤ) place. (slice_get queries place ≡ Some q) × (¬ IsEmpty q.0))
+            (λ place above. IsSomeAnd (slice_get queries place) (λ q. IsTrue above ↔ IsAbove m q.0 q.1))
+            (λ q above. IsTrue above ↔ IsAbove m q.0 q.1)
+            (λ q place above at it. subst (λ o. IsSomeAnd o (λ q. IsTrue above ↔ IsAbove m q.0 q.1)) at.0 it)
+            (left_of part marks) places told are.left right
 
-      part_from : AreFrom from qs
-      part_from = λ k q is. part_get queries from to k q is
-
-      pub open_filled : All (λ place. IsSomeAnd (slice_get queries place) (λ q. ¬ IsEmpty q.0)) (open_from from part)
-      open_filled = filled from qs part part_from part_marked
-
-      count : length part ≡ to - from
-      count = length-take-le (to - from) (drop from marks) (omega (arith, length-drop from marks, within))
-
-      pub open_within : All (λ place. place < length marks) (open_from from part)
-      open_within = within_all (length marks) from part (omega (arith, count, rises, within))
-
-      module _ (answers : List Bool) (right : AllZip Right (open_from from part) answers) where
-        abbrev now : List Bool
-        now = with_answers marks (open_from from part) answers
-
-        part_right : AllZip (λ q above. IsTrue above ↔ IsAbove m q.0 q.1) qs (answered part answers)
-        part_right = right_of_all from qs part answers part_from part_marked right
-
-        far : from + (to - from) ≡ to
-        far = omega (arith, rises)
-
-        before_long : length (take from marks) ≡ from
-        before_long = length-take-le from marks (omega (arith, rises, within))
-
-        rest : part ++ drop to marks ≡ drop from marks
-        rest = ap (λ (xs : List Bool). part ++ xs)
-            (ap (λ n. drop n marks) (sym far) ∙ sym (drop-drop (to - from) from marks)) ∙ take-append-drop (to - from) (drop from marks)
-
-        parted : now ≡ take from marks ++ (answered part answers ++ drop to marks)
-        parted = ap (λ (ms : List Bool). with_answers ms (open_from from part) answers)
-            (sym (ap (λ (xs : List Bool). take from marks ++ xs) rest ∙ take-append-drop from marks))
-            ∙ put_open Right from (take from marks) part (drop to marks) answers before_long right
-
-        front : now ≡ (take from marks ++ answered part answers) ++ drop to marks
-        front = parted ∙ sym (append_assoc (take from marks) (answered part answers) (drop to marks))
-
-        front_long : length (take from marks ++ answered part answers) ≡ to
-        front_long = omega (
+        -- as many are told as are marked
+        pub told_many : count_by (λ mark. mark) marks ≤ length told
+        told_many = omega (
           arith,
-          length-append (take from marks) (answered part answers),
-          before_long,
-          length_these part answers,
-          count,
-          rises,
+          length-left_of part marks (omega (arith, long)),
+          AllZip-long _ (left_of part marks) told told_left,
         )
 
-        -- with answers before the part, there are answers up to its end
-        pub told_up_to : AllZip (λ q above. IsTrue above ↔ IsAbove m q.0 q.1) (take from queries) (take from marks)
-            → AllZip (λ q above. IsTrue above ↔ IsAbove m q.0 q.1) (take to queries) (take to now)
-        told_up_to before =
-            let Told = λ (q : Range × ℤ) (above : Bool). IsTrue above ↔ IsAbove m q.0 q.1 in
-            subst (AllZip Told (take to queries))
-            (sym (ap (take to) front ∙ take_at (take from marks ++ answered part answers) (drop to marks) to front_long))
-            (subst (λ qs. AllZip Told qs (take from marks ++ answered part answers))
-            (sym (ap (λ n. take n queries) (sym far) ∙ take-add from (to - from) queries))
-            (AllZip-append Told (take from queries) qs (take from marks) (answered part answers) before part_right))
+        told_part : AllZip (λ q above. IsTrue above ↔ IsAbove m q.0 q.1) part (with_told marks told)
+        told_part = told_of_all (λ q. IsAbove m q.0 q.1) part marks told are.others told_left
 
-        -- the marks behind the part stay
-        pub marked_behind : AllZip (λ q mark. IsMark m q mark) (drop to queries) (drop to now)
-        marked_behind =
-            let Marked = λ (q : Range × ℤ) (mark : Bool). IsMark m q mark in
-            let k = to - from in
-            let same : drop to now ≡ drop to marks =
-            ap (drop to) front ∙ drop_at (take from marks ++ answered part answers) (drop to marks) to front_long in
-            subst (AllZip Marked (drop to queries)) (sym same)
-            (subst (λ qs. AllZip Marked qs (drop to marks)) (drop-drop k from queries ∙ ap (λ n. drop n queries) far)
-            (subst (AllZip Marked (drop k (drop from queries))) (drop-drop k from marks ∙ ap (λ n. drop n marks) far)
-            (AllZip-drop Marked k (drop from queries) (drop from marks) marked)))
+        -- one answer a mark
+        pub length-told : length (with_told marks told) ≡ length marks
+        length-told = omega (arith, AllZip-long _ part (with_told marks told) told_part, long)
+
+        -- behind answers that are right, they are right
+        pub told_behind : (answers : List Bool) → length answers ≡ from
+            → AllZip (λ q above. IsTrue above ↔ IsAbove m q.0 q.1) (take from queries) answers
+            → AllZip (λ q above. IsTrue above ↔ IsAbove m q.0 q.1)
+            (take (length (answers ++ with_told marks told)) queries) (answers ++ with_told marks told)
+        told_behind answers is before =
+            let count : length (answers ++ with_told marks told) ≡ from + length marks =
+            omega (arith, length-append answers (with_told marks told), length-told) in
+            subst (λ qs. AllZip (λ q above. IsTrue above ↔ IsAbove m q.0 q.1) qs (answers ++ with_told marks told))
+            (sym (ap (λ n. take n queries) count ∙ take-add from (length marks) queries))
+            (AllZip-append _ (take from queries) part answers (with_told marks told) before told_part)
 
 -- what is put back in place of all
 pub put_back : (n : ℕ) (new old : List Bool) → n ≡ length old → length new ≡ length old
@@ -222,3 +161,48 @@ is_false false e h = absurd (different h)
   where
     different : false ≡ true → ⊥
     different e = cc
+
+-- what a function makes of each is so related to its partner
+pub AllZip-mapped : {X Y Z : Type 0} (R : X → Y → Type 0) (S : X → Z → Type 0) (f : Y → Z)
+    → ((x : X) (y : Y) → R x y → S x (f y)) → (xs : List X) (ys : List Y) → AllZip R xs ys → AllZip S xs (map f ys)
+AllZip-mapped R S f each [] [] all = tt
+AllZip-mapped R S f each [] (y ∷ ys) all = absurd all
+AllZip-mapped R S f each (x ∷ xs) [] all = absurd all
+AllZip-mapped R S f each (x ∷ xs) (y ∷ ys) all = (each x y all.0, AllZip-mapped R S f each xs ys all.1)
+
+-- equal ones are related to all, if that one is
+pub AllZip-equal : {X Y : Type 0} (R : X → Y → Type 0) (y : Y) → ((x : X) → R x y) → (xs : List X) (ys : List Y)
+    → length xs ≡ length ys → All (λ other. other ≡ y) ys → AllZip R xs ys
+AllZip-equal R y each [] [] same equal = tt
+AllZip-equal R y each [] (other ∷ ys) same equal = absurd (omega (arith, same))
+AllZip-equal R y each (x ∷ xs) [] same equal = absurd (omega (arith, same))
+AllZip-equal R y each (x ∷ xs) (other ∷ ys) same equal =
+    let first : other ≡ y = equal 0 y (omega arith) in (
+      subst (R x) (sym first) (each x),
+      AllZip-equal R y each xs ys (omega (arith, same)) (λ k d l. equal (suc k) d (omega (arith, l))),
+    )
+
+-- those at one place are related
+AllZip-at : {X Y : Type 0} (R : X → Y → Type 0) (xs : List X) (ys : List Y) → AllZip R xs ys → (k : ℕ) (x : X) (y : Y)
+    → slice_get xs k ≡ Some x → slice_get ys k ≡ Some y → R x y
+AllZip-at R [] [] are k x y x_is y_is = absurd cc
+AllZip-at R [] (b ∷ ys) are k x y x_is y_is = absurd are
+AllZip-at R (a ∷ xs) [] are k x y x_is y_is = absurd are
+AllZip-at R (a ∷ xs) (b ∷ ys) are zero x y x_is y_is =
+    let left : a ≡ x = cc in
+    let right : b ≡ y = cc in
+    subst (λ z. R z y) left (subst (R a) right are.0)
+AllZip-at R (a ∷ xs) (b ∷ ys) are (suc k) x y x_is y_is = AllZip-at R xs ys are.1 k x y x_is y_is
+
+-- those at one place of a part are related
+pub AllZip-part : {X Y : Type 0} (R : X → Y → Type 0) (xs : List X) (from : ℕ) (ys : List Y)
+    → AllZip R (take (length ys) (drop from xs)) ys → (k : ℕ) (x : X) (y : Y) → slice_get xs (from + k) ≡ Some x
+    → slice_get ys k ≡ Some y → R x y
+AllZip-part R xs from ys are k x y x_is y_is =
+    let within = slice_get_within ys k y y_is in
+    let inside = slice_get_within xs (from + k) x x_is in
+    let there : k < length (drop from xs) = omega (arith, inside, length-drop from xs) in
+    let item = get_or-take (length ys) (drop from xs) k x within ∙ get_or-drop from xs k x ∙ get_or_from_slice_get xs (from + k) x x x_is in
+    let at : slice_get (take (length ys) (drop from xs)) k ≡ Some x =
+    slice_get-get_or (take (length ys) (drop from xs)) k x (omega (arith, within, there, length-take (length ys) (drop from xs))) ∙ ap Some item in
+    AllZip-at R (take (length ys) (drop from xs)) ys are k x y at y_is

@@ -1,5 +1,6 @@
 -- What a filter says beside a step map, and who is asked instead if it says nothing. This project's own.
-use Rattle.std.specs.Prelude.{ℕ, ℤ, ◌+◌, ◌≤ℤ◌, ◌<ℤ◌, if◌then◌else◌, Bool, IsTrue, List, [], ◌∷◌, set}
+use Rattle.std.specs.Prelude.{◌≡◌, ℕ, ℤ, ◌+◌, ◌≤◌, ◌≤ℤ◌, ◌<ℤ◌, if◌then◌else◌, Bool, true, false, IsTrue, List, [], ◌∷◌, length, take, drop, Some, slice_get}
+use Rattle.std.specs.List.{AllZip}
 use Rattle.filter.specs.Filter.{FilterState, bound}
 use Rattle.keys.specs.Key.{IsBytes}
 use Rattle.keys.specs.Range.{IsEmpty, IsSingle}
@@ -18,20 +19,23 @@ abbrev pub IsBound : Steps → Range → ℤ → Type 0
 IsBound m range bound =
     IsSingle range → (s : ℤ) → m.edge ≤ℤ s → bound ≤ℤ s → ¬ IsAbove m range s
 
--- a mark of a query: if it is set, the query is open, and its range isn't empty; if it isn't set,
--- the function isn't above the version at any key of the range
-abbrev pub IsMark : Steps → Range × ℤ → Bool → Type 0
-IsMark m q mark = (IsTrue mark → ¬ IsEmpty q.0) × (¬ IsTrue mark → ¬ IsAbove m q.0 q.1)
+-- those of the queries that are marked, in order
+abbrev pub left_of : List (Range × ℤ) → List Bool → List (Range × ℤ)
+left_of [] marks = []
+left_of (q ∷ queries) [] = []
+left_of (q ∷ queries) (mark ∷ marks) = if mark then q ∷ left_of queries marks else left_of queries marks
 
--- the indices of the marks that are set, in order; that of the first mark is given
-abbrev pub open_from : ℕ → List Bool → List ℕ
-open_from index [] = []
-open_from index (mark ∷ marks) =
-    if mark then index ∷ open_from (index + 1) marks else open_from (index + 1) marks
+-- the answers instead of the marks, in order
+abbrev pub with_told : List Bool → List Bool → List Bool
+with_told [] told = []
+with_told (false ∷ marks) told = false ∷ with_told marks told
+with_told (true ∷ marks) [] = true ∷ with_told marks []
+with_told (true ∷ marks) (above ∷ told) = above ∷ with_told marks told
 
--- the marks, with an answer at each of these indices instead
-abbrev pub with_answers : List Bool → List ℕ → List Bool → List Bool
-with_answers marks [] answers = marks
-with_answers marks (index ∷ indices) [] = marks
-with_answers marks (index ∷ indices) (answer ∷ answers) =
-    with_answers (set marks index answer) indices answers
+-- The queries from this index on are marked, as many as there are marks. The function isn't above the version of one that
+-- isn't. The others are at these places, and their ranges aren't empty.
+pub record AreMarked (m : Steps) (queries : List (Range × ℤ)) (from : ℕ) (marks : List Bool) (places : List ℕ) : Type 0 where
+  pub within : from + length marks ≤ length queries
+  pub others : AllZip (λ q mark. ¬ IsTrue mark → ¬ IsAbove m q.0 q.1) (take (length marks) (drop from queries)) marks
+  pub left : AllZip (λ q place. (slice_get queries place ≡ Some q) × (¬ IsEmpty q.0))
+      (left_of (take (length marks) (drop from queries)) marks) places

@@ -1,52 +1,58 @@
 //! A filter's bounds of several queries at once.
 //!
 //! The hashes of their keys are gathered first, and the cells read then: so the memory of all these
-//! cells is waited for at once. Arrays hold both, since each push to a vector tests whether there is
-//! room.
+//! cells is waited for at once.
 
-ghost use Rattle.std.specs.Prelude.{◌≡◌, ◌+◌, ◌-◌, ◌≤◌, ℕ, List, Some, length, take, drop};
+ghost use Rattle.std.specs.Prelude.{◌≡◌, ◌+◌, ◌-◌, ◌≤◌, All, length, map, take, drop};
 ghost use Rattle.std.specs.List.{AllZip};
-ghost use Rattle.filter.specs.Filter.{bound};
-ghost use Rattle.keys.specs.Hash.{IsHashOf, hash_of};
+ghost use Rattle.filter.specs.Filter.{bound_in};
+ghost use Rattle.keys.specs.Hash.{hash_of};
+ghost use Rattle.keys.specs.Range.{IsSingle};
+ghost use Rattle.tree.specs.declared.question.TheConstants.{SIDE};
 
 use crate::query::QueryList;
+use arrayvec::ArrayVec;
 use filter::Filter;
+use tree::SIDE;
 
-/// How many bounds are computed at once. With fewer the processor waits more often for cells.
-pub const BLOCK: usize = 64;
-
-const _: () = prove!(BLOCK == 64);
-
-/// Returns what [`QueryList::hash`] returns for the queries from one index up to another. It looks
-/// at no key.
-#[inline(always)]
-pub fn hashes_from<L: QueryList>(queries: &L, from: usize, to: usize) -> [Option<u32>; BLOCK]
+/// Returns a hash for each of the queries from one index up to another: that of its key, if its
+/// range is a single key. It looks at no key.
+pub fn hashes_from<L: QueryList>(queries: &L, from: usize, to: usize) -> ArrayVec<u32, SIDE>
     requires ordered { from ≤ to }
     requires within { to ≤ length (L.queries queries.now) }
-    requires few { to ≤ from + BLOCK }
-    ensures hashes { AllZip (λ q hash. IsHashOf q.0 hash)
-        (take (to - from) (drop from (L.queries queries.now))) (take (to - from) result) }
+    requires few { to ≤ from + SIDE }
+    ensures hashes { AllZip (λ q hash. IsSingle q.0 → hash ≡ hash_of q.0.begin)
+        (take (to - from) (drop from (L.queries queries.now))) result.items }
+    ensures count { length result.items ≡ to - from }
 {
-    let mut hashes = [None; BLOCK];
+    let mut hashes = ArrayVec::new();
     for index in from..to {
-        hashes[index - from] = queries.hash(index);
+        hashes.push(queries.hash(index).unwrap_or(0));
     }
     hashes
 }
 
-/// Returns for each of the first hashes the bound of its key. A number for `None` is unspecified.
-#[inline(always)]
-pub fn bounds_at(filter: &Filter, hashes: &[Option<u32>; BLOCK], count: usize) -> [i64; BLOCK]
-    requires few { count ≤ BLOCK }
-    ensures bounds { AllZip (λ hash found. (key : List ℕ) → hash ≡ Some (hash_of key)
-        → found ≡ bound filter.now key) (take count hashes.now) (take count result) }
+/// Returns the bounds of the keys of these hashes.
+pub fn bounds_at(filter: &Filter, hashes: &[u32]) -> ArrayVec<i64, SIDE>
+    requires few { length hashes.now ≤ SIDE }
+    ensures bounds { result.items ≡ map (bound_in filter.now) hashes.now }
 {
-    if !filter.is_useful() {
-        return [filter.newest_range(); BLOCK];
+    let mut bounds = ArrayVec::new();
+    for hash in hashes {
+        bounds.push(filter.bound_at(*hash));
     }
-    let mut bounds = [0; BLOCK];
-    for place in 0..count {
-        bounds[place] = filter.bound_at(hashes[place].unwrap_or(0));
+    bounds
+}
+
+/// Returns the bound n times.
+pub fn repeated(bound: i64, count: usize) -> ArrayVec<i64, SIDE>
+    requires few { count ≤ SIDE }
+    ensures each { All (λ b. b ≡ bound) result.items }
+    ensures count { length result.items ≡ count }
+{
+    let mut bounds = ArrayVec::new();
+    while bounds.len() < count {
+        bounds.push(bound);
     }
     bounds
 }

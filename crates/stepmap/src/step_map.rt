@@ -147,8 +147,10 @@ impl StepMap {
             (L.queries queries.now) answers.new.items) }
     {
         answers.clear();
-        answers.resize(queries.len(), false)?;
-        self.answer_all(queries, &mut answers[..]);
+        answers.reserve(queries.len())?;
+        while answers.len() < queries.len() {
+            self.answer_some(queries, answers)?;
+        }
         Ok(())
     }
 

@@ -1,83 +1,126 @@
-//! The answering of many queries: the filter is asked first for all of them, and the boundaries then
-//! for those that it leaves open.
+//! The answering of many queries: the filter is asked first, and the boundaries for those that it
+//! leaves open.
 
-ghost use Rattle.std.specs.Prelude.{◌≡◌, ◌+◌, ◌<◌, ◌≤◌, ◌↔◌, length, take, drop, slice_get};
-ghost use Rattle.std.specs.Prelude.{IsSomeAnd, IsTrue};
+ghost use Rattle.std.specs.Prelude.{◌≡◌, ◌+◌, ◌<◌, ◌≤◌, ◌↔◌, Bool, List, ◌++◌, length, take, drop};
+ghost use Rattle.std.specs.Prelude.{slice_get, IfOk, OnOk, IsSomeAnd, IsTrue};
 ghost use Rattle.std.specs.List.{AllZip};
-ghost use Rattle.keys.specs.Hash.{IsHashOf};
 ghost use Rattle.keys.specs.Range.{IsEmpty};
 ghost use Rattle.stepmap.specs.Covers.{IsAbove};
-ghost use Rattle.stepmap.specs.Filtering.{IsBound, IsMark};
+ghost use Rattle.stepmap.specs.Filtering.{AreMarked, IsBound};
+ghost use Rattle.tree.specs.declared.question.TheConstants.{SIDE};
 
 use super::StepMap;
-use crate::bounding::{BLOCK, bounds_at, hashes_from};
-use crate::left::{next_open, put_answers};
+use crate::bounding::{bounds_at, hashes_from, repeated};
+use crate::left::put_told;
 use crate::query::QueryList;
+use arrayvec::ArrayVec;
+use std::alloc::AllocError;
+use tree::SIDE;
 
 impl StepMap {
-    // Puts the answer for each query, in order.
-    pub(super) fn answer_all<L: QueryList>(&self, queries: &L, answers: &mut [bool])
-        requires each { length answers.old ≡ length (L.queries queries.now) }
-        ensures above { AllZip (λ q above. IsTrue above ↔ IsAbove self.now q.0 q.1)
-            (L.queries queries.now) answers.new }
+    // Answers the next of the queries, and appends the answers. At most `SIDE` of them are looked
+    // up, side by side.
+    pub(super) fn answer_some<L: QueryList>(
+        &self,
+        queries: &L,
+        answers: &mut Vec<bool>,
+    ) -> Result<(), AllocError>
+        requires some { length answers.old.items < length (L.queries queries.now) }
+        ensures more { OnOk result (length answers.old.items < length answers.new.items) }
+        ensures within { OnOk result (length answers.new.items ≤ length (L.queries queries.now)) }
+        ensures told { OnOk result (AllZip (λ q above. IsTrue above ↔ IsAbove self.now q.0 q.1)
+            (take (length answers.old.items) (L.queries queries.now)) answers.old.items
+            → AllZip (λ q above. IsTrue above ↔ IsAbove self.now q.0 q.1)
+            (take (length answers.new.items) (L.queries queries.now)) answers.new.items) }
     {
-        self.mark_all(queries, answers);
-        let mut from = 0;
-        while from < answers.len() {
-            from = self.answer_some(queries, answers, from);
-        }
+        let from = answers.len();
+        let places = self.mark_some(queries, answers)?;
+        let told = self.boundaries.are_above(queries, places.as_slice());
+        put_told(answers, from, told.as_slice());
+        Ok(())
     }
 
-    // Marks the queries: sets the mark of each that the filter leaves open.
-    fn mark_all<L: QueryList>(&self, queries: &L, marks: &mut [bool])
-        requires each { length marks.old ≡ length (L.queries queries.now) }
-        ensures marked { AllZip (λ q mark. IsMark self.now q mark)
-            (L.queries queries.now) marks.new }
-        ensures count { length marks.new ≡ length marks.old }
+    // Marks the next of the queries, and appends the marks: true where the filter leaves a query
+    // open. Returns the places of these. There are at most `SIDE`.
+    fn mark_some<L: QueryList>(
+        &self,
+        queries: &L,
+        marks: &mut Vec<bool>,
+    ) -> Result<ArrayVec<usize, SIDE>, AllocError>
+        requires some { length marks.old.items < length (L.queries queries.now) }
+        ensures marked { IfOk result (λ places. (told : List Bool)
+            × (marks.new.items ≡ marks.old.items ++ told)
+            × (1 ≤ length told) × AreMarked self.now (L.queries queries.now)
+            (length marks.old.items) told places.items) }
     {
-        let count = marks.len();
-        let mut from = 0;
-        while from < count {
-            let to = from + (count - from).min(BLOCK);
-            self.mark_block(queries, from, to, marks);
-            from = to;
+        let count = queries.len();
+        let mut places = ArrayVec::new();
+        while marks.len() < count && !places.is_full() {
+            self.mark_next(queries, marks, &mut places)?;
         }
+        Ok(places)
     }
 
-    // Marks the queries from one index up to another. The marks before these stay.
-    #[inline(always)]
-    fn mark_block<L: QueryList>(&self, queries: &L, from: usize, to: usize, marks: &mut [bool])
-        requires ordered { from ≤ to }
-        requires few { to ≤ from + BLOCK }
-        requires within { to ≤ length (L.queries queries.now) }
-        requires each { length marks.old ≡ length (L.queries queries.now) }
-        ensures marked { AllZip (λ q mark. IsMark self.now q mark)
-            (take from (L.queries queries.now)) (take from marks.old)
-            → AllZip (λ q mark. IsMark self.now q mark)
-            (take to (L.queries queries.now)) (take to marks.new) }
-        ensures count { length marks.new ≡ length marks.old }
+    // Marks the next queries the same way, at least one and up to `SIDE`, as far as there is room
+    // for their places, and adds the places.
+    fn mark_next<L: QueryList>(
+        &self,
+        queries: &L,
+        marks: &mut Vec<bool>,
+        places: &mut ArrayVec<usize, SIDE>,
+    ) -> Result<(), AllocError>
+        requires some { length marks.old.items < length (L.queries queries.now) }
+        requires room { length places.old.items < SIDE }
+        ensures more { OnOk result (length marks.old.items < length marks.new.items) }
+        ensures marked { OnOk result ((old told : List Bool) → marks.old.items ≡ old ++ told
+            → AreMarked self.now (L.queries queries.now) (length old) told places.old.items
+            → (more : List Bool) × (marks.new.items ≡ old ++ more)
+            × AreMarked self.now (L.queries queries.now) (length old) more places.new.items) }
     {
-        let hashes = hashes_from(queries, from, to);
-        let bounds = bounds_at(&self.filter, &hashes, to - from);
-        for index in from..to {
-            let place = index - from;
-            marks[index] = self.is_open(queries, index, hashes[place], bounds[place]);
+        let bounds = self.bounds_from(queries, marks.len(), SIDE);
+        for bound in bounds.as_slice() {
+            if places.is_full() {
+                break;
+            }
+            let place = marks.len();
+            let is_open = self.is_open(queries, place, *bound);
+            if is_open {
+                places.push(place);
+            }
+            marks.push(is_open)?;
         }
+        Ok(())
+    }
+
+    // Returns bounds of the ranges of the next queries, at least one and at most as many as is
+    // said.
+    fn bounds_from<L: QueryList>(
+        &self,
+        queries: &L,
+        from: usize,
+        most: usize,
+    ) -> ArrayVec<i64, SIDE>
+        requires some { from < length (L.queries queries.now) }
+        requires least { 1 ≤ most }
+        requires few { most ≤ SIDE }
+        ensures bounds { AllZip (λ q bound. IsBound self.now q.0 bound)
+            (take (length result.items) (drop from (L.queries queries.now))) result.items }
+        ensures some { 1 ≤ length result.items }
+        ensures few { length result.items ≤ most }
+        ensures within { from + length result.items ≤ length (L.queries queries.now) }
+    {
+        let count = (queries.len() - from).min(most);
+        if !self.filter.is_useful() {
+            return repeated(self.filter.newest_range(), count);
+        }
+        let hashes = hashes_from(queries, from, from + count);
+        bounds_at(&self.filter, hashes.as_slice())
     }
 
     // Returns whether the query at the index is to be looked up: its range isn't empty, and this
     // bound of it leaves it open. The bound has bounds of single keys only, and only from the edge
     // on.
-    #[inline(always)]
-    fn is_open<L: QueryList>(
-        &self,
-        queries: &L,
-        index: usize,
-        hash: Option<u32>,
-        bound: i64,
-    ) -> bool
-        requires hash { IsSomeAnd (slice_get (L.queries queries.now) index)
-            (λ q. IsHashOf q.0 hash) }
+    fn is_open<L: QueryList>(&self, queries: &L, index: usize, bound: i64) -> bool
         requires bound { IsSomeAnd (slice_get (L.queries queries.now) index)
             (λ q. IsBound self.now q.0 bound) }
         ensures filled { IsTrue result
@@ -86,32 +129,10 @@ impl StepMap {
             → IsSomeAnd (slice_get (L.queries queries.now) index)
             (λ q. ¬ IsAbove self.now q.0 q.1) }
     {
-        if hash.is_none() {
+        if queries.hash(index).is_none() {
             return !queries.query(index).range.is_empty();
         }
-        queries.version(index) < self.edge.max(bound)
-    }
-
-    // Looks up the next open queries from an index on, side by side, and replaces their marks by
-    // the answers. Returns the index up to which there are answers now. The marks from there on
-    // stay.
-    fn answer_some<L: QueryList>(&self, queries: &L, marks: &mut [bool], from: usize) -> usize
-        requires some { from < length marks.old }
-        requires marked { AllZip (λ q mark. IsMark self.now q mark)
-            (drop from (L.queries queries.now)) (drop from marks.old) }
-        ensures more { from < result }
-        ensures within { result ≤ length marks.new }
-        ensures told { AllZip (λ q above. IsTrue above ↔ IsAbove self.now q.0 q.1)
-            (take from (L.queries queries.now)) (take from marks.old)
-            → AllZip (λ q above. IsTrue above ↔ IsAbove self.now q.0 q.1)
-            (take result (L.queries queries.now)) (take result marks.new) }
-        ensures marked { AllZip (λ q mark. IsMark self.now q mark)
-            (drop result (L.queries queries.now)) (drop result marks.new) }
-        ensures count { length marks.new ≡ length marks.old }
-    {
-        let next = next_open(marks, from);
-        let told = self.boundaries.are_above(queries, next.places.as_slice());
-        put_answers(marks, next.places.as_slice(), told.as_slice());
-        next.to
+        let version = queries.version(index);
+        version < self.edge || version < bound
     }
 }

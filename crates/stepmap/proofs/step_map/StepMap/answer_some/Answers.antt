@@ -1,13 +1,13 @@
-use Rattle.std.proofs.Common.{rules, ◌≡◌, ◌<◌, ℕ, Bool, List, length, take, drop, ap, sym, subst, ◌∙◌, arith, slice_get}
-use Rattle.std.specs.Prelude.{◌↔◌, IsTrue, IsSomeAnd, slice_range}
+use Rattle.std.proofs.Common.{rules, ◌≡◌, ◌++◌, ℕ, Bool, List, length, take, drop, refl, ap, sym, subst, ◌∙◌, arith, slice_get}
+use Rattle.std.specs.Prelude.{◌↔◌, IsTrue, IsSomeAnd, count_by}
 use Rattle.std.specs.List.{All, AllZip}
-use Rattle.std.proofs.lemmas.Slice.Zip.{AllZip-long}
+use Rattle.std.proofs.Math.Seq.{take-append_seam, drop-append_seam}
 use Rattle.keys.specs.Range.{IsEmpty}
 use Rattle.stepmap.specs.Covers.{IsAbove}
-use Rattle.stepmap.specs.Filtering.{IsMark, open_from, with_answers}
+use Rattle.stepmap.specs.Filtering.{with_told}
 use Rattle.stepmap.specs.Kept.{steps_of}
 use Rattle.stepmap.specs.StepMap.{Steps}
-use Rattle.stepmap.proofs.LeftOpen.{Right, open_filled, open_within, told_up_to, marked_behind, length_answered}
+use Rattle.stepmap.proofs.LeftOpen.{places_filled, told_many, told_behind, put_back}
 use Rattle.stepmap.proofs.step_map.StepMap.answer_some.Given.{Over}
 use Rattle.stepmap.proofs.step_map.StepMap.answer_some.Goals as goal
 use Rattle.stepmap.proofs.step_map.StepMap.answer_some.Goals.{After-are_above-told}
@@ -15,68 +15,68 @@ use Rattle.stepmap.proofs.step_map.StepMap.answer_some.Goals.{After-are_above-to
 pub are_above-told-requires : goal.are_above-told-requires
 are_above-told-requires g c =
     let queries = g.L.QueryList.queries c.args.queries.now in
-    let next = c.next_open-next in
-    let filled = open_filled c.args.self.now queries c.args.marks.now c.args.from next.result.to next.ensures.more
-    next.ensures.within c.requires.marked in (
+    let marked = c.in_ok-places.ensures.marked in (
       search rules,
       (
         c.self.invariant.steps.boundaries,
         (
           c.as_slice.ensures.fits,
           subst (λ (ps : List ℕ). All (λ place. IsSomeAnd (slice_get queries place) (λ q. ¬ IsEmpty q.0)) ps)
-              (sym (c.as_slice.ensures.value ∙ next.ensures.places)) filled,
+              (sym c.as_slice.ensures.value)
+              (places_filled c.args.self.now queries (length c.args.answers.now.items) marked.0 c.in_ok-places.places.items
+              marked.3),
         ),
       ),
     )
 
--- what was told is right of the queries at the indices of the open ones
+-- what was told is right of the queries at the places
 right : (g : Over) (c : After-are_above-told g)
-    → AllZip (Right c.args.self.now (g.L.QueryList.queries c.args.queries.now))
-    (open_from c.args.from (slice_range c.args.marks.now c.args.from c.next_open-next.result.to)) c.are_above-told.result.items
+    → AllZip (λ place above. IsSomeAnd (slice_get (g.L.QueryList.queries c.args.queries.now) place)
+    (λ q. IsTrue above ↔ IsAbove c.args.self.now q.0 q.1)) c.in_ok-places.places.items c.are_above-told.result.items
 right g c =
     let i = c.self.inside in
     let queries = g.L.QueryList.queries c.args.queries.now in
     let map = steps_of i.boundaries i.edge i.ready.items i.cursor.items i.round i.limit in
     let told = c.are_above-told.result.items in
-    subst (λ (m : Steps). AllZip (Right m queries)
-    (open_from c.args.from (slice_range c.args.marks.now c.args.from c.next_open-next.result.to)) told) c.self.view_is
-    (subst (λ (ps : List ℕ). AllZip (Right map queries) ps told) (c.as_slice.ensures.value ∙ c.next_open-next.ensures.places)
-    c.are_above-told.ensures.above)
+    subst (λ (m : Steps). AllZip (λ place above. IsSomeAnd (slice_get queries place) (λ q. IsTrue above ↔ IsAbove m q.0 q.1))
+    c.in_ok-places.places.items told) c.self.view_is
+    (subst (λ (ps : List ℕ). AllZip (λ place above. IsSomeAnd (slice_get queries place)
+    (λ q. IsTrue above ↔ IsAbove map q.0 q.1)) ps told) c.as_slice.ensures.value c.are_above-told.ensures.above)
 
-pub put_answers-requires : goal.put_answers-requires
-put_answers-requires g c =
-    let next = c.next_open-next in
-    let places = c.as_slice-2.ensures.value ∙ next.ensures.places in
-    record {
-      within = subst (λ (ps : List ℕ). All (λ place. place < length c.args.marks.now) ps) (sym places)
-          (open_within c.args.self.now (g.L.QueryList.queries c.args.queries.now) c.args.marks.now c.args.from next.result.to
-          next.ensures.more next.ensures.within c.requires.marked);
-      each = ap length c.as_slice-3.ensures.value
-          ∙ AllZip-long _ _ _ (right g (goal.at.put_answers-requires g c).After-are_above-told) ∙ sym (ap length places);
-    }
+pub put_told-requires-clause-each : goal.put_told-requires-clause-each
+put_told-requires-clause-each g c =
+    let at = (goal.at.put_told-requires-clause-each g c).After-are_above-told in
+    let old = c.args.answers.now.items in
+    let marked = c.in_ok-places.ensures.marked in
+    let marks : drop c.len-from.result c.deref_mut.result.now ≡ marked.0 =
+    ap (drop c.len-from.result) (c.deref_mut.ensures.value ∙ marked.1)
+    ∙ ap (λ n. drop n (old ++ marked.0)) (omega (arith, c.len-from.ensures, c.args.answers.now.ok.0))
+    ∙ drop-append_seam old marked.0 in
+    let many = told_many c.args.self.now (g.L.QueryList.queries c.args.queries.now) (length old) marked.0
+    c.in_ok-places.places.items marked.3 c.are_above-told.result.items (right g at) in
+    omega (arith, many, ap (count_by (λ (mark : Bool). mark)) marks, ap length c.as_slice-2.ensures.value)
 
-pub returns : goal.returns
-returns g c =
+pub returns-clause-told : goal.returns-clause-told
+returns-clause-told g c = λ before.
+    let at = (goal.at.returns-clause-told g c).After-are_above-told in
     let m = c.args.self.now in
     let queries = g.L.QueryList.queries c.args.queries.now in
-    let marks = c.args.marks.now in
-    let from = c.args.from in
-    let next = c.next_open-next in
-    let to = next.result.to in
+    let old = c.args.answers.now.items in
+    let marked = c.in_ok-places.ensures.marked in
     let told = c.are_above-told.result.items in
-    let part = open_from from (slice_range marks from to) in
-    let is : c.put_answers.new.marks ≡ with_answers marks part told =
-    c.put_answers.ensures.answers
-    ∙ ap (λ (ps : List ℕ). with_answers marks ps c.as_slice-3.result.now) (c.as_slice-2.ensures.value ∙ next.ensures.places)
-    ∙ ap (λ (ts : List Bool). with_answers marks part ts) c.as_slice-3.ensures.value in
-    let right = right g (goal.at.returns g c).After-are_above-told in
-    let count : length c.put_answers.new.marks ≡ length marks = ap length is ∙ length_answered marks part told in
-    record {
-      more = next.ensures.more;
-      within = omega (arith, count, next.ensures.within);
-      told = λ before. subst (λ (now : List Bool). AllZip (λ q above. IsTrue above ↔ IsAbove m q.0 q.1) (take to queries) (take to now))
-          (sym is) (told_up_to m queries marks from to next.ensures.more next.ensures.within c.requires.marked told right before);
-      marked = subst (λ (now : List Bool). AllZip (λ q mark. IsMark m q mark) (drop to queries) (drop to now)) (sym is)
-          (marked_behind m queries marks from to next.ensures.more next.ensures.within c.requires.marked told right);
-      count = count;
-    }
+    let count : c.len-from.result ≡ length old = omega (arith, c.len-from.ensures, c.args.answers.now.ok.0) in
+    let items : c.deref_mut.result.now ≡ old ++ marked.0 = c.deref_mut.ensures.value ∙ marked.1 in
+    let front : take c.len-from.result c.deref_mut.result.now ≡ old =
+    ap (take c.len-from.result) items ∙ ap (λ n. take n (old ++ marked.0)) count ∙ take-append_seam old marked.0 in
+    let behind : drop c.len-from.result c.deref_mut.result.now ≡ marked.0 =
+    ap (drop c.len-from.result) items ∙ ap (λ n. drop n (old ++ marked.0)) count ∙ drop-append_seam old marked.0 in
+    let answers : c.put_told.new.marks ≡ old ++ with_told marked.0 told =
+    c.put_told.ensures.answers ∙ ap (λ f. f ++ with_told (drop c.len-from.result c.deref_mut.result.now) c.as_slice-2.result.now) front
+    ∙ ap (λ b. old ++ with_told b c.as_slice-2.result.now) behind
+    ∙ ap (λ ts. old ++ with_told marked.0 ts) c.as_slice-2.ensures.value in
+    let same = ap length c.deref_mut.ensures.value in
+    let back = put_back c.mark_some.new.marks.len c.put_told.new.marks c.mark_some.new.marks.items
+    (omega (arith, c.deref_mut.ensures.len, same)) (omega (arith, c.put_told.auto.marks, same)) in
+    subst (λ (bs : List Bool). AllZip (λ q above. IsTrue above ↔ IsAbove m q.0 q.1) (take (length bs) queries) bs)
+    (sym (back ∙ answers))
+    (told_behind m queries (length old) marked.0 c.in_ok-places.places.items marked.3 told (right g at) old refl before)

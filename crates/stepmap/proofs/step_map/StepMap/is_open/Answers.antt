@@ -18,13 +18,13 @@ not_above m bound version (Some hash) None some is_bound hash_is version_is from
 not_above m bound version (Some hash) (Some q) some is_bound hash_is version_is from_edge from_bound =
     subst (λ (v : ℤ). ¬ IsAbove m q.0 v) version_is (is_bound hash_is.0 version from_edge from_bound)
 
-pub returns-clause-others : goal.returns-clause-others
-returns-clause-others g c = λ not_below.
-    let version = c.version.result in
+pub returns-else-version-self-clause-others : goal.returns-else-version-self-clause-others
+returns-else-version-self-clause-others g c = λ not_below.
+    let version = c.version-version.result in
     let fits : SFits w64 version = search rules in
     let bound_fits : SFits w64 c.args.bound = search rules in
-    let edge : c.self.inside.edge ≤ℤ version = grind (arith, ints, c.max.ensures, not_below) in
-    let from_bound : c.args.bound ≤ℤ version = grind (arith, ints, c.max.ensures, not_below) in
-    not_above c.args.self.now c.args.bound version c.args.hash (slice_get (g.L.QueryList.queries c.args.queries.now) c.args.index)
-    c.if-is_none.ensures c.requires.bound c.requires.hash c.version.ensures.version
+    let edge : c.self.inside.edge ≤ℤ version = grind (arith, ints, c.if-version-self.false) in
+    let from_bound : c.args.bound ≤ℤ version = grind (arith, ints, not_below) in
+    not_above c.args.self.now c.args.bound version c.hash.result (slice_get (g.L.QueryList.queries c.args.queries.now) c.args.index)
+    c.if-is_none.ensures c.requires.bound c.hash.ensures.hash c.version-version.ensures.version
     (subst (λ (m : Steps). m.edge ≤ℤ version) c.self.view_is edge) from_bound
