@@ -4,12 +4,14 @@ use conflict::ConflictSet;
 use keyspace::Verdict;
 use rattle_std::alloc::Global;
 use shards::{BalanceError, Clipped, CombineError, Misfit, ReadIndices, ShardReply, SplitPoints, SplitPointsError};
-use shards::{balanced, clip, clip_all, combine, number_all};
+use shards::{balanced, clip, clip_all, clip_in_place, combine, number_all};
 use stepmap::MAX_LIMIT;
 use tests::cases::{count, run};
 use tests::drawn::{KeySpace, any_batch};
 use tests::plain::{PlainBatch, PlainEntry, PlainRange, PlainReply, PlainTxn, key};
 use tests::random::Random;
+use tests::spelling::batch_frame;
+use wire::{StdSource, read_frames};
 
 type Keys = Vec<Vec<u8>>;
 
@@ -114,6 +116,12 @@ fn clips_are_those_of_a_plain_definition() {
         assert!(numbers.iter().map(indices).eq(expected.iter().map(|(_, reads)| reads.clone())), "{points:?} {batch:?}");
         let shard = random.index(split.shard_count());
         assert_eq!(plain(&clip(Global, &batch.batch(), &split, shard).expect("memory is ample")), expected[shard]);
+        // The same in the buffer of a frame.
+        let frame = batch_frame(&batch, random.pick(&[1, 2]));
+        let found = read_frames(Global, StdSource::new(&frame[..])).next_unordered().expect("the frame is complete");
+        let clip = clip_in_place(Global, found.expect("the frame is there"), &split, shard).expect("memory is ample");
+        assert_eq!(plain(&clip), expected[shard], "{points:?} {batch:?}");
+        assert_eq!(format!("{:?}", clip.batch.txns.ranks()), format!("{:?}", expected[shard].0.batch().txns.ranks()));
         1 + batch.txns.len() as u64
     });
 }

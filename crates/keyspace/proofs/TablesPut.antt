@@ -35,6 +35,13 @@ txns_kept buffer more spans added from (row ∷ rows) to lie are within =
     λ i. record { snapshot = row.snapshot; marked = row.marked; reads = reads i; writes = writes i } in
     ap₂ ◌∷◌ txn (txns_kept buffer more spans added row.end rows to lie are.1 within)
 
+-- what tables tell stays when bytes are appended
+pub told_kept : (buffer more : List ℕ) (spans : List Span) (rows : List Row) → AreTables buffer spans rows
+    → txns_told (buffer ++ more) spans rows ≡ txns_told buffer spans rows
+told_kept buffer more spans rows tables =
+    ap (λ ss. txns_told (buffer ++ more) ss rows) (sym (append-nil spans))
+    ∙ txns_kept buffer more spans [] 0 rows (length spans) tables.spans_within tables.rows_fit (omega arith)
+
 -- the new tables, where the spans and the bytes of the row are appended
 module _ (buffer : List ℕ) (spans : List Span) (rows : List Row) (tables : AreTables buffer spans rows)
     (more : List ℕ) (reads writes : List Span) (row : Row) (txn : TxnFields) (limits : TxnLimits txn)

@@ -75,6 +75,11 @@ module _ (buffer : List ℕ) (spans : List Span) (rows : List Row) (tables : Are
       let as_rows = length-told buffer spans 0 rows in
       omega arith
 
+  -- transactions that the tables tell have the ranges of the spans
+  pub ranges_of_told : (txns : List Txn) → txns_told buffer spans rows ≡ map txn_fields txns
+      → map range_fields (ranges_in txns) ≡ map (range_told buffer) spans
+  ranges_of_told txns told = fields_of_ranges_in txns ∙ ap fields_in (sym told) ∙ told_by_spans
+
   -- the ranges of the transactions are those of the spans
   pub ranges_told : (holds : All TxnLimits (txns_told buffer spans rows))
       → map range_fields (ranges_in (txns_with (txns_told buffer spans rows) holds)) ≡ map (range_told buffer) spans

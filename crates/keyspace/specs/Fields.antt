@@ -79,3 +79,7 @@ abbrev pub txns_with : (txns : List TxnFields) → All TxnLimits txns → List T
 txns_with [] holds = []
 txns_with (txn ∷ txns) holds =
     txn_with txn (All-head TxnLimits txn txns holds) ∷ txns_with txns (All-tail TxnLimits txn txns holds)
+
+pub length-txns_with : (txns : List TxnFields) (holds : All TxnLimits txns) → length (txns_with txns holds) ≡ length txns
+length-txns_with [] holds = refl
+length-txns_with (txn ∷ txns) holds = ap suc (length-txns_with txns (All-tail TxnLimits txn txns holds))

@@ -29,6 +29,7 @@ mod tables;
 mod txn;
 mod txn_ref;
 mod txns;
+mod unordered;
 mod write_order;
 
 pub use answer::Answer;
@@ -42,9 +43,11 @@ pub use reply::{Entry, Places, Reply, Verdict};
 pub use row::Row;
 pub use sequence::Sequence;
 pub use span::Span;
+pub use tables::Tables;
 pub use txn::{MAX_RANGES, Txn};
 pub use txn_ref::TxnRef;
 pub use txns::Txns;
+pub use unordered::UnorderedBatch;
 
 /// The default window, in versions: how far back the resolver remembers committed writes. It is
 /// `MAX_WRITE_TRANSACTION_LIFE_VERSIONS` of FoundationDB 7.1, about five seconds of commit

@@ -1,11 +1,12 @@
 -- What lies in a buffer stays there when more is appended, and clips of one range more are appended.
-use Rattle.std.proofs.Common.{◌≡◌, ℕ, ◌+◌, ◌<◌, Bool, true, false, cond, List, [], ◌∷◌, ◌++◌, length, map, take, get_or, refl, sym, ap, ◌∙◌, subst, subst₂, arith, length-append, append-nil}
-use Rattle.std.specs.Prelude.{Option, Some, None, IfSome, is_some, nat_lt, filter}
+use Rattle.std.proofs.Common.{◌≡◌, ℕ, zero, suc, ◌+◌, ◌<◌, Bool, true, false, cond, List, [], ◌∷◌, ◌++◌, length, map, take, get_or, refl, sym, ap, ◌∙◌, subst, subst₂, arith, length-append, append-nil}
+use Rattle.std.specs.Prelude.{Option, Some, None, IfSome, is_some, nat_lt, filter, slice_get, unwrap_or}
 use Rattle.std.proofs.lemmas.List.{map-append}
-use Rattle.std.proofs.lemmas.List.Elements.{filter_more}
+use Rattle.std.proofs.lemmas.List.Elements.{All-nil, All-cons, filter_more}
 use Rattle.keys.specs.declared.range.Range.{Range}
 use Rattle.keyspace.specs.declared.span.Span.{Span}
-use Rattle.keyspace.specs.Tables.{bytes_at}
+use Rattle.keyspace.specs.Fields.{RangeFields, range_fields}
+use Rattle.keyspace.specs.Tables.{bytes_at, range_told, LiesWithin}
 use Rattle.keyspace.specs.Putting.{ArePut}
 use Rattle.keyspace.proofs.callers.Putting.{slice_range-append}
 use Rattle.serial.specs.Shards.{Shard}
@@ -72,6 +73,66 @@ clip_put shard m range reach bounds begin end buffer new_buffer spans new_spans 
       begin = cond b shard.from range.begin;
       end = cond e (end_or_empty shard.to) range.end;
     } ∷ []) new_buffer new_spans) begins ends made
+
+-- a key of the buffer, or the end of the shard instead
+lies_or : (b : Bool) (buffer : List ℕ) (bound own : KeyAt) (key other : List ℕ) → LiesAt buffer bound key → LiesAt buffer own other
+    → LiesAt buffer (unwrap_or (cond b (Some bound) None) own) (cond b key other)
+lies_or true buffer bound own key other first second = first
+lies_or false buffer bound own key other first second = second
+
+-- The keys of the clip of a range whose own keys lie in the buffer.
+pub cut_lies : (shard : Shard) (m : ℕ) (range : Range) (reach : Reach) (bounds : Bounds) (span : Span) (buffer : List ℕ)
+    (begin end : KeyAt) → HasBounds shard m buffer bounds → LiesWithin (length buffer) span
+    → range_told buffer span ≡ range_fields range → IsTold shard m range reach → is_reached reach m ≡ true
+    → begin ≡ unwrap_or (cond (nat_lt reach.first bounds.shard) (Some bounds.from) None)
+    (record { begin = span.begin; length = span.begin_length })
+    → end ≡ unwrap_or (cond (nat_lt bounds.shard reach.last) (Some bounds.to) None)
+    (record { begin = span.end; length = span.end_length })
+    → LiesAt buffer begin (clip_fields shard range).begin × LiesAt buffer end (clip_fields shard range).end
+cut_lies shard m range reach bounds span buffer begin end has within spanned told reached is_begin is_end =
+    let first : nat_lt reach.first bounds.shard ≡ is_before range.begin shard.from =
+    ap (nat_lt reach.first) has.number ∙ sym told.begins in
+    let last : nat_lt bounds.shard reach.last ≡ ends_below shard.to range.end =
+    ap (λ (n : ℕ). nat_lt n reach.last) has.number ∙ sym (told.ends reached) in
+    let own_begin : KeyAt = record { begin = span.begin; length = span.begin_length } in
+    let own_end : KeyAt = record { begin = span.end; length = span.end_length } in
+    let begins : LiesAt buffer own_begin range.begin =
+    record { within = within.begin; bytes = ap (λ (r : RangeFields). r.begin) spanned } in
+    let ends : LiesAt buffer own_end range.end =
+    record { within = within.end; bytes = ap (λ (r : RangeFields). r.end) spanned } in (
+      subst₂ (λ (at : KeyAt) (b : Bool). LiesAt buffer at (cond b shard.from range.begin)) (sym is_begin) first
+          (lies_or (nat_lt reach.first bounds.shard) buffer bounds.from own_begin shard.from range.begin has.from begins),
+      subst₂ (λ (at : KeyAt) (b : Bool). LiesAt buffer at (cond b (end_or_empty shard.to) range.end)) (sym is_end) last
+          (lies_or (nat_lt bounds.shard reach.last) buffer bounds.to own_end (end_or_empty shard.to) range.end has.to ends),
+    )
+
+-- the span of a range whose keys lie in the buffer is appended
+pub span_put : (buffer : List ℕ) (spans : List Span) (range : RangeFields) (span : Span) (new_spans : List Span)
+    → new_spans ≡ spans ++ span ∷ [] → LiesWithin (length buffer) span → range_told buffer span ≡ range
+    → ArePut buffer spans (range ∷ []) buffer new_spans
+span_put buffer spans range span new_spans is within told = record {
+  bytes = [];
+  added = span ∷ [];
+  buffer_is = sym (append-nil buffer);
+  spans_are = is;
+  told = ap (λ fields. fields ∷ []) told;
+  within = All-cons (LiesWithin (length buffer)) span [] within (All-nil (LiesWithin (length buffer)));
+}
+
+-- spans that tell ranges tell each of them
+pub told_each : (buffer : List ℕ) (spans : List Span) (ranges : List Range) (i : ℕ) (span : Span) (range : Range)
+    → map (range_told buffer) spans ≡ map range_fields ranges → slice_get spans i ≡ Some span → slice_get ranges i ≡ Some range
+    → range_told buffer span ≡ range_fields range
+told_each buffer [] ranges i span range told at there = absurd cc
+told_each buffer (first ∷ spans) [] i span range told at there = absurd cc
+told_each buffer (first ∷ spans) (own ∷ ranges) zero span range told at there =
+    let same : first ≡ span = cc in
+    let same_range : own ≡ range = cc in
+    let fields : range_told buffer first ≡ range_fields own = cc in
+    subst₂ (λ s r. range_told buffer s ≡ range_fields r) same same_range fields
+told_each buffer (first ∷ spans) (own ∷ ranges) (suc i) span range told at there =
+    let others : map (range_told buffer) spans ≡ map range_fields ranges = cc in
+    told_each buffer spans ranges i span range others at there
 
 module _ (shard : Shard) (ranges : List Range) (i : ℕ) (range : Range) (inside : i < length ranges) (is : range ≡ get_or ranges i range) where
   -- the clips of one range more

@@ -1,6 +1,6 @@
 -- Tables of a shard with one transaction more, and the reaches of what is left.
-use Rattle.std.proofs.Common.{◌≡◌, ℕ, zero, suc, ◌+◌, ◌≤◌, ◌<◌, List, [], ◌∷◌, ◌++◌, length, map, take, drop, refl, sym, ap, ◌∙◌, arith}
-use Rattle.std.specs.Prelude.{Some, slice_get}
+use Rattle.std.proofs.Common.{◌≡◌, ℕ, zero, suc, ◌+◌, ◌≤◌, ◌<◌, List, [], ◌∷◌, ◌++◌, length, map, take, drop, refl, sym, ap, ap₂, ◌∙◌, subst, subst₂, arith}
+use Rattle.std.specs.Prelude.{All, Some, slice_get}
 use Rattle.std.specs.List.{AllZip}
 use Rattle.std.proofs.lemmas.List.{map-append}
 use Rattle.std.proofs.lemmas.List.Elements.{All-nil}
@@ -14,14 +14,14 @@ use Rattle.keyspace.specs.Putting.{ArePut}
 use Rattle.keyspace.specs.BatchRanges.{ranges_in}
 use Rattle.keyspace.proofs.callers.Putting.{txn_put}
 use Rattle.serial.specs.Shards.{Shard}
-use Rattle.shards.specs.Clips.{read_indices}
+use Rattle.shards.specs.Clips.{goes_to, read_indices}
 use Rattle.shards.specs.Built.{IsProper, HasBounds, IsBuilt, clips_of, clip_txn}
 use Rattle.shards.specs.declared.shard_tables.ShardTables.{ShardTables}
-use Rattle.shards.specs.ReadIndices.{parts_from, AreEnds}
+use Rattle.shards.specs.ReadIndices.{parts_from, AreEnds, AreIndices}
 use Rattle.shards.specs.Reach.{shard_at, IsTold, IsReach}
 use Rattle.shards.specs.declared.reach.Reach.{Reach}
 use Rattle.shards.proofs.ClipLists.{clip_limits}
-use Rattle.shards.proofs.IndexLists.{part_appended}
+use Rattle.shards.proofs.IndexLists.{indices_appended, part_appended, places_below}
 use Rattle.shards.proofs.Together.{zip_weaker}
 
 -- the tables of no transactions
@@ -91,3 +91,27 @@ module _ (shard : Shard) (proper : IsProper shard) (txns : List Txn) (t : Txn) w
   indices_put indices ends fit reads =
       part_appended indices (read_indices shard t) ends fit ∙ ap (λ parts. parts ++ read_indices shard t ∷ []) reads
       ∙ sym (map-append (read_indices shard) txns (t ∷ []))
+
+-- The tables with the clip of one transaction more, once its ranges and the indices of its read ranges have been put.
+pub built_put : (shard : Shard) (m : ℕ) (txns : List Txn) (t : Txn) (old new : ShardTables) (buffer₁ : List ℕ) (spans₁ : List Span)
+    (row : Row) → IsBuilt shard m txns old → ArePut old.buffer.items old.spans.items (clips_of shard t.reads) buffer₁ spans₁
+    → ArePut buffer₁ spans₁ (clips_of shard t.writes) new.buffer.items new.spans.items
+    → HasBounds shard m new.buffer.items new.bounds → row.snapshot ≡ t.snapshot → row.marked ≡ t.marked
+    → row.writes ≡ length (clips_of shard t.writes) → row.end ≡ length new.spans.items
+    → new.rows.items ≡ old.rows.items ++ row ∷ [] → new.indices.items ≡ old.indices.items ++ read_indices shard t
+    → new.ends.items ≡ old.ends.items ++ length (old.indices.items ++ read_indices shard t) ∷ []
+    → IsBuilt shard m (txns ++ t ∷ []) new
+built_put shard m txns t old new buffer₁ spans₁ row built reads writes bounds snapshot marked writes_are end rows indices ends =
+    let more = read_indices shard t in
+    let below : All (λ index. index < 1024) more = places_below 0 (goes_to shard) t.reads 1024 (omega (arith, t.few_reads)) in
+    let tables = clip_put shard built.proper txns t old.buffer.items buffer₁ new.buffer.items old.spans.items spans₁ new.spans.items
+    old.rows.items row built.fit built.told reads writes snapshot marked writes_are end in
+    record {
+      proper = built.proper;
+      bounds = bounds;
+      fit = subst (AreTables new.buffer.items new.spans.items) (sym rows) tables.0;
+      told = ap (txns_told new.buffer.items new.spans.items) rows ∙ tables.1;
+      indices = subst₂ AreIndices (sym indices) (sym ends) (indices_appended old.indices.items more old.ends.items built.indices below);
+      reads = ap₂ (parts_from 0) indices ends
+          ∙ indices_put shard built.proper txns t old.indices.items old.ends.items built.indices.ends_fit built.reads;
+    }

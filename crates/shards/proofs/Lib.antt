@@ -12,6 +12,7 @@ mod Together
 mod Going
 mod NoMore
 mod BuiltTables
+mod Kept
 mod KeyOrders
 mod Picked
 mod Begins

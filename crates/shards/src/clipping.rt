@@ -64,7 +64,7 @@ fn clip_by(
         (λ clipped. IsClipped (shard_at points.now shard) batch.now clipped) }
     ensures shard { slice_get (shards points.now) shard ≡ Some (shard_at points.now shard) }
 {
-    let mut tables = ShardTables::new(alloc, points, shard)?;
+    let mut tables = ShardTables::new(alloc, Vec::new(alloc), points, shard)?;
     let mut rest = reaches;
     for index in 0..batch.txns.len() {
         let txn = batch.txns.txn(index);

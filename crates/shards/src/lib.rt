@@ -2,9 +2,10 @@
 //! one.
 //!
 //! [`SplitPoints`] split all keys into shards, one per resolver; [`balanced`] picks them from a
-//! sample. [`clip_all`] makes the batch of each shard, [`combine`] the reply of all shards
-//! together. The laws of [`laws`] say what that gives a database: the transactions that all shards
-//! commit are serializable. The crate has no threads and no state.
+//! sample. [`clip_all`] makes the batch of each shard, [`clip_in_place`] that of one shard in the
+//! buffer of the batch, and [`combine`] the reply of all shards together. The laws of [`laws`] say
+//! what that gives a database: the transactions that all shards commit are serializable. The crate
+//! has no threads and no state.
 //!
 //! `specs/` says, in reading order, what split points are and which ones are balanced, what a shard
 //! gets of a batch (`Clips`), and what the combined reply is (`Combined`).
@@ -15,6 +16,7 @@ mod clipped;
 mod clipping;
 mod combining;
 mod error;
+mod in_place;
 pub mod laws;
 mod numbering;
 mod reach;
@@ -28,6 +30,7 @@ pub use clipped::Clipped;
 pub use clipping::{clip, clip_all};
 pub use combining::combine;
 pub use error::{BalanceError, CombineError, Misfit, SplitPointsError};
+pub use in_place::clip_in_place;
 pub use numbering::number_all;
 pub use read_indices::ReadIndices;
 pub use shard_reply::ShardReply;

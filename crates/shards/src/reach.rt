@@ -7,7 +7,7 @@ ghost use Rattle.shards.specs.Reach.{is_reached, IsReach};
 
 use crate::split_points::SplitPoints;
 use keys::RangeRef;
-use keyspace::Batch;
+use keyspace::{Batch, RangesRef};
 use std::alloc::{AllocError, Global};
 
 /// The shards to which a range goes, by their numbers: those from the first one to the last. There
@@ -43,8 +43,8 @@ impl Reach {
     }
 }
 
-/// Finds for each range of the batch the shards to which it goes, in one pass over their keys. The
-/// index of a range is that in `ranges` of its transactions.
+/// Finds for each range of the batch the shards to which it goes, as [`reaches_in`] does. The index
+/// of a range is that in `ranges` of its transactions.
 pub(crate) fn reaches_of(
     alloc: Global,
     batch: &Batch,
@@ -53,7 +53,18 @@ pub(crate) fn reaches_of(
     ensures reaches { IfOk result (λ reaches.
         AllZip (IsReach points.now) (ranges_in batch.now.txns) reaches.items) }
 {
-    let ranges = batch.txns.ranges();
+    reaches_in(alloc, &batch.txns.ranges(), points)
+}
+
+/// Finds for each of the ranges the shards to which it goes, in one pass over their keys.
+pub(crate) fn reaches_in(
+    alloc: Global,
+    ranges: &RangesRef<'_>,
+    points: &SplitPoints,
+) -> Result<Vec<Reach>, AllocError>
+    ensures reaches { IfOk result (λ reaches.
+        AllZip (IsReach points.now) ranges.now reaches.items) }
+{
     let mut reaches = Vec::with_capacity(alloc, ranges.len())?;
     for index in 0..ranges.len() {
         reaches.push(Reach::of(points, &ranges.get(index)))?;

@@ -1,20 +1,23 @@
 //! The tables of a shard while a batch is clipped to it.
 
 ghost use Rattle.std.specs.Prelude.{◌≡◌, ◌<◌, ◌≤◌, ◌∷◌, ◌++◌, [], ℕ, List, length, is_some, nat_lt};
-ghost use Rattle.std.specs.Prelude.{if◌then◌else◌};
-ghost use Rattle.std.specs.Prelude.{IfOk, IfSome, OnOk};
+ghost use Rattle.std.specs.Prelude.{◌+◌, if◌then◌else◌, map, true};
+ghost use Rattle.std.specs.Prelude.{All, IfOk, IfSome, OnOk};
 ghost use Rattle.std.specs.List.{AllZip};
 ghost use Rattle.keys.specs.declared.key.TheConstants.{MAX_KEY_LENGTH};
 ghost use Rattle.keys.specs.declared.range.Range.{Range};
 ghost use Rattle.keyspace.specs.declared.batch.TheConstants.{MAX_TXNS};
 ghost use Rattle.keyspace.specs.declared.txn.TheConstants.{MAX_RANGES};
 ghost use Rattle.keyspace.specs.declared.txn.Txn.{Txn};
+ghost use Rattle.keyspace.specs.Fields.{range_fields};
 ghost use Rattle.keyspace.specs.Judge.{places_from};
 ghost use Rattle.keyspace.specs.Putting.{ArePut};
+ghost use Rattle.keyspace.specs.Tables.{range_told, LiesWithin};
 ghost use Rattle.serial.specs.Shards.{Shard, shards};
-ghost use Rattle.shards.specs.Built.{LiesAt, HasBounds, IsBuilt, clips_of};
-ghost use Rattle.shards.specs.Clips.{goes_to, IsClipped};
-ghost use Rattle.shards.specs.Reach.{shard_at, IsTold};
+ghost use Rattle.shards.specs.Built.{AreLeft, LiesAt, HasBounds, IsBuilt, IsKept, clip_fields};
+ghost use Rattle.shards.specs.Built.{clips_of};
+ghost use Rattle.shards.specs.Clips.{goes_to, read_indices, IsClipped, IsTxnClip};
+ghost use Rattle.shards.specs.Reach.{is_reached, shard_at, IsTold};
 
 use crate::clipped::Clipped;
 use crate::reach::Reach;
@@ -53,14 +56,22 @@ pub(crate) struct ShardTables {
 }
 
 impl ShardTables {
-    /// Creates the tables of the shard, without transactions, or returns an error if memory is
-    /// refused.
-    pub fn new(alloc: Global, points: &SplitPoints, shard: usize) -> Result<Self, AllocError>
+    /// Creates the tables of the shard, without transactions. Their keys lie in this buffer, to which
+    /// the ends of the shard are appended. Returns an error if memory is refused, or if the buffer
+    /// has more than 4 GiB.
+    pub fn new(
+        alloc: Global,
+        buffer: Vec<u8>,
+        points: &SplitPoints,
+        shard: usize,
+    ) -> Result<Self, AllocError>
         requires within { shard < length (shards points.now) }
         ensures built { IfOk result
             (λ tables. IsBuilt (shard_at points.now shard) shard [] tables) }
+        ensures buffer { IfOk result
+            (λ tables. (more : List ℕ) × (tables.buffer.items ≡ buffer.items ++ more)) }
     {
-        let mut buffer = Vec::new(alloc);
+        let mut buffer = buffer;
         let from = put_key(&mut buffer, points.first_key(shard))?;
         let to = put_key(&mut buffer, points.end_key(shard))?;
         points.shard_count();
@@ -115,6 +126,79 @@ impl ShardTables {
         Ok(())
     }
 
+    /// Appends the clip of the transaction of a row, whose spans begin at an index, and whose keys
+    /// lie in the buffer. The reaches are those of the ranges of the spans. After an error, which
+    /// says that memory was refused, the tables are unspecified, but for their buffer.
+    pub fn keep(
+        &mut self,
+        row: &Row,
+        from: usize,
+        spans: &[Span],
+        reaches: &[Reach],
+    ) -> Result<(), AllocError>
+        requires rows { from + row.now.writes ≤ row.now.end }
+        requires within { row.now.end ≤ length spans.now }
+        requires each { length reaches.now ≡ length spans.now }
+        requires built { (shard : Shard) × (m : ℕ) × (txns : List Txn) × (t : Txn)
+            × IsBuilt shard m txns self.old
+            × (length txns < MAX_TXNS)
+            × IsKept shard m self.old.buffer.items spans.now reaches.now from row.now t }
+        ensures built { OnOk result ((shard : Shard) (m : ℕ) (txns : List Txn) (t : Txn)
+            → IsBuilt shard m txns self.old
+            → length txns < MAX_TXNS
+            → IsKept shard m self.old.buffer.items spans.now reaches.now from row.now t
+            → IsBuilt shard m (txns ++ t ∷ []) self.new) }
+        ensures buffer { self.new.buffer ≡ self.old.buffer }
+    {
+        let end = row.end as usize;
+        let middle = end - row.writes as usize;
+        let reads = &reaches[from..middle];
+        keep_clips(&mut self.spans, &self.bounds, &spans[from..middle], reads)?;
+        let count = self.spans.len();
+        keep_clips(
+            &mut self.spans,
+            &self.bounds,
+            &spans[middle..end],
+            &reaches[middle..end],
+        )?;
+        put_indices(&mut self.indices, self.bounds.shard, reads)?;
+        self.ends.push(self.indices.len())?;
+        self.rows.push(Row {
+            snapshot: row.snapshot,
+            end: self.spans.len() as u32,
+            writes: (self.spans.len() - count) as u16,
+            marked: row.marked,
+        })?;
+        Ok(())
+    }
+
+    /// Appends the clips of the transactions of all rows, as [`ShardTables::keep`] does.
+    pub fn keep_all(
+        &mut self,
+        rows: &[Row],
+        spans: &[Span],
+        reaches: &[Reach],
+    ) -> Result<(), AllocError>
+        requires each { length reaches.now ≡ length spans.now }
+        requires within { All (LiesWithin (length self.old.buffer.items)) spans.now }
+        requires built { (shard : Shard) × (m : ℕ) × (txns : List Txn)
+            × IsBuilt shard m [] self.old
+            × (length txns ≤ MAX_TXNS)
+            × AreLeft shard m self.old.buffer.items spans.now reaches.now 0 rows.now txns }
+        ensures built { OnOk result ((shard : Shard) (m : ℕ) (txns : List Txn)
+            → IsBuilt shard m [] self.old
+            → length txns ≤ MAX_TXNS
+            → AreLeft shard m self.old.buffer.items spans.now reaches.now 0 rows.now txns
+            → IsBuilt shard m txns self.new) }
+    {
+        let mut from = 0;
+        for row in rows {
+            self.keep(row, from, spans, reaches)?;
+            from = row.end as usize;
+        }
+        Ok(())
+    }
+
     /// Makes the batch of the shard, whose versions are those of the batch as it was sent, or
     /// returns an error if memory is refused.
     pub fn into_clipped(self, alloc: Global, batch: &Batch) -> Result<Clipped, AllocError>
@@ -122,6 +206,23 @@ impl ShardTables {
         ensures clipped { IfOk result (λ clipped. (shard : Shard) (m : ℕ)
             → IsBuilt shard m batch.now.txns self
             → IsClipped shard batch.now clipped) }
+    {
+        let (txns, reads) = self.into_txns(alloc)?;
+        Ok(Clipped {
+            batch: Batch::new(batch.previous, batch.version, batch.received, txns),
+            reads,
+        })
+    }
+
+    /// Makes the transactions of the shard, whose ranges it orders, and the indices of their read
+    /// ranges, or returns an error if memory is refused.
+    pub fn into_txns(self, alloc: Global) -> Result<(Txns, ReadIndices), AllocError>
+        requires built { (shard : Shard) × (m : ℕ) × (txns : List Txn) × IsBuilt shard m txns self
+            × (length txns ≤ MAX_TXNS) }
+        ensures clips { IfOk result (λ made. (shard : Shard) (m : ℕ) (txns : List Txn)
+            → IsBuilt shard m txns self
+            → AllZip (IsTxnClip shard) txns made.0 × (made.1 ≡ map (read_indices shard) txns)) }
+        ensures few { IfOk result (λ made. length made.0 ≤ MAX_TXNS) }
     {
         let ShardTables {
             buffer,
@@ -132,10 +233,7 @@ impl ShardTables {
             ..
         } = self;
         let txns = Txns::from_tables(alloc, buffer, spans, rows)?;
-        Ok(Clipped {
-            batch: Batch::new(batch.previous, batch.version, batch.received, txns),
-            reads: ReadIndices::new(indices, ends),
-        })
+        Ok((txns, ReadIndices::new(indices, ends)))
     }
 }
 
@@ -163,6 +261,58 @@ impl Bounds {
             None
         }
     }
+
+    // Returns the span of the clip of a range that goes to the shard. Its keys are those of the
+    // span and the ends of the shard.
+    fn cut(&self, span: &Span, reach: &Reach) -> Span
+        ensures cut { (shard : Shard) (m : ℕ) (buffer : List ℕ) (range : Range)
+            → HasBounds shard m buffer self.now
+            → LiesWithin (length buffer) span.now
+            → range_told buffer span.now ≡ range_fields range
+            → IsTold shard m range reach.now
+            → is_reached reach.now m ≡ true
+            → LiesWithin (length buffer) result
+            × (range_told buffer result ≡ clip_fields shard range) }
+    {
+        let begin = self.begin_of(reach).unwrap_or(KeyAt {
+            begin: span.begin,
+            length: span.begin_length,
+        });
+        let end = self.end_of(reach).unwrap_or(KeyAt {
+            begin: span.end,
+            length: span.end_length,
+        });
+        Span {
+            begin: begin.begin,
+            begin_length: begin.length,
+            end: end.begin,
+            end_length: end.length,
+        }
+    }
+}
+
+// Appends the spans of the clips of those ranges that go to the shard. Their keys, and the ends of
+// the shard, lie in the buffer.
+fn keep_clips(
+    kept: &mut Vec<Span>,
+    bounds: &Bounds,
+    spans: &[Span],
+    reaches: &[Reach],
+) -> Result<(), AllocError>
+    requires count { length reaches.now ≡ length spans.now }
+    ensures kept { OnOk result ((shard : Shard) (m : ℕ) (buffer : List ℕ) (ranges : List Range)
+        → HasBounds shard m buffer bounds.now
+        → All (LiesWithin (length buffer)) spans.now
+        → map (range_told buffer) spans.now ≡ map range_fields ranges
+        → AllZip (IsTold shard m) ranges reaches.now
+        → ArePut buffer kept.old.items (clips_of shard ranges) buffer kept.new.items) }
+{
+    for (index, reach) in reaches.iter().enumerate() {
+        if reach.includes(bounds.shard) {
+            kept.push(bounds.cut(&spans[index], reach))?;
+        }
+    }
+    Ok(())
 }
 
 // Appends the clips of those ranges that go to the shard: their keys to the buffer, and their spans

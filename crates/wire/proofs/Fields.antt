@@ -1,5 +1,5 @@
 -- Values with the same fields are one: the facts that their types carry have one proof each.
-use Rattle.std.proofs.Common.{◌≡◌, ◌≢◌, ◌≤◌, ℕ, ℤ, pos, negsuc, ◌≤ℤ◌, ◌<ℤ◌, List, [], length, ap}
+use Rattle.std.proofs.Common.{◌≡◌, ◌≢◌, ◌≤◌, ℕ, ℤ, pos, ◌≤ℤ◌, List, [], length, ap}
 use Rattle.std.specs.Coded.{le_prop, Coded-set, coded_list, coded_ℕ}
 use lib.Dec.{T_prop}
 use mathlib.Core.HLevel.{is_prop→PathP}
@@ -8,41 +8,19 @@ use Rattle.keyspace.specs.declared.reply.Verdict.{Verdict}
 use Rattle.keyspace.specs.declared.reply.Verdict.TheVariants.{Conflict}
 use Rattle.keyspace.specs.declared.reply.Entry.{Entry}
 use Rattle.keyspace.specs.declared.reply.Reply.{Reply}
-use Rattle.keyspace.proofs.callers.SameFields.{same_list, same_txn}
-use Rattle.wire.specs.Fields.{txn_fields, BatchFields, batch_fields, EntryFields, entry_fields, ReplyFields, reply_fields}
+use Rattle.keyspace.proofs.callers.SameFields.{same_batch as same_value, same_list}
+use Rattle.wire.specs.Fields.{BatchFields, batch_fields, EntryFields, entry_fields, ReplyFields, reply_fields}
 
 le_int_prop : (a b : ℤ) → IsProp (a ≤ℤ b)
 le_int_prop a b = hlevel T_prop
-
-lt_int_prop : (a b : ℤ) → IsProp (a <ℤ b)
-lt_int_prop a b = hlevel T_prop
 
 few_prop : (n limit : ℕ) → IsProp (n ≤ limit)
 few_prop n limit = hlevel le_prop
 
 pub same_batch : (a b : Batch) → batch_fields a ≡ batch_fields b → a ≡ b
 same_batch a b e =
-    let previous = ap (λ (x : BatchFields). x.previous) e in
-    let version = ap (λ (x : BatchFields). x.version) e in
-    let received = ap (λ (x : BatchFields). x.received) e in
-    let txns = same_list txn_fields same_txn a.txns b.txns (ap (λ (x : BatchFields). x.txns) e) in
-    λ i. record {
-      previous = previous i;
-      version = version i;
-      received = received i;
-      txns = txns i;
-      natural = is_prop→PathP (λ j. pos 0 ≤ℤ version j)
-          (λ j. le_int_prop (pos 0) (version j)) a.natural b.natural i;
-      previous_from = is_prop→PathP (λ j. negsuc 0 ≤ℤ previous j)
-          (λ j. le_int_prop (negsuc 0) (previous j)) a.previous_from b.previous_from i;
-      rises = is_prop→PathP (λ j. previous j <ℤ version j)
-          (λ j. lt_int_prop (previous j) (version j)) a.rises b.rises i;
-      received_from = is_prop→PathP (λ j. negsuc 0 ≤ℤ received j)
-          (λ j. le_int_prop (negsuc 0) (received j)) a.received_from b.received_from i;
-      received_before = is_prop→PathP (λ j. received j <ℤ version j)
-          (λ j. lt_int_prop (received j) (version j)) a.received_before b.received_before i;
-      few = is_prop→PathP (λ j. length (txns j) ≤ 4096) (λ j. few_prop (length (txns j)) 4096) a.few b.few i;
-    }
+    same_value a b (ap (λ (x : BatchFields). x.previous) e) (ap (λ (x : BatchFields). x.version) e)
+    (ap (λ (x : BatchFields). x.received) e) (ap (λ (x : BatchFields). x.txns) e)
 
 only_conflict_prop : (verdict : Verdict) (places : List ℕ) → IsProp (verdict ≢ Conflict → places ≡ [])
 only_conflict_prop verdict places = hlevel (Coded-set (coded_list coded_ℕ))

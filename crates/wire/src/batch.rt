@@ -16,7 +16,7 @@ use crate::seal::seal;
 use crate::tables::Tables;
 use crate::txn::txns_of;
 use crate::version::WireVersion;
-use keyspace::{Batch, MAX_TXNS, Txns};
+use keyspace::{Batch, MAX_TXNS, UnorderedBatch};
 use std::alloc::{AllocError, Global};
 
 // Reads the kind of a batch and returns the wire version that it tells.
@@ -131,16 +131,31 @@ pub fn tables_of(alloc: Global, bytes: &[u8]) -> Result<(WireVersion, Tables, &[
     Ok((version, tables, frame))
 }
 
-/// Makes the batch of the tables. It keeps the frame, in which each single key is given its end.
-pub fn batch_of(alloc: Global, frame: Vec<u8>, tables: Tables) -> Result<Batch, AllocError>
+/// Makes the batch of the tables, without ordering its ranges. It keeps the frame, in which each
+/// single key is given its end.
+pub fn unordered_of(frame: Vec<u8>, tables: Tables) -> Result<UnorderedBatch, AllocError>
     requires apart { AreApart 0 tables.spans.items (vec_len frame) }
     requires holds { BatchHolds (batch_told frame.items tables) }
     ensures fields { IfOk result (λ batch. batch_fields batch ≡ batch_told frame.items tables) }
 {
     let mut buffer = frame;
     seal(&mut buffer, &tables.spans)?;
-    let txns = Txns::from_tables(alloc, buffer, tables.spans, tables.rows)?;
-    Ok(Batch::new(tables.previous, tables.version, tables.received, txns))
+    let sealed = keyspace::Tables {
+        buffer,
+        spans: tables.spans,
+        rows: tables.rows,
+    };
+    Ok(UnorderedBatch::new(tables.previous, tables.version, tables.received, sealed))
+}
+
+/// Makes the batch of the tables, as [`unordered_of`] does, and orders its ranges.
+pub fn batch_of(alloc: Global, frame: Vec<u8>, tables: Tables) -> Result<Batch, AllocError>
+    requires apart { AreApart 0 tables.spans.items (vec_len frame) }
+    requires holds { BatchHolds (batch_told frame.items tables) }
+    ensures fields { IfOk result (λ batch. batch_fields batch ≡ batch_told frame.items tables) }
+{
+    let batch = unordered_of(frame, tables)?;
+    batch.order(alloc)
 }
 
 /// Decodes the frame at the front, of either wire version, and returns its batch and its length in

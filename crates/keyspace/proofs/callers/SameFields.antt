@@ -1,11 +1,12 @@
--- Lemmas for callers: ranges and transactions with the same fields are one: the facts that their types carry have one proof each.
-use Rattle.std.proofs.Common.{◌≡◌, ◌≤◌, ℕ, ℤ, pos, ◌≤ℤ◌, List, [], ◌∷◌, length, map, refl, ap}
+-- Lemmas for callers: ranges, transactions and batches with the same fields are one: the facts that their types carry have one proof each.
+use Rattle.std.proofs.Common.{◌≡◌, ◌≤◌, ℕ, ℤ, pos, negsuc, ◌≤ℤ◌, ◌<ℤ◌, List, [], ◌∷◌, length, map, refl, ap}
 use Rattle.std.specs.Coded.{le_prop}
 use lib.Dec.{T_prop}
 use mathlib.Core.Bool.{Bool-set}
 use mathlib.Core.HLevel.{is_prop→PathP}
 use Rattle.keys.specs.Key.{IsKey, IsAtMost}
 use Rattle.keys.specs.declared.range.Range.{Range}
+use Rattle.keyspace.specs.declared.batch.Batch.{Batch}
 use Rattle.keyspace.specs.declared.txn.Txn.{Txn}
 use Rattle.keyspace.specs.Fields.{RangeFields, range_fields, TxnFields, txn_fields}
 
@@ -17,6 +18,12 @@ at_most_prop a b = hlevel Bool-set
 
 natural_prop : (n : ℤ) → IsProp (pos 0 ≤ℤ n)
 natural_prop n = hlevel T_prop
+
+le_int_prop : (a b : ℤ) → IsProp (a ≤ℤ b)
+le_int_prop a b = hlevel T_prop
+
+lt_int_prop : (a b : ℤ) → IsProp (a <ℤ b)
+lt_int_prop a b = hlevel T_prop
 
 few_prop : (n limit : ℕ) → IsProp (n ≤ limit)
 few_prop n limit = hlevel le_prop
@@ -72,3 +79,25 @@ same_txn a b e =
 
 pub same_txns : (xs ys : List Txn) → map txn_fields xs ≡ map txn_fields ys → xs ≡ ys
 same_txns xs ys e = same_list txn_fields same_txn xs ys e
+
+pub same_batch : (a b : Batch) → a.previous ≡ b.previous → a.version ≡ b.version → a.received ≡ b.received
+    → map txn_fields a.txns ≡ map txn_fields b.txns → a ≡ b
+same_batch a b previous version received fields =
+    let txns = same_txns a.txns b.txns fields in
+    λ i. record {
+      previous = previous i;
+      version = version i;
+      received = received i;
+      txns = txns i;
+      natural = is_prop→PathP (λ j. pos 0 ≤ℤ version j)
+          (λ j. le_int_prop (pos 0) (version j)) a.natural b.natural i;
+      previous_from = is_prop→PathP (λ j. negsuc 0 ≤ℤ previous j)
+          (λ j. le_int_prop (negsuc 0) (previous j)) a.previous_from b.previous_from i;
+      rises = is_prop→PathP (λ j. previous j <ℤ version j)
+          (λ j. lt_int_prop (previous j) (version j)) a.rises b.rises i;
+      received_from = is_prop→PathP (λ j. negsuc 0 ≤ℤ received j)
+          (λ j. le_int_prop (negsuc 0) (received j)) a.received_from b.received_from i;
+      received_before = is_prop→PathP (λ j. received j <ℤ version j)
+          (λ j. lt_int_prop (received j) (version j)) a.received_before b.received_before i;
+      few = is_prop→PathP (λ j. length (txns j) ≤ 4096) (λ j. few_prop (length (txns j)) 4096) a.few b.few i;
+    }

@@ -1,4 +1,4 @@
-use Rattle.std.proofs.Common.{refl, subst}
+use Rattle.std.proofs.Common.{◌++◌, ◌∙◌, ℕ, List, refl, ap, subst, append_assoc}
 use Rattle.keys.specs.Key.{IsKey}
 use Rattle.shards.specs.Built.{LiesAt}
 use Rattle.shards.specs.Reach.{shard_at}
@@ -22,4 +22,9 @@ returns c =
             c.in_ok-to.ensures.key (subst (LiesAt c.put_key.new.buffer.items c.in_ok-from.from) c.first_key.ensures.from c.in_ok-from.ensures.at);
         to = subst (LiesAt c.put_key-2.new.buffer.items c.in_ok-to.to) c.end_key.ensures.to c.in_ok-to.ensures.at;
       }) c.new.ensures.items c.new-2.ensures.items c.new-3.ensures.items c.new-4.ensures.items;
+      buffer = (
+        c.first_key.result.now ++ c.end_key.result.now,
+        c.in_ok-to.ensures.key ∙ ap (λ (bytes : List ℕ). bytes ++ c.end_key.result.now) c.in_ok-from.ensures.key
+            ∙ append_assoc c.args.buffer.items c.first_key.result.now c.end_key.result.now,
+      );
     }

@@ -16,7 +16,7 @@ use Rattle.shards.specs.Clips.{goes_to, read_indices}
 use Rattle.shards.specs.ReadIndices.{parts_from, AreIndices}
 use Rattle.shards.specs.Reach.{IsTold}
 use Rattle.shards.proofs.Appended.{bounds_kept}
-use Rattle.shards.proofs.BuiltTables.{zip_split, clip_put, indices_put}
+use Rattle.shards.proofs.BuiltTables.{zip_split, built_put, clip_put, indices_put}
 use Rattle.shards.proofs.ClipLists.{few_clips}
 use Rattle.shards.proofs.IndexLists.{indices_appended, places_below}
 use Rattle.shards.proofs.shard_tables.ShardTables.put.Goals.{Start, After-len, After-split_at, In_ok-put_clips-2}
@@ -142,28 +142,17 @@ returns c =
           let put = is_put at.In_ok-put_clips-2 shard m built.bounds zips in
           let reads : clips_of shard inside.reads ≡ clips_of shard t.reads = ap (λ (u : Txn). clips_of shard u.reads) c.txn.view_is in
           let writes : clips_of shard inside.writes ≡ clips_of shard t.writes = ap (λ (u : Txn). clips_of shard u.writes) c.txn.view_is in
-          let tables = clip_put shard built.proper txns t old.buffer.items buffer₁ buffer₂ old.spans.items spans₁ spans₂ old.rows.items _
-          built.fit built.told (subst (λ ranges. ArePut old.buffer.items old.spans.items ranges buffer₁ spans₁) reads put.reads)
-          (subst (λ ranges. ArePut buffer₁ spans₁ ranges buffer₂ spans₂) writes put.writes)
-          (to_z-of_z w64 inside.snapshot fits ∙ ap (λ (u : Txn). u.snapshot) c.txn.view_is) (ap (λ (u : Txn). u.marked) c.txn.view_is)
-          (omega (arith, put.more_writes, ap length writes, c.len-middle.ensures, c.len-4.ensures, c.put_clips.new.spans.ok.0, c.put_clips-2.new.spans.ok.0))
-          (c.len-3.ensures ∙ c.put_clips-2.new.spans.ok.0) in
           let own : AllZip (IsTold shard old.bounds.shard) inside.reads c.split_at.result.0.now =
           subst (λ (n : ℕ). AllZip (IsTold shard n) inside.reads c.split_at.result.0.now) (sym built.bounds.number) zips.0 in
           let indices : c.put_indices.new.indices.items ≡ old.indices.items ++ read_indices shard t =
           c.in_ok-put_indices.ensures.put shard inside.reads own
           ∙ ap (λ (u : Txn). old.indices.items ++ places_from 0 (goes_to shard) u.reads) c.txn.view_is in
-          let ends : c.push.new.self.items ≡ old.ends.items ++ length (old.indices.items ++ read_indices shard t) ∷ [] =
-          c.in_ok-push.ensures.items
-          ∙ ap (λ (n : ℕ). old.ends.items ++ n ∷ []) (c.len-2.ensures ∙ c.put_indices.new.indices.ok.0 ∙ ap length indices) in
-          let below : All (λ index. index < 1024) (read_indices shard t) = places_below 0 (goes_to shard) t.reads 1024 (omega (arith, t.few_reads)) in
-          record {
-            proper = built.proper;
-            bounds = put.bounds;
-            fit = subst (AreTables buffer₂ spans₂) (sym c.in_ok-push-2.ensures.items) tables.0;
-            told = ap (txns_told buffer₂ spans₂) c.in_ok-push-2.ensures.items ∙ tables.1;
-            indices = subst₂ AreIndices (sym indices) (sym ends) (indices_appended old.indices.items (read_indices shard t) old.ends.items built.indices below);
-            reads = ap₂ (parts_from 0) indices ends
-                ∙ indices_put shard built.proper txns t old.indices.items old.ends.items built.indices.ends_fit built.reads;
-          };
+          built_put shard m txns t old _ buffer₁ spans₁ _ built
+          (subst (λ ranges. ArePut old.buffer.items old.spans.items ranges buffer₁ spans₁) reads put.reads)
+          (subst (λ ranges. ArePut buffer₁ spans₁ ranges buffer₂ spans₂) writes put.writes) put.bounds
+          (to_z-of_z w64 inside.snapshot fits ∙ ap (λ (u : Txn). u.snapshot) c.txn.view_is) (ap (λ (u : Txn). u.marked) c.txn.view_is)
+          (omega (arith, put.more_writes, ap length writes, c.len-middle.ensures, c.len-4.ensures, c.put_clips.new.spans.ok.0, c.put_clips-2.new.spans.ok.0))
+          (c.len-3.ensures ∙ c.put_clips-2.new.spans.ok.0) c.in_ok-push-2.ensures.items indices
+          (c.in_ok-push.ensures.items
+          ∙ ap (λ (n : ℕ). old.ends.items ++ n ∷ []) (c.len-2.ensures ∙ c.put_indices.new.indices.ok.0 ∙ ap length indices));
     }
