@@ -3,4 +3,5 @@ pub mod Serving
 pub mod Working
 pub mod Watching
 pub mod Runs
+pub mod Seen
 pub mod Keeping

@@ -4,18 +4,21 @@ use Rattle.std.specs.List.{All, AllZip}
 use Rattle.std.proofs.Common.{refl, sym, ap, subst, ◌∙◌, arith}
 use Rattle.std.proofs.lemmas.Bool.{false≢true}
 use Rattle.std.proofs.lemmas.List.{length-map, map-append}
-use Rattle.std.proofs.lemmas.List.Elements.{All-cons, All-head, All-tail, All-push}
+use Rattle.std.proofs.lemmas.List.Elements.{All-nil, All-cons, All-head, All-tail, All-push}
 use Rattle.std.proofs.lemmas.Option.{none-some, same_Some, get_or_from_slice_get}
 use Rattle.keyspace.specs.declared.batch.Batch.{Batch}
 use Rattle.lane.specs.Lane.{HasEnded}
+use Rattle.wire.specs.declared.error.WireError.{WireError}
 use Rattle.resolver.specs.declared.client.Client.{Client}
 use Rattle.resolver.specs.Resolver.{IsNewClient, SameClients}
 use Rattle.replay_output.specs.declared.options.style.Style.{Style}
 use Rattle.replay_workers.specs.declared.outcome.Outcome.{Outcome}
 use Rattle.replay_workers.specs.declared.threads.Started.{Started}
 use Rattle.replay_workers.specs.declared.worker.Finished.{Finished}
-use Rattle.replay_workers.specs.Worker.{HasWorked, ClientGoesOn}
-use Rattle.replay_workers.specs.Threads.{Given, given_each, given_to, HasWorkedOn, HandsBack, IsOutcomeOf, failure_of}
+use Rattle.replay_workers.specs.declared.threads.Worked.{Worked}
+use Rattle.replay_workers.specs.Batches.{EndsWith}
+use Rattle.replay_workers.specs.Worker.{HasWorkedOver, ClientGoesOn}
+use Rattle.replay_workers.specs.Threads.{Given, finished_of, given_each, given_to, HasWorkedOn, HandsBack, IsOutcomeOf, failure_of}
 use Rattle.replay_workers.specs.Run.{HasCapacity}
 use Rattle.replay_workers.proofs.callers.Lists.{at_also, at_last}
 
@@ -53,20 +56,29 @@ outcome_also finished old new f of clients lines failures sent sends = record {
   unsent = hands_back_also finished f old.all_sent new.all_sent f.unsent refl of.unsent sends;
 }
 
-pub given_count : {S : Type 0} (style : Style) (share first : ℕ) (clients : List Client) (readers : List S)
-    → length readers ≡ length clients → length (given_each style share first clients readers) ≡ length clients
-given_count style share first [] readers same = refl
+pub given_count : {B : Type 0} (style : Style) (share first : ℕ) (clients : List Client) (streams : List B)
+    → length streams ≡ length clients → length (given_each style share first clients streams) ≡ length clients
+given_count style share first [] streams same = refl
 given_count style share first (c ∷ clients) [] same = absurd (omega (arith, same))
-given_count style share first (c ∷ clients) (r ∷ readers) same =
-    let rest = given_count style share (first + 1) clients readers (omega (arith, same)) in
+given_count style share first (c ∷ clients) (r ∷ streams) same =
+    let rest = given_count style share (first + 1) clients streams (omega (arith, same)) in
     omega (arith, rest)
 
--- as many workers were started as there are readers
-pub started_count : {S : Type 0} (style : Style) (share : ℕ) (clients : List Client) (readers : List S) (workers : List (Started S))
-    → length readers ≡ length clients → map given_to workers ≡ given_each style share 0 clients readers
-    → length workers ≡ length readers
-started_count style share clients readers workers same given =
-    sym (length-map workers given_to) ∙ ap length given ∙ given_count style share 0 clients readers same ∙ sym same
+-- each task has a stream of which this is true
+pub given_all : {B : Type 0} (P : B → Type 0) (style : Style) (share first : ℕ) (clients : List Client) (streams : List B)
+    → All P streams → All (λ (given : Given B). P given.batches) (given_each style share first clients streams)
+given_all P style share first [] streams all = All-nil (λ given. P given.batches)
+given_all P style share first (c ∷ clients) [] all = All-nil (λ given. P given.batches)
+given_all P style share first (c ∷ clients) (b ∷ streams) all =
+    All-cons (λ given. P given.batches) _ (given_each style share (first + 1) clients streams) (All-head P b streams all)
+    (given_all P style share (first + 1) clients streams (All-tail P b streams all))
+
+-- as many workers were started as there are streams
+pub started_count : {B : Type 0} (style : Style) (share : ℕ) (clients : List Client) (streams : List B) (workers : List (Started B))
+    → length streams ≡ length clients → map given_to workers ≡ given_each style share 0 clients streams
+    → length workers ≡ length streams
+started_count style share clients streams workers same given =
+    sym (length-map workers given_to) ∙ ap length given ∙ given_count style share 0 clients streams same ∙ sym same
 
 at_place : {X : Type 0} (xs : List X) (place : ℕ) → place < length xs → (x : X) × (slice_get xs place ≡ Some x)
 at_place [] place inside = absurd (omega (arith, inside))
@@ -98,58 +110,64 @@ capacities_stay capacity old new same all place d inside =
     subst (HasCapacity capacity) (sym (get_or_from_slice_get new place e.0 d e.1))
     (goes.requests.capacity ∙ has.0, goes.replies.capacity ∙ has.1)
 
-module _ {S : Type 0} (remaining : S → Option (List ℕ)) where
-  -- each client is handed back as the one that was given
-  pub clients_back : (style : Style) (share first : ℕ) (clients : List Client) (readers : List S) (finished : List Finished)
-      → length readers ≡ length clients
-      → AllZip (HasWorkedOn remaining) (given_each style share first clients readers) finished
-      → AllZip ClientGoesOn clients (map (λ f. f.client) finished)
-  clients_back style share first [] readers [] same all = tt
-  clients_back style share first [] readers (f ∷ finished) same all = absurd all
-  clients_back style share first (c ∷ clients) [] finished same all = absurd (omega (arith, same))
-  clients_back style share first (c ∷ clients) (r ∷ readers) [] same all = absurd all
-  clients_back style share first (c ∷ clients) (r ∷ readers) (f ∷ finished) same all =
-      (all.0.client, clients_back style share (first + 1) clients readers finished (omega (arith, same)) all.1)
+module _ {B : Type 0} (Gives : B → B → Batch → Type 0) (IsEnd : B → Type 0) (IsFault : B → WireError → Type 0)
+    (Stays : B → B → Type 0) where
+  -- a worker that ended with this stream
+  abbrev pub Over : Style → ℕ → B → Client → Worked B → Type 0
+  Over style proxy first given worked =
+      HasWorkedOver Gives IsEnd IsFault (λ left. EndsWith Stays left worked.batches) style proxy first given worked.finished
 
-  pub finished_count : (style : Style) (share first : ℕ) (clients : List Client) (readers : List S) (finished : List Finished)
-      → length readers ≡ length clients
-      → AllZip (HasWorkedOn remaining) (given_each style share first clients readers) finished
-      → length finished ≡ length clients
-  finished_count style share first [] readers [] same all = refl
-  finished_count style share first [] readers (f ∷ finished) same all = absurd all
-  finished_count style share first (c ∷ clients) [] finished same all = absurd (omega (arith, same))
-  finished_count style share first (c ∷ clients) (r ∷ readers) [] same all = absurd all
-  finished_count style share first (c ∷ clients) (r ∷ readers) (f ∷ finished) same all =
-      let rest = finished_count style share (first + 1) clients readers finished (omega (arith, same)) all.1 in
+  -- each client is handed back as the one that was given
+  pub clients_back : (style : Style) (share first : ℕ) (clients : List Client) (streams : List B) (worked : List (Worked B))
+      → length streams ≡ length clients
+      → AllZip (HasWorkedOn Gives IsEnd IsFault Stays) (given_each style share first clients streams) worked
+      → AllZip ClientGoesOn clients (map (λ (f : Finished). f.client) (finished_of worked))
+  clients_back style share first [] streams [] same all = tt
+  clients_back style share first [] streams (f ∷ worked) same all = absurd all
+  clients_back style share first (c ∷ clients) [] worked same all = absurd (omega (arith, same))
+  clients_back style share first (c ∷ clients) (r ∷ streams) [] same all = absurd all
+  clients_back style share first (c ∷ clients) (r ∷ streams) (f ∷ worked) same all =
+      (all.0.client, clients_back style share (first + 1) clients streams worked (omega (arith, same)) all.1)
+
+  pub finished_count : (style : Style) (share first : ℕ) (clients : List Client) (streams : List B) (worked : List (Worked B))
+      → length streams ≡ length clients
+      → AllZip (HasWorkedOn Gives IsEnd IsFault Stays) (given_each style share first clients streams) worked
+      → length worked ≡ length clients
+  finished_count style share first [] streams [] same all = refl
+  finished_count style share first [] streams (f ∷ worked) same all = absurd all
+  finished_count style share first (c ∷ clients) [] worked same all = absurd (omega (arith, same))
+  finished_count style share first (c ∷ clients) (r ∷ streams) [] same all = absurd all
+  finished_count style share first (c ∷ clients) (r ∷ streams) (f ∷ worked) same all =
+      let rest = finished_count style share (first + 1) clients streams worked (omega (arith, same)) all.1 in
       omega (arith, rest)
 
   -- each client has taken its answers to their end
-  pub clients_ended : (given : List (Given S)) (finished : List Finished) → AllZip (HasWorkedOn remaining) given finished
-      → (place : ℕ) (c : Client) → slice_get (map (λ (f : Finished). f.client) finished) place ≡ Some c
+  pub clients_ended : (given : List (Given B)) (worked : List (Worked B)) → AllZip (HasWorkedOn Gives IsEnd IsFault Stays) given worked
+      → (place : ℕ) (c : Client) → slice_get (map (λ (f : Finished). f.client) (finished_of worked)) place ≡ Some c
       → HasEnded c.replies
   clients_ended given [] all place c at = absurd (none-some c at)
-  clients_ended [] (f ∷ finished) all place c at = absurd all
-  clients_ended (one ∷ given) (f ∷ finished) all zero c at =
-      subst (λ (c : Client). HasEnded c.replies) (same_Some f.client c at) all.0.ended
-  clients_ended (one ∷ given) (f ∷ finished) all (suc place) c at = clients_ended given finished all.1 place c at
+  clients_ended [] (f ∷ worked) all place c at = absurd all
+  clients_ended (one ∷ given) (f ∷ worked) all zero c at =
+      subst (λ (c : Client). HasEnded c.replies) (same_Some f.finished.client c at) all.0.ended
+  clients_ended (one ∷ given) (f ∷ worked) all (suc place) c at = clients_ended given worked all.1 place c at
 
-  -- the worker at this place was given the client and the reader at it, and its proxy is the place
-  pub worked_at : (style : Style) (share first : ℕ) (clients : List Client) (readers : List S) (finished : List Finished)
-      → length readers ≡ length clients
-      → AllZip (HasWorkedOn remaining) (given_each style share first clients readers) finished
-      → (place : ℕ) (bytes : Option (List ℕ)) (f : Finished) → slice_get (map remaining readers) place ≡ Some bytes
-      → slice_get finished place ≡ Some f
-      → (c : Client) × (slice_get clients place ≡ Some c) × HasWorked style (first + place) bytes c f
-  worked_at style share first clients [] finished same all place bytes f at there = absurd (none-some bytes at)
-  worked_at style share first [] (r ∷ readers) finished same all place bytes f at there = absurd (omega (arith, same))
-  worked_at style share first (c ∷ clients) (r ∷ readers) [] same all place bytes f at there = absurd all
-  worked_at style share first (c ∷ clients) (r ∷ readers) (g ∷ finished) same all zero bytes f at there = (
+  -- the worker at this place was given the client and the stream at it, and its proxy is the place
+  pub worked_at : (style : Style) (share first : ℕ) (clients : List Client) (streams : List B) (worked : List (Worked B))
+      → length streams ≡ length clients
+      → AllZip (HasWorkedOn Gives IsEnd IsFault Stays) (given_each style share first clients streams) worked
+      → (place : ℕ) (own : B) (f : Worked B) → slice_get streams place ≡ Some own
+      → slice_get worked place ≡ Some f
+      → (c : Client) × (slice_get clients place ≡ Some c) × Over style (first + place) own c f
+  worked_at style share first clients [] worked same all place own f at there = absurd (none-some own at)
+  worked_at style share first [] (r ∷ streams) worked same all place own f at there = absurd (omega (arith, same))
+  worked_at style share first (c ∷ clients) (r ∷ streams) [] same all place own f at there = absurd all
+  worked_at style share first (c ∷ clients) (r ∷ streams) (g ∷ worked) same all zero own f at there = (
     c,
     refl,
-    subst (λ (first : ℕ). HasWorked style first bytes c f) (omega arith)
-        (subst (λ (bytes : Option (List ℕ)). HasWorked style first bytes c f) (same_Some (remaining r) bytes at)
-        (subst (λ (f : Finished). HasWorked style first (remaining r) c f) (same_Some g f there) all.0)),
+    subst (λ (first : ℕ). Over style first own c f) (omega arith)
+        (subst (λ (own : B). Over style first own c f) (same_Some r own at)
+        (subst (λ (f : Worked B). Over style first r c f) (same_Some g f there) all.0)),
   )
-  worked_at style share first (c ∷ clients) (r ∷ readers) (g ∷ finished) same all (suc place) bytes f at there =
-      let rest = worked_at style share (first + 1) clients readers finished (omega (arith, same)) all.1 place bytes f at there in
-      (rest.0, rest.1, subst (λ (proxy : ℕ). HasWorked style proxy bytes rest.0 f) (omega arith) rest.2)
+  worked_at style share first (c ∷ clients) (r ∷ streams) (g ∷ worked) same all (suc place) own f at there =
+      let rest = worked_at style share (first + 1) clients streams worked (omega (arith, same)) all.1 place own f at there in
+      (rest.0, rest.1, subst (λ (proxy : ℕ). Over style proxy own rest.0 f) (omega arith) rest.2)

@@ -1,4 +1,5 @@
 -- In reading order.
+pub mod Batches
 pub mod Ends
 pub mod Inbox
 pub mod Worker

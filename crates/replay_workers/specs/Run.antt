@@ -1,6 +1,6 @@
 -- A run, beside the reference resolver: what was read of each file, and what its proxy was answered. This project's
 -- own.
-use Rattle.std.specs.Prelude.{◌≡◌, ◌≢◌, ℕ, ◌<◌, ◌≤◌, ℤ, Bool, true, false, ◌&&◌, List, [], ◌∷◌, ◌++◌, length, Option, None, Some, IfSome, slice_get}
+use Rattle.std.specs.Prelude.{◌≡◌, ◌≢◌, ℕ, ◌<◌, ◌≤◌, ℤ, Bool, true, false, ◌&&◌, List, [], ◌∷◌, ◌++◌, length, Option, None, Some, IfSome, IsSomeAnd, slice_get}
 use Rattle.std.specs.List.{All}
 use Rattle.std.specs.Io.KnownBytes.{IsAtEnd}
 use Rattle.keyspace.specs.declared.batch.Batch.{Batch}
@@ -10,8 +10,9 @@ use Rattle.keyspace.specs.Run.{Step, run, answers, part}
 use Rattle.serial.specs.Serial.{IsSerializable}
 use Rattle.serial.specs.Replies.{IsCommittedAt, ReportsCommitted}
 use Rattle.lane.specs.declared.port.TheConstants.{MAX_SENT}
+use Rattle.wire.specs.declared.error.WireError.{WireError}
 use Rattle.wire.specs.declared.error.WireError.TheVariants as wire
-use Rattle.wire.specs.NextFrame.{IsFaultOf}
+use Rattle.wire.specs.NextFrame.{TakesFrame}
 use Rattle.resolver.specs.declared.client.Client.{Client}
 use Rattle.resolver.specs.declared.stop.Stop.{Stop}
 use Rattle.resolver.specs.declared.turn.Account.{Account}
@@ -25,7 +26,8 @@ use Rattle.replay_output.specs.declared.options.Options.{Options}
 use Rattle.replay_workers.specs.declared.outcome.Outcome.{Outcome}
 use Rattle.replay_output.specs.Line.{answers_of, IsLineOf}
 use Rattle.replay_workers.specs.Stops.{IsStopOf}
-use Rattle.replay_workers.specs.Worker.{TakesFrames}
+use Rattle.replay_workers.specs.Batches.{GivesEach, EndsWith}
+use Rattle.replay_workers.specs.Worker.{IsFaultAt}
 
 -- every answer was taken, and every batch that was read was sent
 abbrev pub is_complete : Outcome → Account → Bool
@@ -35,76 +37,97 @@ is_complete outcome account = account.complete && outcome.all_sent
 abbrev pub HasCapacity : ℕ → Client → Type 0
 HasCapacity capacity client = (client.requests.capacity ≡ capacity) × (client.replies.capacity ≡ capacity)
 
--- What became of one file, whose reader told these bytes, by whether the run is complete and the stop that it met: its
--- batches and the lines of its proxy, beside those of the reference resolver.
-pub record IsServed (window : ℤ) (style : Style) (log : List Step) (complete : Bool) (stop : Option Stop)
-    (bytes : Option (List ℕ)) (proxy : ℕ) (lines : List Line) (failure : ProxyFailure) : Type 0 where
-  -- these batches were read, from the frames at the front, and these bytes are left
-  pub read : List Batch
-  pub left : Option (List ℕ)
-  pub frames_read : TakesFrames bytes left read
-  -- the log holds them once, in order; all of them if all is complete, whatever fault the file has
-  pub batches : IsBeginning (part log proxy) read
-  pub all_batches : complete ≡ true → read ≡ part log proxy
-  -- also all of them if no stop was met, unless the proxy's lane has taken as many batches as a lane takes
-  pub all_unless_worn : stop ≡ None → length (part log proxy) < MAX_SENT → read ≡ part log proxy
-  -- if the log holds all that was read, reading ended at the file's end or at its fault
-  pub all_read : read ≡ part log proxy → failure.fault ≡ None → IsAtEnd left
-  -- a fault other than these two is that of the bytes left
-  pub first_fault : IfSome failure.fault (λ e. e ≢ wire.Memory → e ≢ wire.Read → IfSome left (IsFaultOf e))
-  -- the lines are those of the answers of the reference resolver, in order and once; of all where no stop was met and
-  -- nothing was lost
-  pub received : IsBeginning (answers_of lines) (answers window log proxy)
-  pub all_received : stop ≡ None → failure.lost ≡ false → answers_of lines ≡ answers window log proxy
-  -- whatever stop was met, the answers of the log without its last step are among them, unless something was lost
-  pub all_before_last :
-      failure.lost ≡ false → (before : List Step) (last : Step) → log ≡ before ++ last ∷ []
-      → IsBeginning (answers window before proxy) (answers_of lines)
-  -- a transaction that they report as committed is committed
-  pub reported :
-      (version : ℤ) (j : ℕ) → ReportsCommitted (answers_of lines) version j
-      → IsCommittedAt (run window log).processed proxy version j
-  pub lines_told : All (IsLineOf style proxy) lines
+-- the stream at the index is one that has given no more batches than this state
+abbrev pub EndsAt : {X : Type 0} → (X → X → Type 0) → List X → ℕ → X → Type 0
+EndsAt Stays ended proxy left = IsSomeAnd (slice_get ended proxy) (EndsWith Stays left)
 
--- Of some file, a batch was read that the log doesn't take: it was the last that was read, and could not be sent, since its
--- proxy's lane has taken as many batches as a lane takes. The log holds these.
-pub record LeavesBatch (files : List (Option (List ℕ))) (log : List Step) : Type 0 where
+-- Some stream gave a batch that the log doesn't take: it was the last that was given, and could not be sent, since its proxy's lane has
+-- taken as many batches as a lane takes. The log holds these.
+pub record LeavesBatchOver {X : Type 0} (Gives : X → X → Batch → Type 0) (streams : List X) (log : List Step) : Type 0 where
   pub proxy : ℕ
-  pub bytes : Option (List ℕ)
-  pub of_proxy : slice_get files proxy ≡ Some bytes
+  pub first : X
+  pub of_proxy : slice_get streams proxy ≡ Some first
   pub batch : Batch
-  pub left : Option (List ℕ)
-  pub read : TakesFrames bytes left (part log proxy ++ batch ∷ [])
+  pub left : X
+  pub read : GivesEach Gives first left (part log proxy ++ batch ∷ [])
   pub worn : MAX_SENT ≤ length (part log proxy)
 
--- What became of all files, whose readers told these bytes, beside one log of the reference resolver. `received` and
--- `failures` are of each proxy, at its number.
-pub record IsRun (options : Options) (files : List (Option (List ℕ))) (received : List (List Line))
-    (failures : List ProxyFailure) (complete : Bool) (stop : Option Stop) : Type 0 where
-  pub log : List Step
-  pub proxies : TakesOnlyFrom (length files) log
-  pub received_count : length received ≡ length files
-  pub failures_count : length failures ≡ length files
-  pub each :
-      (proxy : ℕ) (bytes : Option (List ℕ)) (lines : List Line) (failure : ProxyFailure) →
-      slice_get files proxy ≡ Some bytes → slice_get received proxy ≡ Some lines →
-      slice_get failures proxy ≡ Some failure →
-      IsServed options.window options.style log complete stop bytes proxy lines failure
-  -- what was processed follows the chain of versions
-  pub chain : IsChain options.window (run options.window log).processed
-  -- so what was committed can be run one transaction at a time, in the order of commit, and each reads what it has read
-  pub serializable : IsSerializable (run options.window log).processed
-  -- where no stop was met, no batch is left unanswered
-  pub finish : stop ≡ None → FinishesLast log
-  -- If all is complete, no stop was met. If neither is so, a lane has taken as many batches as a lane takes.
-  pub no_stop : complete ≡ true → stop ≡ None
-  pub incomplete : complete ≡ false → stop ≡ None → LeavesBatch files log
-  -- the stop is that of the log
-  pub met : IfSome stop (IsStopOf options.limit options.window log)
+module _ {X : Type 0} (Gives : X → X → Batch → Type 0) (IsEnd : X → Type 0) (IsFault : X → WireError → Type 0) where
+  -- What became of one stream in this state, by whether the run is complete and the stop that it met: its batches and the lines of its
+  -- proxy, beside those of the reference resolver. `Kept` is true of the state that is left.
+  pub record IsServedOver (Kept : X → Type 0) (window : ℤ) (style : Style) (log : List Step) (complete : Bool) (stop : Option Stop)
+      (first : X) (proxy : ℕ) (lines : List Line) (failure : ProxyFailure) : Type 0 where
+    -- these batches were given, and the stream is left in this state
+    pub read : List Batch
+    pub left : X
+    pub frames_read : GivesEach Gives first left read
+    pub kept : Kept left
+    -- the log holds them once, in order; all of them if all is complete, whatever fault the file has
+    pub batches : IsBeginning (part log proxy) read
+    pub all_batches : complete ≡ true → read ≡ part log proxy
+    -- also all of them if no stop was met, unless the proxy's lane has taken as many batches as a lane takes
+    pub all_unless_worn : stop ≡ None → length (part log proxy) < MAX_SENT → read ≡ part log proxy
+    -- if the log holds all that was given, the stream ended, or at a fault
+    pub all_read : read ≡ part log proxy → failure.fault ≡ None → IsEnd left
+    -- a fault other than these two is that of what is left
+    pub first_fault : IfSome failure.fault (λ e. e ≢ wire.Memory → e ≢ wire.Read → IsFault left e)
+    -- the lines are those of the answers of the reference resolver, in order and once; of all where no stop was met and
+    -- nothing was lost
+    pub received : IsBeginning (answers_of lines) (answers window log proxy)
+    pub all_received : stop ≡ None → failure.lost ≡ false → answers_of lines ≡ answers window log proxy
+    -- whatever stop was met, the answers of the log without its last step are among them, unless something was lost
+    pub all_before_last :
+        failure.lost ≡ false → (before : List Step) (last : Step) → log ≡ before ++ last ∷ []
+        → IsBeginning (answers window before proxy) (answers_of lines)
+    -- a transaction that they report as committed is committed
+    pub reported :
+        (version : ℤ) (j : ℕ) → ReportsCommitted (answers_of lines) version j
+        → IsCommittedAt (run window log).processed proxy version j
+    pub lines_told : All (IsLineOf style proxy) lines
 
--- What became of all files, and an observer of which this is true has seen what is processed over the same log: all of it, unless a
--- stop was met.
-pub record IsObservedRun (Seen : List Processed → Type 0) (options : Options) (files : List (Option (List ℕ)))
-    (received : List (List Line)) (failures : List ProxyFailure) (complete : Bool) (stop : Option Stop) : Type 0 where
-  pub run : IsRun options files received failures complete stop
-  pub seen : HasSeen Seen stop options.window run.log
+  -- What became of all streams, beside one log of the reference resolver. `received` and `failures` are of each proxy, at its number, and
+  -- what is true of the state that is left.
+  pub record IsRunOver (Kept : ℕ → X → Type 0) (options : Options) (streams : List X) (received : List (List Line))
+      (failures : List ProxyFailure) (complete : Bool) (stop : Option Stop) : Type 0 where
+    pub log : List Step
+    pub proxies : TakesOnlyFrom (length streams) log
+    pub received_count : length received ≡ length streams
+    pub failures_count : length failures ≡ length streams
+    pub each :
+        (proxy : ℕ) (first : X) (lines : List Line) (failure : ProxyFailure) →
+        slice_get streams proxy ≡ Some first → slice_get received proxy ≡ Some lines →
+        slice_get failures proxy ≡ Some failure →
+        IsServedOver (Kept proxy) options.window options.style log complete stop first proxy lines failure
+    -- what was processed follows the chain of versions
+    pub chain : IsChain options.window (run options.window log).processed
+    -- so what was committed can be run one transaction at a time, in the order of commit, and each reads what it has read
+    pub serializable : IsSerializable (run options.window log).processed
+    -- where no stop was met, no batch is left unanswered
+    pub finish : stop ≡ None → FinishesLast log
+    -- If all is complete, no stop was met. If neither is so, a lane has taken as many batches as a lane takes.
+    pub no_stop : complete ≡ true → stop ≡ None
+    pub incomplete : complete ≡ false → stop ≡ None → LeavesBatchOver Gives streams log
+    -- the stop is that of the log
+    pub met : IfSome stop (IsStopOf options.limit options.window log)
+
+  -- What became of all streams, and an observer of which this is true has seen what is processed over the same log: all of it, unless a
+  -- stop was met.
+  pub record IsObservedRunOver (Kept : ℕ → X → Type 0) (Seen : List Processed → Type 0) (options : Options) (streams : List X)
+      (received : List (List Line)) (failures : List ProxyFailure) (complete : Bool) (stop : Option Stop) : Type 0 where
+    pub run : IsRunOver Kept options streams received failures complete stop
+    pub seen : HasSeen Seen stop options.window run.log
+
+-- The same of files, whose readers told these bytes, and of the batches of their frames.
+
+abbrev pub IsServed : ℤ → Style → List Step → Bool → Option Stop → Option (List ℕ) → ℕ → List Line → ProxyFailure → Type 0
+IsServed = IsServedOver TakesFrame IsAtEnd IsFaultAt (λ _. Unit {0})
+
+abbrev pub LeavesBatch : List (Option (List ℕ)) → List Step → Type 0
+LeavesBatch = LeavesBatchOver TakesFrame
+
+abbrev pub IsRun : Options → List (Option (List ℕ)) → List (List Line) → List ProxyFailure → Bool → Option Stop → Type 0
+IsRun = IsRunOver TakesFrame IsAtEnd IsFaultAt (λ _ _. Unit {0})
+
+abbrev pub IsObservedRun : (List Processed → Type 0) → Options → List (Option (List ℕ)) → List (List Line) → List ProxyFailure → Bool
+    → Option Stop → Type 0
+IsObservedRun = IsObservedRunOver TakesFrame IsAtEnd IsFaultAt (λ _ _. Unit {0})

@@ -2,6 +2,7 @@
 use Rattle.std.specs.Prelude.{◌≡◌, ℕ, ◌+◌, true, false, List, [], ◌∷◌, map, Option, None, Some, slice_get}
 use Rattle.std.specs.List.{All}
 use Rattle.keyspace.specs.declared.batch.Batch.{Batch}
+use Rattle.wire.specs.declared.error.WireError.{WireError}
 use Rattle.resolver.specs.declared.client.Client.{Client}
 use Rattle.replay_output.specs.declared.failures.ProxyFailure.{ProxyFailure}
 use Rattle.replay_output.specs.declared.options.style.Style.{Style}
@@ -10,53 +11,65 @@ use Rattle.replay_workers.specs.declared.worker.Finished.{Finished}
 use Rattle.replay_workers.specs.declared.threads.Task.{Task}
 use Rattle.replay_workers.specs.declared.threads.Work.{Work}
 use Rattle.replay_workers.specs.declared.threads.Started.{Started}
-use Rattle.replay_workers.specs.Worker.{HasWorked}
+use Rattle.replay_workers.specs.declared.threads.Worked.{Worked}
+use Rattle.replay_workers.specs.Batches.{EndsWith}
+use Rattle.replay_workers.specs.Worker.{HasWorkedOver}
 
 -- the task of a worker
-pub record Given (S : Type 0) : Type 0 where
+pub record Given (B : Type 0) : Type 0 where
   pub style : Style
   pub share : ℕ
   pub proxy : ℕ
   pub client : Client
-  pub reader : S
+  pub batches : B
 
-module _ {S : Type 0} where
-  -- from this proxy on, each worker is given the client and the reader at its place
-  abbrev pub given_each : Style → ℕ → ℕ → List Client → List S → List (Given S)
-  given_each style share proxy (client ∷ clients) (reader ∷ readers) =
-      record { style = style; share = share; proxy = proxy; client = client; reader = reader }
-      ∷ given_each style share (proxy + 1) clients readers
+module _ {B : Type 0} where
+  -- from this proxy on, each worker is given the client and the stream at its place
+  abbrev pub given_each : Style → ℕ → ℕ → List Client → List B → List (Given B)
+  given_each style share proxy (client ∷ clients) (batches ∷ streams) =
+      record { style = style; share = share; proxy = proxy; client = client; batches = batches }
+      ∷ given_each style share (proxy + 1) clients streams
   given_each style share proxy (client ∷ clients) [] = []
-  given_each style share proxy [] readers = []
+  given_each style share proxy [] streams = []
 
   -- the values that the worker of a task must get
-  abbrev pub given_by : {G : Type 0} → Task S G → Given S
+  abbrev pub given_by : {G : Type 0} → Task B G → Given B
   given_by task = record {
     style = task.assignment.style;
     share = task.assignment.share;
     proxy = task.assignment.proxy;
     client = task.client;
-    reader = task.reader;
+    batches = task.batches;
   }
 
   -- the values of a worker that was promised this work
-  abbrev pub given_for : Work S → Given S
+  abbrev pub given_for : Work B → Given B
   given_for work = record {
     style = work.assignment.style;
     share = work.assignment.share;
     proxy = work.assignment.proxy;
     client = work.client.value;
-    reader = work.reader.value;
+    batches = work.batches.value;
   }
 
   -- the values of a worker that was started
-  abbrev pub given_to : Started S → Given S
+  abbrev pub given_to : Started B → Given B
   given_to worker = given_for worker.handle.promise
 
-  -- a worker has worked on what it was given, whose bytes the reader tells
-  abbrev pub HasWorkedOn : (S → Option (List ℕ)) → Given S → Finished → Type 0
-  HasWorkedOn remaining given finished =
-      HasWorked given.style given.proxy (remaining given.reader) given.client finished
+  -- a worker has worked on what it was given
+  abbrev pub HasWorkedOn : (B → B → Batch → Type 0) → (B → Type 0) → (B → WireError → Type 0) → (B → B → Type 0) → Given B
+      → Worked B → Type 0
+  HasWorkedOn Gives IsEnd IsFault Stays given worked =
+      HasWorkedOver Gives IsEnd IsFault (λ left. EndsWith Stays left worked.batches) given.style given.proxy given.batches
+      given.client worked.finished
+
+  -- what each worker returned
+  abbrev pub finished_of : List (Worked B) → List Finished
+  finished_of each = map (λ worked. worked.finished) each
+
+  -- and the streams that it was given
+  abbrev pub streams_of : List (Worked B) → List B
+  streams_of each = map (λ worked. worked.batches) each
 
 -- what failed of the proxy
 abbrev pub failure_of : Finished → ProxyFailure

@@ -16,6 +16,7 @@ use Rattle.replay_workers.specs.declared.worker.FileEnd.{FileEnd}
 use Rattle.replay_workers.specs.declared.worker.FileEnd.TheVariants.{Reached, Fault, Leaves}
 use Rattle.replay_workers.specs.declared.worker.Leftover.{Leftover}
 use Rattle.replay_workers.specs.declared.worker.Leftover.TheVariants.{CutShort, Worn}
+use Rattle.replay_workers.specs.Batches.{GivesEach}
 use Rattle.replay_workers.specs.Inbox.{KeepsLines}
 
 -- the same client later: its ends are of the same lanes
@@ -51,21 +52,27 @@ is_cut_short (Leaves leftover) = was_cut_short leftover
 
 -- the frames of these batches are at the front, in order, and just those frames leave
 abbrev pub TakesFrames : Option (List ℕ) → Option (List ℕ) → List Batch → Type 0
-TakesFrames old new [] = new ≡ old
-TakesFrames old new (batch ∷ rest) =
-    (between : Option (List ℕ)) × TakesFrame old between batch × TakesFrames between new rest
+TakesFrames = GivesEach TakesFrame
 
--- What was sent before, and then the batches of the frames at the front of the bytes, in order, is what is sent now. The
--- batch read last may be unsent. If none is, and no fault was met, no bytes are left.
-pub record SendsFrames (bytes : Option (List ℕ)) (before now : List Batch) (fault : Option WireError)
-    (unsent : Option Batch) : Type 0 where
-  pub batches : List Batch
-  pub left : Option (List ℕ)
-  pub sent : now ≡ before ++ batches
-  pub frames : TakesFrames bytes left (batches ++ option_to_list unsent)
-  pub all : fault ≡ None → unsent ≡ None → IsAtEnd left
-  -- a fault other than these two is that of the bytes left
-  pub first_fault : IfSome fault (λ e. e ≢ wire.Memory → e ≢ wire.Read → IfSome left (IsFaultOf e))
+-- the bytes left begin with this fault, if the reader reports them
+abbrev pub IsFaultAt : Option (List ℕ) → WireError → Type 0
+IsFaultAt left e = IfSome left (IsFaultOf e)
+
+module _ {X : Type 0} (Gives : X → X → Batch → Type 0) (IsEnd : X → Type 0) (IsFault : X → WireError → Type 0) where
+  -- What was sent before, and then the batches that a stream in this state gives, in order, is what is sent now. The batch given last may
+  -- be unsent. If none is, and no fault was met, the stream is at its end.
+  pub record SendsBatches (first : X) (before now : List Batch) (fault : Option WireError) (unsent : Option Batch) : Type 0 where
+    pub batches : List Batch
+    pub left : X
+    pub sent : now ≡ before ++ batches
+    pub frames : GivesEach Gives first left (batches ++ option_to_list unsent)
+    pub all : fault ≡ None → unsent ≡ None → IsEnd left
+    -- a fault other than these two is that of what is left
+    pub first_fault : IfSome fault (λ e. e ≢ wire.Memory → e ≢ wire.Read → IsFault left e)
+
+-- the same of the frames at the front of the bytes
+abbrev pub SendsFrames : Option (List ℕ) → List Batch → List Batch → Option WireError → Option Batch → Type 0
+SendsFrames = SendsBatches TakesFrame IsAtEnd IsFaultAt
 
 -- why the batch can't be sent: the answers have ended, or the lane takes no more
 abbrev pub CannotSend : Leftover → PortView Batch → IntakeView Answer → Type 0
@@ -85,17 +92,24 @@ LeavesLane was requests None = requests.closed ≡ true
 LeavesLane was requests (Some batch) =
     (requests.closed ≡ was) ⊎ ((requests.closed ≡ true) × (MAX_SENT ≤ length requests.sent))
 
--- What a worker has done that was given this proxy's client, and a reader with these bytes left: it sent the batches that it
--- read, its lines are those of the answers that it took, and it has closed its lane and taken answers to their end.
-pub record HasWorked (style : Style) (proxy : ℕ) (bytes : Option (List ℕ)) (given : Client) (finished : Finished) :
-    Type 0 where
-  pub client : ClientGoesOn given finished.client
-  pub sends :
-      SendsFrames bytes given.requests.sent finished.client.requests.sent finished.fault finished.unsent
-  pub keeps :
-      KeepsLines style proxy given.replies.taken finished.client.replies.taken finished.lines.items finished.lost
-  pub leaves : LeavesLane given.requests.closed finished.client.requests finished.unsent
-  pub ended : HasEnded finished.client.replies
+module _ {X : Type 0} (Gives : X → X → Batch → Type 0) (IsEnd : X → Type 0) (IsFault : X → WireError → Type 0) where
+  -- What a worker has done that was given this proxy's client, and a stream in this state: it sent the batches that it was given, its
+  -- lines are those of the answers that it took, and it has closed its lane and taken answers to their end. `Kept` is true of the state
+  -- that is left.
+  pub record HasWorkedOver (Kept : X → Type 0) (style : Style) (proxy : ℕ) (first : X) (given : Client) (finished : Finished) : Type 0
+    where
+      pub client : ClientGoesOn given finished.client
+      pub sends :
+          SendsBatches Gives IsEnd IsFault first given.requests.sent finished.client.requests.sent finished.fault finished.unsent
+      pub kept : Kept sends.left
+      pub keeps :
+          KeepsLines style proxy given.replies.taken finished.client.replies.taken finished.lines.items finished.lost
+      pub leaves : LeavesLane given.requests.closed finished.client.requests finished.unsent
+      pub ended : HasEnded finished.client.replies
+
+-- the same of a reader with these bytes left
+abbrev pub HasWorked : Style → ℕ → Option (List ℕ) → Client → Finished → Type 0
+HasWorked = HasWorkedOver TakesFrame IsAtEnd IsFaultAt (λ _. Unit {0})
 
 -- From the client that was given to the one that is returned, no batch that nobody admitted was sent while the share was used
 -- up: right after each other batch, so many batches at most were unanswered.

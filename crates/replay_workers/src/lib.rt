@@ -1,16 +1,18 @@
 //! Runs one worker per file, each in its own thread, and turns the resolver between them.
 //!
 //! [`run`] does so over any readers, and returns an [`Outcome`]: what the workers returned.
-//! [`run_observed`] also shows each batch that is processed to an observer.
-//! [`work`] is what one worker does: it reads the batches of its file, sends them and takes the
-//! answers. A [`Gatekeeper`] says when workers may send, and a [`ShareKeeper`] whose batch goes
-//! first where all have used up their share.
+//! [`run_observed`] also shows each batch that is processed to an observer, and [`run_over`] takes
+//! any streams of [`Batches`]. [`work`] is what one worker does: it reads the batches of its file,
+//! sends them and takes the answers; [`work_over`] takes a stream. A [`Gatekeeper`] says when
+//! workers may send, and a [`ShareKeeper`] whose batch goes first where all have used up their
+//! share.
 //!
-//! In reading order: `running`, `threads`, `worker`, `inbox`, `ends`, `gatekeeper`, `watch`, `outcome`,
-//! `rest`. What became of the files is `IsRun`, in `specs/Run.antt`. What one worker has done is
-//! `HasWorked`, in `specs/Worker.antt`.
+//! In reading order: `running`, `threads`, `worker`, `batches`, `inbox`, `ends`, `gatekeeper`,
+//! `watch`, `outcome`, `rest`. What became of the files is `IsRun`, in `specs/Run.antt`, and of
+//! streams `IsRunOver`. What one worker has done is `HasWorked`, in `specs/Worker.antt`.
 #![tactic(auto)]
 
+mod batches;
 mod ends;
 mod gatekeeper;
 mod inbox;
@@ -21,10 +23,11 @@ mod threads;
 mod watch;
 mod worker;
 
+pub use batches::Batches;
 pub use ends::MostUnanswered;
 pub use gatekeeper::{AlwaysOpen, Gatekeeper, ShareKeeper, Unshared};
 pub use outcome::Outcome;
 pub use rest::pause;
-pub use running::{let_through, run, run_observed};
+pub use running::{let_through, run, run_observed, run_over};
 pub use watch::Watch;
-pub use worker::{Assignment, FileEnd, Finished, Leftover, work};
+pub use worker::{Assignment, FileEnd, Finished, Leftover, work, work_over};

@@ -1,16 +1,18 @@
 //! A run: the workers read, send and take, while this thread turns the resolver.
 
 ghost use Rattle.std.specs.Prelude.{◌≡◌, ℕ, ◌≤◌, true, length, map, vec_items, vec_len, Some};
-ghost use Rattle.std.specs.Prelude.{[], slice_get, IfOk};
+ghost use Rattle.std.specs.Prelude.{[], None, slice_get, IfOk};
 ghost use Rattle.std.specs.List.{All};
 ghost use Rattle.flow.specs.Next.{AllWait, IsNext};
 ghost use Rattle.resolver.specs.declared.resolver_core.TheConstants.{MAX_PROXIES};
 ghost use Rattle.resolver.specs.Core.{GoesOn};
 ghost use Rattle.resolver.specs.Lanes.{Lanes, Each, LanesGoOn};
 ghost use Rattle.resolver.specs.Resolver.{IsResolving, IsThrough};
-ghost use Rattle.replay_workers.specs.Run.{HasCapacity, IsObservedRun, IsRun, is_complete};
+ghost use Rattle.replay_workers.specs.Run.{EndsAt, HasCapacity, is_complete};
+ghost use Rattle.replay_workers.specs.Run.{IsObservedRun, IsObservedRunOver, IsRun, IsRunOver};
 ghost use Rattle.replay_workers.specs.Stops.{IsAccountedFor, IsObserved};
 
+use crate::batches::{Batches, frames_each};
 use crate::gatekeeper::{Gatekeeper, ShareKeeper};
 use crate::outcome::Outcome;
 use crate::threads::{join_all, start_workers};
@@ -82,7 +84,42 @@ pub fn run_observed<
         (λ ended. All (HasCapacity options.capacity) ended.0.clients.items) }
     ensures setting { O.setting observer.new ≡ O.setting observer.old }
 {
-    let proxies = readers.len();
+    let streams = frames_each(alloc, readers)?;
+    let (outcome, _, account) = run_over(rt, alloc, streams, options, gatekeeper, observer)?;
+    Ok((outcome, account))
+}
+
+/// Runs a worker for each stream of batches, as [`run_observed`] does for those of readers. Returns
+/// the streams too, each at its proxy's number.
+pub fn run_over<
+    B: Batches + Send + Drop + 'static,
+    G: Gatekeeper + ShareKeeper + Send + Sync + Drop + 'static,
+    R: Threads + Wait + Copy + Send + 'static,
+    O: Observer,
+>(
+    rt: &R,
+    alloc: Global,
+    streams: Vec<B>,
+    options: Options,
+    gatekeeper: &Arc<G, Global>,
+    observer: &mut O,
+) -> Result<(Outcome, Vec<B>, Account), StartError>
+    requires least { 1 ≤ vec_len streams }
+    requires most { vec_len streams ≤ MAX_PROXIES }
+    requires fresh { All (λ batches. B.refusal batches ≡ None) streams.items }
+    ensures run { IfOk result (λ ended. IsRunOver B.gives B.is_at_end B.is_at_fault
+        (EndsAt B.stays ended.1.items) options streams.items (map vec_items ended.0.lines.items)
+        ended.0.failures.items (is_complete ended.0 ended.2) ended.2.stop) }
+    ensures observed { IfOk result (λ ended. O.has_seen observer.old []
+        → IsObservedRunOver B.gives B.is_at_end B.is_at_fault
+        (EndsAt B.stays ended.1.items) (O.has_seen observer.new) options streams.items
+        (map vec_items ended.0.lines.items)
+        ended.0.failures.items (is_complete ended.0 ended.2) ended.2.stop) }
+    ensures capacity { IfOk result
+        (λ ended. All (HasCapacity options.capacity) ended.0.clients.items) }
+    ensures setting { O.setting observer.new ≡ O.setting observer.old }
+{
+    let proxies = streams.len();
     let Options {
         capacity,
         window,
@@ -90,13 +127,14 @@ pub fn run_observed<
         style,
     } = options;
     let outcome = Outcome::with_room(alloc, proxies)?;
+    let ended = Vec::with_capacity(alloc, proxies)?;
     let mut watch = Watch::new(alloc, proxies)?;
     let (mut resolver, clients) = open(alloc, proxies, capacity, window, limit)?;
-    let workers = start_workers(rt, alloc, style, readers, clients, gatekeeper)?;
+    let workers = start_workers(rt, alloc, style, streams, clients, gatekeeper)?;
     turn_to_end(rt, &mut resolver, &**gatekeeper, &mut watch, observer);
-    let mut outcome = join_all(rt, workers, outcome);
+    let (mut outcome, ended) = join_all(rt, workers, outcome, ended);
     let account = resolver.settle(outcome.clients.as_mut_slice());
-    Ok((outcome, account))
+    Ok((outcome, ended, account))
 }
 
 // Turns the resolver until it is done; after a stop, until a turn leaves nothing owed. If all

@@ -1,16 +1,19 @@
-//! The threads: a worker for each file.
+//! The threads: a worker for each stream of batches.
 
 ghost use Rattle.std.specs.Prelude.{◌≡◌, ◌≤◌, List, map, vec_len, vec_capacity, [], IfErr, IfOk};
-ghost use Rattle.std.specs.List.{AllZip};
+ghost use Rattle.std.specs.Prelude.{None};
+ghost use Rattle.std.specs.List.{All, AllZip};
 ghost use Rattle.resolver.specs.Share.{share_of};
-ghost use Rattle.replay_workers.specs.declared.worker.Finished.{Finished as HandedBack};
-ghost use Rattle.replay_workers.specs.Worker.{HasWorked};
+ghost use Rattle.replay_workers.specs.declared.threads.Worked.{Worked as HandedBack};
+ghost use Rattle.replay_workers.specs.Batches.{EndsWith};
+ghost use Rattle.replay_workers.specs.Worker.{HasWorkedOver};
 ghost use Rattle.replay_workers.specs.Threads.{given_each, given_by, given_to, HasWorkedOn};
-ghost use Rattle.replay_workers.specs.Threads.{IsOutcomeOf};
+ghost use Rattle.replay_workers.specs.Threads.{IsOutcomeOf, finished_of, streams_of};
 
+use crate::batches::Batches;
 use crate::gatekeeper::{Gatekeeper, ShareKeeper};
 use crate::outcome::Outcome;
-use crate::worker::{Assignment, Finished, work};
+use crate::worker::{Assignment, Finished, work_over};
 use replay_output::{StartError, Style};
 use resolver::{Client, share};
 use std::alloc::{AllocError, Global};
@@ -18,74 +21,86 @@ use std::snapshot::Snapshot;
 use std::sync::{Arc, Wait};
 use std::thread;
 use std::thread::{Promise, PromisedHandle, Threads};
-use wire::Source;
+
+/// What a worker returns, and the stream that it was given.
+#[derive(Drop)]
+pub struct Worked<B> {
+    pub finished: Finished,
+    pub batches: B,
+}
 
 // Promises what a worker does with its task.
 #[derive(Drop)]
-struct Work<S> {
+struct Work<B> {
     assignment: Assignment,
     client: Snapshot<Client>,
-    reader: Snapshot<S>,
+    batches: Snapshot<B>,
 }
 
-impl<S: Source> Promise<Finished> for Work<S> {
-    ghost kept_by = { λ work finished.
-        HasWorked work.assignment.style work.assignment.proxy (S.remaining work.reader.value) work.client.value finished };
+impl<B: Batches> Promise<Worked<B>> for Work<B> {
+    ghost kept_by = { λ work worked. HasWorkedOver B.gives B.is_at_end B.is_at_fault
+        (λ left. EndsWith B.stays left worked.batches) work.assignment.style
+        work.assignment.proxy work.batches.value work.client.value worked.finished };
 }
 
 /// A worker that was started, and what it was given.
 #[derive(Drop)]
-pub struct Started<S: Source> {
-    handle: PromisedHandle<Finished, Work<S>>,
+pub struct Started<B: Batches> {
+    handle: PromisedHandle<Worked<B>, Work<B>>,
 }
 
 // What a worker is started with.
 #[derive(Drop)]
-struct Task<S, G> {
+struct Task<B, G> {
     assignment: Assignment,
     client: Client,
-    reader: S,
+    batches: B,
     gatekeeper: Arc<G, Global>,
 }
 
-impl<S: Source + Drop, G: Gatekeeper + ShareKeeper + Drop> Task<S, G> {
-    fn run<R: Wait>(self, rt: &R, alloc: Global) -> Finished
-        ensures worked { HasWorkedOn S.remaining (given_by self) result }
+impl<B: Batches + Drop, G: Gatekeeper + ShareKeeper + Drop> Task<B, G> {
+    fn run<R: Wait>(self, rt: &R, alloc: Global) -> Worked<B>
+        requires fresh { B.refusal self.batches ≡ None }
+        ensures worked { HasWorkedOn B.gives B.is_at_end B.is_at_fault B.stays (given_by self)
+            result }
     {
         let Task {
             assignment,
             client,
-            reader,
+            batches,
             gatekeeper,
         } = self;
-        work(rt, alloc, assignment, client, reader, &*gatekeeper)
+        let mut batches = batches;
+        let finished = work_over(rt, alloc, assignment, client, &mut batches, &*gatekeeper);
+        Worked { finished, batches }
     }
 }
 
-/// Starts a worker for each reader, with the client at the same place, whose number is its proxy's.
+/// Starts a worker for each stream, with the client at the same place, whose number is its proxy's.
 /// They make lines of this style.
 ///
 /// After an error the workers that were started are not joined.
 pub fn start_workers<
-    S: Source + Send + Drop + 'static,
+    B: Batches + Send + Drop + 'static,
     G: Gatekeeper + ShareKeeper + Send + Sync + Drop + 'static,
     R: Threads + Wait + Copy + Send + 'static,
 >(
     rt: &R,
     alloc: Global,
     style: Style,
-    readers: Vec<S>,
+    streams: Vec<B>,
     clients: Vec<Client>,
     gatekeeper: &Arc<G, Global>,
-) -> Result<Vec<Started<S>>, StartError>
-    requires some { 1 ≤ vec_len readers }
-    requires each { vec_len readers ≡ vec_len clients }
+) -> Result<Vec<Started<B>>, StartError>
+    requires some { 1 ≤ vec_len streams }
+    requires each { vec_len streams ≡ vec_len clients }
+    requires fresh { All (λ batches. B.refusal batches ≡ None) streams.items }
     ensures given { IfOk result (λ workers.
-        map given_to workers.items ≡ given_each style (share_of (vec_len readers)) 0 clients.items
-        readers.items) }
+        map given_to workers.items ≡ given_each style (share_of (vec_len streams)) 0 clients.items
+        streams.items) }
 {
-    let share = share(readers.len());
-    let tasks = make_tasks(alloc, style, share, readers, clients, gatekeeper)?;
+    let share = share(streams.len());
+    let tasks = make_tasks(alloc, style, share, streams, clients, gatekeeper)?;
     let mut workers = Vec::with_capacity(alloc, tasks.len())?;
     for task in tasks {
         workers.push_reserved(start(rt, alloc, task)?);
@@ -94,22 +109,22 @@ pub fn start_workers<
 }
 
 // Takes all memory that main needs before the first thread is started.
-fn make_tasks<S: Drop, G: Drop>(
+fn make_tasks<B: Drop, G: Drop>(
     alloc: Global,
     style: Style,
     share: u64,
-    readers: Vec<S>,
+    streams: Vec<B>,
     clients: Vec<Client>,
     gatekeeper: &Arc<G, Global>,
-) -> Result<Vec<Task<S, G>>, AllocError>
-    requires each { vec_len readers ≡ vec_len clients }
+) -> Result<Vec<Task<B, G>>, AllocError>
+    requires each { vec_len streams ≡ vec_len clients }
     ensures given { IfOk result (λ tasks. map given_by tasks.items
-        ≡ given_each style share 0 clients.items readers.items) }
+        ≡ given_each style share 0 clients.items streams.items) }
 {
     let mut tasks = Vec::with_capacity(alloc, clients.len())?;
-    let mut readers = readers.into_iter();
+    let mut streams = streams.into_iter();
     for client in clients {
-        let Some(reader) = readers.next() else {
+        let Some(batches) = streams.next() else {
             unreachable!()
         };
         let assignment = Assignment {
@@ -117,34 +132,35 @@ fn make_tasks<S: Drop, G: Drop>(
             share,
             style,
         };
-        tasks.push_reserved(make_task(assignment, client, reader, gatekeeper)?);
+        tasks.push_reserved(make_task(assignment, client, batches, gatekeeper)?);
     }
     Ok(tasks)
 }
 
-fn make_task<S: Drop, G: Drop>(
+fn make_task<B: Drop, G: Drop>(
     assignment: Assignment,
     client: Client,
-    reader: S,
+    batches: B,
     gatekeeper: &Arc<G, Global>,
-) -> Result<Task<S, G>, AllocError>
+) -> Result<Task<B, G>, AllocError>
     ensures assignment { IfOk result (λ task. task.assignment ≡ assignment) }
     ensures client { IfOk result (λ task. task.client ≡ client) }
-    ensures reader { IfOk result (λ task. task.reader ≡ reader) }
+    ensures batches { IfOk result (λ task. task.batches ≡ batches) }
 {
     Ok(Task {
         assignment,
         client,
-        reader,
+        batches,
         gatekeeper: Arc::try_clone(gatekeeper)?,
     })
 }
 
 fn start<
-    S: Source + Send + Drop + 'static,
+    B: Batches + Send + Drop + 'static,
     G: Gatekeeper + ShareKeeper + Send + Sync + Drop + 'static,
     R: Threads + Wait + Copy + Send + 'static,
->(rt: &R, alloc: Global, task: Task<S, G>) -> Result<Started<S>, StartError>
+>(rt: &R, alloc: Global, task: Task<B, G>) -> Result<Started<B>, StartError>
+    requires fresh { B.refusal task.batches ≡ None }
     ensures given { IfOk result (λ worker. given_to worker ≡ given_by task) }
     ensures thread { IfErr result (λ cause. cause ≡ StartError.Thread) }
 {
@@ -152,10 +168,12 @@ fn start<
     let promise = Work {
         assignment: task.assignment,
         client: Snapshot::of(&task.client),
-        reader: Snapshot::of(&task.reader),
+        batches: Snapshot::of(&task.batches),
     };
-    let run = move || -> Finished
-        ensures worked { HasWorkedOn S.remaining (given_by task) result }
+    let run = move || -> Worked<B>
+        requires fresh { B.refusal task.batches ≡ None }
+        ensures worked { HasWorkedOn B.gives B.is_at_end B.is_at_fault B.stays (given_by task)
+            result }
     { task.run(&there, alloc) };
     match thread::spawn_with(rt, promise, run) {
         Ok(handle) => Ok(Started { handle }),
@@ -163,21 +181,30 @@ fn start<
     }
 }
 
-/// Joins all workers, and puts their results into the outcome, in order. Takes no memory.
-pub fn join_all<S: Source, R: Threads>(
+/// Joins all workers. Puts their results into the outcome and their streams into the vector, in
+/// order. Takes no memory.
+pub fn join_all<B: Batches + Drop, R: Threads>(
     rt: &R,
-    workers: Vec<Started<S>>,
+    workers: Vec<Started<B>>,
     outcome: Outcome,
-) -> Outcome
+    streams: Vec<B>,
+) -> (Outcome, Vec<B>)
     requires empty { IsOutcomeOf [] outcome }
+    requires none { streams.items ≡ [] }
     requires room { vec_len workers ≤ vec_capacity outcome.clients }
-    ensures worked { (finished : List HandedBack)
-        × AllZip (HasWorkedOn S.remaining) (map given_to workers.items) finished
-        × IsOutcomeOf finished result }
+    requires streams_room { vec_len workers ≤ vec_capacity streams }
+    ensures worked { (each : List (HandedBack B))
+        × AllZip (HasWorkedOn B.gives B.is_at_end B.is_at_fault B.stays)
+        (map given_to workers.items) each
+        × IsOutcomeOf (finished_of each) result.0
+        × (result.1.items ≡ streams_of each) }
 {
     let mut outcome = outcome;
+    let mut streams = streams;
     for worker in workers {
-        outcome.push(worker.handle.join(rt));
+        let Worked { finished, batches } = worker.handle.join(rt);
+        outcome.push(finished);
+        streams.push_reserved(batches);
     }
-    outcome
+    (outcome, streams)
 }

@@ -1,18 +1,20 @@
-//! A worker reads the file of one proxy, sends its batches and takes its answers, in its own
-//! thread.
+//! A worker reads the file of one proxy, or another stream of batches, sends these and takes their
+//! answers, in its own thread.
 
 ghost use Rattle.std.specs.Prelude.{◌≡◌, ◌<◌, ◌≤◌, ◌↔◌, Bool, [], ◌∷◌, ◌++◌, true, length};
 ghost use Rattle.std.specs.Prelude.{None, Some, Err, OnOk, OnErr, IfErr};
 ghost use Rattle.lane.specs.declared.port.TheConstants.{MAX_SENT};
 ghost use Rattle.lane.specs.Lane.{HasEnded};
 ghost use Rattle.lane.specs.Refused.{item_of};
-ghost use Rattle.wire.specs.Frames.{frames_reader, refusal_of};
+ghost use Rattle.replay_workers.specs.Batches.{EndsWith};
 ghost use Rattle.replay_workers.specs.Ends.{EndsGoOn};
 ghost use Rattle.replay_workers.specs.Inbox.{Keeps, InboxGoesOn};
-ghost use Rattle.replay_workers.specs.Worker.{HasWorked, IsWithinShare, SendsFrames, CannotSend};
+ghost use Rattle.replay_workers.specs.Worker.{HasWorked, HasWorkedOver, IsWithinShare};
+ghost use Rattle.replay_workers.specs.Worker.{CannotSend, SendsBatches};
 ghost use Rattle.replay_workers.specs.Worker.{IfLeaves, LeavesLane, batch_of, fault_of};
 ghost use Rattle.replay_workers.specs.Worker.{is_cut_short, unsent_of};
 
+use crate::batches::Batches;
 use crate::ends::MostUnanswered;
 use crate::gatekeeper::{Gatekeeper, ShareKeeper};
 use crate::inbox::Inbox;
@@ -23,7 +25,7 @@ use replay_output::{Line, Style};
 use resolver::Client;
 use std::alloc::Global;
 use std::sync::Wait;
-use wire::{Frames, Source, WireError, read_frames};
+use wire::{Source, WireError, read_frames};
 
 /// What a worker is assigned.
 #[derive(Clone, Copy, Debug, PartialEq, Eq)]
@@ -108,8 +110,27 @@ pub fn work<S: Source + Drop, G: Gatekeeper + ShareKeeper, R: Wait>(
     ensures worked { HasWorked assignment.style assignment.proxy (S.remaining reader) client result }
     ensures within_share { IsWithinShare assignment client result }
 {
+    let mut frames = read_frames(alloc, reader);
+    work_over(rt, alloc, assignment, client, &mut frames, gatekeeper)
+}
+
+/// Does with the batches of a stream what [`work`] does with those of a file.
+pub fn work_over<B: Batches, G: Gatekeeper + ShareKeeper, R: Wait>(
+    rt: &R,
+    alloc: Global,
+    assignment: Assignment,
+    client: Client,
+    batches: &mut B,
+    gatekeeper: &G,
+) -> Finished
+    requires fresh { B.refusal batches.old ≡ None }
+    ensures worked { HasWorkedOver B.gives B.is_at_end B.is_at_fault
+        (λ left. EndsWith B.stays left batches.new) assignment.style assignment.proxy batches.old
+        client result }
+    ensures within_share { IsWithinShare assignment client result }
+{
     let mut worker = Worker::new(alloc, assignment, client);
-    let end = worker.send_frames(rt, gatekeeper, &mut read_frames(alloc, reader));
+    let end = worker.send_batches(rt, gatekeeper, batches);
     worker.close(rt, gatekeeper, &end);
     worker.finish(end)
 }
@@ -131,28 +152,28 @@ impl Worker {
         }
     }
 
-    // Sends the batches of the frames, in order.
+    // Sends the batches of the stream, in order.
     #[tactic(auto, using(crate::proofs::Keeping::inbox_goes_on))]
-    fn send_frames<S: Source, G: Gatekeeper + ShareKeeper, R: Wait>(
+    fn send_batches<B: Batches, G: Gatekeeper + ShareKeeper, R: Wait>(
         &mut self,
         rt: &R,
         gatekeeper: &G,
-        frames: &mut Frames<S>,
+        batches: &mut B,
     ) -> FileEnd
-        requires fresh { refusal_of frames.old ≡ None }
+        requires fresh { B.refusal batches.old ≡ None }
         ensures inbox { InboxGoesOn self.old.inbox self.new.inbox }
-        ensures sent { SendsFrames (S.remaining (frames_reader frames.old))
+        ensures sent { (sends : SendsBatches B.gives B.is_at_end B.is_at_fault batches.old
             self.old.inbox.ends.requests.sent self.new.inbox.ends.requests.sent (fault_of result)
-            (unsent_of result) }
+            (unsent_of result)) × EndsWith B.stays sends.left batches.new }
         ensures closed_stays { self.new.inbox.ends.requests.closed
             ≡ self.old.inbox.ends.requests.closed }
         ensures read { fault_of result ≡ Some WireError.Read
-            ↔ (S.failures (frames_reader frames.old) < S.failures (frames_reader frames.new)) }
+            ↔ (B.failures batches.old < B.failures batches.new) }
         ensures gives_up { IfLeaves result (λ leftover. CannotSend leftover
             self.new.inbox.ends.requests self.new.inbox.ends.replies) }
     {
         for _ in rt.forever() {
-            match frames.next() {
+            match batches.next() {
                 Ok(Some(batch)) => {
                     if let Err(leftover) = self.send(rt, gatekeeper, batch) {
                         return FileEnd::Leaves(leftover);

@@ -1,18 +1,22 @@
 -- How a worker leaves its request lane, and what it has done.
-use Rattle.std.specs.Prelude.{◌≡◌, ℕ, Bool, true, false, List, [], ◌∷◌, ◌++◌, length, Option, None, Some, option_to_list}
+use Rattle.std.specs.Prelude.{◌≡◌, ◌≢◌, ℕ, Bool, true, false, List, [], ◌∷◌, ◌++◌, length, Option, None, Some, IfSome, option_to_list}
+use Rattle.std.specs.Io.KnownBytes.{IsAtEnd}
 use Rattle.std.proofs.Common.{refl, sym, ap, subst, ◌∙◌, length-append, arith, inl, inr}
 use Rattle.std.proofs.lemmas.Bool.{false≢true}
 use Rattle.keyspace.specs.declared.answer.Answer.{Answer}
 use Rattle.keyspace.specs.declared.batch.Batch.{Batch}
 use Rattle.lane.specs.Lane.{PortView, IntakeView, HasEnded}
 use Rattle.wire.specs.declared.error.WireError.{WireError}
+use Rattle.wire.specs.declared.error.WireError.TheVariants as wire
+use Rattle.wire.specs.NextFrame.{TakesFrame}
 use Rattle.replay_output.specs.declared.line.Line.{Line}
 use Rattle.replay_output.specs.declared.options.style.Style.{Style}
 use Rattle.replay_workers.specs.declared.worker.FileEnd.{FileEnd}
 use Rattle.replay_workers.specs.declared.worker.FileEnd.TheVariants.{Reached, Fault, Leaves}
 use Rattle.replay_workers.specs.declared.worker.Leftover.TheVariants.{CutShort, Worn}
+use Rattle.replay_workers.specs.Batches.{GivesEach}
 use Rattle.replay_workers.specs.Inbox.{KeepsLines}
-use Rattle.replay_workers.specs.Worker.{CannotSend, IfLeaves, LeavesLane, SendsFrames, is_cut_short, unsent_of}
+use Rattle.replay_workers.specs.Worker.{CannotSend, IfLeaves, IsFaultAt, LeavesLane, SendsBatches, SendsFrames, is_cut_short, unsent_of}
 
 abbrev pub GivesUp : FileEnd → PortView Batch → IntakeView Answer → Type 0
 GivesUp end requests replies = IfLeaves end (λ leftover. CannotSend leftover requests replies)
@@ -44,15 +48,27 @@ left_closed (Leaves (Worn batch)) was requests replies not_cut same (inl closed)
 left_closed (Leaves (Worn batch)) was requests replies not_cut same (inr worn) = inr (refl, worn)
 
 -- the same of equal values
+module _ {X : Type 0} (Gives : X → X → Batch → Type 0) (IsEnd : X → Type 0) (IsFault : X → WireError → Type 0) where
+  abbrev pub batches_moved : (first : X) (before before' now now' : List Batch) (fault fault' : Option WireError)
+      (unsent unsent' : Option Batch) → before ≡ before' → now ≡ now' → fault ≡ fault' → unsent ≡ unsent'
+      → SendsBatches Gives IsEnd IsFault first before now fault unsent → SendsBatches Gives IsEnd IsFault first before' now' fault' unsent'
+  batches_moved first before before' now now' fault fault' unsent unsent' b c d e sends = record {
+    batches = sends.batches;
+    left = sends.left;
+    sent = sym c ∙ sends.sent ∙ ap (λ (l : List Batch). l ++ sends.batches) b;
+    frames =
+        subst (λ (u : Option Batch). GivesEach Gives first sends.left (sends.batches ++ option_to_list u)) e sends.frames;
+    all = λ no_fault none. sends.all (d ∙ no_fault) (e ∙ none);
+    first_fault = subst (λ (f : Option WireError). IfSome f (λ e. e ≢ wire.Memory → e ≢ wire.Read → IsFault sends.left e)) d
+        sends.first_fault;
+  }
+
 pub sends_moved : (bytes bytes' : Option (List ℕ)) (before before' now now' : List Batch) (fault fault' : Option WireError)
     (unsent unsent' : Option Batch) → bytes ≡ bytes' → before ≡ before' → now ≡ now' → fault ≡ fault' → unsent ≡ unsent'
     → SendsFrames bytes before now fault unsent → SendsFrames bytes' before' now' fault' unsent'
 sends_moved bytes bytes' before before' now now' fault fault' unsent unsent' a b c d e sends =
-    subst (λ (u : Option Batch). SendsFrames bytes' before' now' fault' u) e
-    (subst (λ (f : Option WireError). SendsFrames bytes' before' now' f unsent) d
-    (subst (λ (n : List Batch). SendsFrames bytes' before' n fault unsent) c
-    (subst (λ (m : List Batch). SendsFrames bytes' m now fault unsent) b
-    (subst (λ (y : Option (List ℕ)). SendsFrames y before now fault unsent) a sends))))
+    batches_moved TakesFrame IsAtEnd IsFaultAt bytes' before before' now now' fault fault' unsent unsent' b c d e
+    (subst (λ (y : Option (List ℕ)). SendsFrames y before now fault unsent) a sends)
 
 pub keeps_moved : (style style' : Style) (proxy proxy' : ℕ) (before now now' : List Answer) (lines lines' : List Line)
     (lost lost' : Bool) → style ≡ style' → proxy ≡ proxy' → now ≡ now' → lines ≡ lines' → lost ≡ lost'

@@ -1,135 +1,58 @@
-use Rattle.std.proofs.lemmas.Bool.{false≢true}
-use Rattle.std.proofs.Common.{◌≡◌, ℕ, List, [], ap, sym, subst, ◌∙◌, arith, rules, ℤ, length, w64, to_z, of_z}
-use Rattle.std.proofs.lemmas.Int.{ints, to_z-of_z}
-use Rattle.std.specs.Prelude.{negsuc, map, true, Option, None, IfSome, slice_get, vec_len}
-use Rattle.std.specs.List.{All, AllZip}
-use Rattle.resolver.specs.declared.client.Client.{Client}
-use Rattle.resolver.specs.declared.stop.Stop.{Stop}
+use Rattle.std.proofs.Common.{◌≡◌, ℕ, List, length, sym, ap, subst, ◌∙◌, arith}
+use Rattle.std.specs.Io.KnownBytes.{IsAtEnd}
+use Rattle.std.specs.Prelude.{Option, map, vec_items}
+use Rattle.std.proofs.lemmas.List.{length-map}
 use Rattle.keyspace.specs.Run.{Step}
 use Rattle.resolver.specs.Observed.{HasSeen}
-use Rattle.resolver.specs.Resolver.{AreClients, SameClients, StandsOver}
-use Rattle.resolver.specs.Settled.{Settled}
-use Rattle.resolver.specs.Share.{share_of}
-use Rattle.resolver.proofs.callers.Lists.{written_back}
-use Rattle.replay_workers.specs.declared.worker.Finished.{Finished}
-use Rattle.replay_workers.specs.declared.outcome.Outcome.{Outcome}
-use Rattle.replay_workers.specs.Threads.{given_each, HasWorkedOn, IsOutcomeOf}
-use Rattle.replay_workers.specs.Run.{HasCapacity}
-use Rattle.replay_workers.specs.Stops.{IsStopOf}
-use Rattle.replay_workers.proofs.callers.SameLanes.{clients_go_on}
-use Rattle.replay_workers.proofs.callers.Stopping.{accounted_new, observed_new}
-use Rattle.replay_workers.proofs.Working.{capacities, capacities_stay, clients_back, clients_ended, started_count}
-use Rattle.replay_workers.proofs.Runs.{is_run, is_run_log}
+use Rattle.wire.specs.declared.frames.Frames.{Frames}
+use Rattle.wire.specs.Frames.{frames_reader}
+use Rattle.wire.specs.NextFrame.{TakesFrame}
+use Rattle.replay_workers.specs.Worker.{IsFaultAt}
+use Rattle.replay_workers.specs.Run.{IsRun, IsObservedRun, is_complete}
+use Rattle.replay_workers.proofs.Seen.{map_twice, run_seen, run_seen_log}
 use Rattle.replay_workers.proofs.running.run_observed.Goals as goal
 
--- nothing was handed back yet
-nothing_back : (outcome : Outcome) → outcome.clients.items ≡ [] → outcome.lines.items ≡ [] → outcome.failures.items ≡ []
-    → outcome.all_sent ≡ true → IsOutcomeOf [] outcome
-nothing_back outcome clients lines failures all_sent = record {
-  clients = clients;
-  lines = lines;
-  failures = failures;
-  all_sent = λ _ k d inside. absurd (omega arith);
-  unsent = λ none. absurd (false≢true (sym none ∙ all_sent));
-}
+pub run_over-requires-clause-least : goal.run_over-requires-clause-least
+run_over-requires-clause-least g c κs within =
+    let streams = c.in_ok-streams.streams in
+    let count : length streams.items ≡ length c.args.readers.items =
+    sym (length-map streams.items frames_reader) ∙ ap length c.in_ok-streams.ensures.readers in
+    omega (arith, count, c.requires.least_readers, streams.ok.0, c.args.readers.ok.0)
 
-pub join_all-outcome-requires-clause-empty : goal.join_all-outcome-requires-clause-empty
-join_all-outcome-requires-clause-empty g c =
-    let made = c.in_ok-outcome.ensures in
-    nothing_back c.in_ok-outcome.outcome made.clients made.lines made.failures made.all_sent
+pub run_over-requires-clause-most : goal.run_over-requires-clause-most
+run_over-requires-clause-most g c κs within =
+    let streams = c.in_ok-streams.streams in
+    let count : length streams.items ≡ length c.args.readers.items =
+    sym (length-map streams.items frames_reader) ∙ ap length c.in_ok-streams.ensures.readers in
+    omega (arith, count, c.requires.most_readers, streams.ok.0, c.args.readers.ok.0)
 
-pub join_all-outcome-requires-clause-room : goal.join_all-outcome-requires-clause-room
-join_all-outcome-requires-clause-room g c =
-    let readers = c.args.readers.items in
-    let share = share_of (vec_len c.args.readers) in
-    let clients = c.in_ok-resolver.clients.items in
-    let workers = c.in_ok-workers.workers.items in
-    let same : length readers ≡ length clients = omega (arith, c.in_ok-resolver.ensures.proxies, c.len-proxies.ensures) in
-    let count = started_count c.args.options.style share clients readers workers same c.in_ok-workers.ensures.given in
-    omega (arith, count, c.in_ok-outcome.ensures.room, c.len-proxies.ensures)
-
-pub settle-account-requires : goal.settle-account-requires
-settle-account-requires g c =
-    let readers = c.args.readers.items in
-    let share = share_of (vec_len c.args.readers) in
-    let clients = c.in_ok-resolver.clients.items in
-    let lanes = c.turn_to_end.new.resolver.lanes in
-    let worked = c.join_all-outcome.ensures.worked in
-    let back = map (λ (f : Finished). f.client) worked.0 in
-    let same : length readers ≡ length clients = omega (arith, c.in_ok-resolver.ensures.proxies, c.len-proxies.ensures) in
-    let handed = subst (λ given. AllZip (HasWorkedOn g.S.Source.remaining) given worked.0) c.in_ok-workers.ensures.given worked.1 in
-    record {
-      clients = subst (λ (clients : List Client). AreClients lanes clients)
-          (sym (c.as_mut_slice.ensures.value ∙ worked.2.clients))
-          (clients_go_on c.in_ok-resolver.resolver.lanes lanes clients back c.in_ok-resolver.ensures.clients
-          c.turn_to_end.ensures.lanes (clients_back g.S.Source.remaining c.args.options.style share 0 clients readers worked.0 same handed));
-    }
+pub run_over-requires-clause-fresh : goal.run_over-requires-clause-fresh
+run_over-requires-clause-fresh g c κs within = c.in_ok-streams.ensures.fresh
 
 pub returns : goal.returns
 returns g c =
-    let readers = c.args.readers.items in
-    let share = share_of (vec_len c.args.readers) in
-    let clients = c.in_ok-resolver.clients.items in
-    let worked = c.join_all-outcome.ensures.worked in
-    let same : length readers ≡ length clients = omega (arith, c.in_ok-resolver.ensures.proxies, c.len-proxies.ensures) in
-    let handed = subst (λ given. AllZip (HasWorkedOn g.S.Source.remaining) given worked.0) c.in_ok-workers.ensures.given worked.1 in
-    let resolver = c.turn_to_end.new.resolver in
-    let account = c.settle-account.result in
-    let back = map (λ (f : Finished). f.client) worked.0 in
-    let kept : to_z w64 (of_z w64 c.args.options.window) ≡ c.args.options.window =
-    first_of (search rules, grind (arith, ints, to_z-of_z)) in
-    let window_is = c.turn_to_end.ensures.goes_on.window ∙ c.in_ok-resolver.ensures.window ∙ kept in
-    let limit_is = c.turn_to_end.ensures.goes_on.limit ∙ c.in_ok-resolver.ensures.limit in
-    let handed_back = c.as_mut_slice.ensures.value ∙ worked.2.clients in
-    let settled : (log : List Step) → StandsOver resolver log → Settled c.args.options.window log resolver.lanes back account =
-    λ log stands. subst (λ (back : List Client). Settled c.args.options.window log resolver.lanes back account) handed_back
-    (subst (λ (window : ℤ). Settled window log resolver.lanes c.as_mut_slice.result.now account) window_is
-    (c.settle-account.ensures.settled (negsuc 0) log stands)) in
-    let outcome = c.join_all-outcome.result in
-    let now = c.settle-account.new.clients in
-    let same_clients = subst (λ (l : List Client). SameClients l now) c.as_mut_slice.ensures.value
-    c.settle-account.ensures.clients in
-    let all_ended = clients_ended g.S.Source.remaining
-    (given_each c.args.options.style share 0 clients readers) worked.0 handed in
-    let whole : account.stop ≡ None → account.complete ≡ true = λ none.
-    c.settle-account.ensures.complete.1 (record {
-      no_stop = sym c.settle-account.ensures.stop ∙ none;
-      closed = c.turn_to_end.ensures.closed;
-      taken = λ proxy client at.
-          c.settle-account.ensures.ended proxy client at
-          (all_ended proxy client (ap (λ (l : List Client). slice_get l proxy) (sym handed_back) ∙ at));
-    }) in
-    let met : (log : List Step) → IfSome resolver.core.stop (IsStopOf resolver.core.set.map.limit resolver.core.set.window log)
-    → IfSome account.stop (IsStopOf c.args.options.limit c.args.options.window log) = λ log is.
-    subst (λ (limit : ℕ). IfSome account.stop (IsStopOf limit c.args.options.window log)) limit_is
-    (subst (λ (window : ℤ). IfSome account.stop (IsStopOf resolver.core.set.map.limit window log)) window_is
-    (subst (λ (stop : Option Stop). IfSome stop (IsStopOf resolver.core.set.map.limit resolver.core.set.window log))
-    (sym c.settle-account.ensures.stop) is)) in
-    let told = c.turn_to_end.ensures.accounted
-    (accounted_new c.in_ok-resolver.resolver c.in_ok-resolver.ensures.stands c.in_ok-resolver.ensures.no_stop) in
+    let view = λ (frames : Frames g.row.S.Denot). g.S.Source.remaining (frames_reader frames) in
+    let streams = c.in_ok-streams.streams.items in
+    let options = c.args.options in
+    let outcome = c.in_ok-outcome.outcome in
+    let account = c.in_ok-outcome.account in
+    let ended = c.in_ok-outcome.ensures in
+    let Seen = g.O.Observer.has_seen c.run_over.new.observer in
+    let files : map view streams ≡ map g.S.Source.remaining c.args.readers.items =
+    map_twice frames_reader g.S.Source.remaining streams ∙ ap (map g.S.Source.remaining) c.in_ok-streams.ensures.readers in
     record {
-      run = is_run g.S.Source.remaining c.args.options share readers clients worked.0 outcome told.log resolver.lanes
-          account same c.in_ok-resolver.ensures.new_clients handed worked.2 (settled told.log told.stands) whole (met told.log told.met);
+      run = subst (λ (files : List (Option (List ℕ))). IsRun options files (map vec_items outcome.lines.items) outcome.failures.items
+          (is_complete outcome account) account.stop) files
+          (run_seen view TakesFrame IsAtEnd IsFaultAt _ options streams _ _ _ _ ended.run);
       observed = λ first.
-          let Seen = g.O.Observer.has_seen c.turn_to_end.new.observer in
-          let saw = c.turn_to_end.ensures.observed (observed_new (g.O.Observer.has_seen c.args.observer.now)
-          c.in_ok-resolver.resolver c.in_ok-resolver.ensures.stands c.in_ok-resolver.ensures.no_stop first) in
-          let log_is = is_run_log g.S.Source.remaining c.args.options share readers clients worked.0 outcome saw.log resolver.lanes
-          account same c.in_ok-resolver.ensures.new_clients handed worked.2 (settled saw.log saw.stands) whole (met saw.log saw.met) in
-          record {
-            run = is_run g.S.Source.remaining c.args.options share readers clients worked.0 outcome saw.log resolver.lanes
-                account same c.in_ok-resolver.ensures.new_clients handed worked.2 (settled saw.log saw.stands) whole
-                (met saw.log saw.met);
-            seen = subst (λ (log : List Step). HasSeen Seen account.stop c.args.options.window log) (sym log_is)
-                (subst (λ (window : ℤ). HasSeen Seen account.stop window saw.log) window_is
-                (subst (λ (stop : Option Stop). HasSeen Seen stop resolver.core.set.window saw.log)
-                (sym c.settle-account.ensures.stop) saw.seen));
-          };
-      setting = c.turn_to_end.ensures.setting;
-      capacity = subst (All (HasCapacity c.args.options.capacity))
-          (sym (written_back outcome.clients.len now outcome.clients.items same_clients.count outcome.clients.ok.0))
-          (capacities_stay c.args.options.capacity outcome.clients.items now same_clients
-          (subst (All (HasCapacity c.args.options.capacity)) (sym worked.2.clients)
-          (capacities c.args.options.capacity clients back c.in_ok-resolver.ensures.new_clients
-          (clients_back g.S.Source.remaining c.args.options.style share 0 clients readers worked.0 same handed))));
+          let saw = ended.observed first in
+          subst (λ (files : List (Option (List ℕ))). IsObservedRun Seen options files (map vec_items outcome.lines.items)
+          outcome.failures.items (is_complete outcome account) account.stop) files
+          (record {
+            run = run_seen view TakesFrame IsAtEnd IsFaultAt _ options streams _ _ _ _ saw.run;
+            seen = subst (λ (log : List Step). HasSeen Seen account.stop options.window log)
+                (sym (run_seen_log view TakesFrame IsAtEnd IsFaultAt _ options streams _ _ _ _ saw.run)) saw.seen;
+          });
+      capacity = ended.capacity;
+      setting = c.run_over.ensures.setting;
     }

@@ -8,8 +8,8 @@ abbrev pub invariant-loop-client : goal.invariant-loop-client
 invariant-loop-client g l = record {
   given :
       map given_by l.tasks.items
-      ++ given_each l.style l.share (vec_len l.tasks) (into_iter_items l.client-iterator) (into_iter_items l.readers)
-      ≡ given_each l.style l.share 0 l.fn.clients.items l.fn.readers.items;
+      ++ given_each l.style l.share (vec_len l.tasks) (into_iter_items l.client-iterator) (into_iter_items l.streams)
+      ≡ given_each l.style l.share 0 l.fn.clients.items l.fn.streams.items;
   room : vec_len l.tasks + into_iter_len l.client-iterator ≤ vec_capacity l.tasks;
-  readers : into_iter_len l.readers ≡ into_iter_len l.client-iterator;
+  streams : into_iter_len l.streams ≡ into_iter_len l.client-iterator;
 }

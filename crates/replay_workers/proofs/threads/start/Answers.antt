@@ -63,10 +63,10 @@ fields_send = (
 finished_field_send : IsSend (Finished.the_field).row
 finished_field_send = struct_send (shape Finished.the_type) fields_send
 
-finished_send : IsSend Finished.the_row
-finished_send = search (recorded_send, finished_field_send) depth 10
-
 pub spawn_with-requires-send-T : goal.spawn_with-requires-send-T
 spawn_with-requires-send-T g c κs within =
-    let premise : IsSend (arg-2-3 g.row.S g.row.G g.row.R g.S.laws g.G.laws g.R.laws g.R.copy g.S.Source g.S.Source-dict g.G.Gatekeeper g.G.Gatekeeper-dict g.G.ShareKeeper g.G.ShareKeeper-dict g.R.Threads g.R.Threads-dict g.R.Wait g.R.Wait-dict g.R.Clone g.R.Clone-dict g.S.Destruct-dict g.G.Destruct-dict κs) = search (sendable, crosses, finished_send) depth 20 in
+    let premise : IsSend (arg-2-3 g.row.B g.row.G g.row.R g.B.laws g.G.laws g.R.laws g.R.copy g.B.Batches g.B.Batches-dict g.G.Gatekeeper g.G.Gatekeeper-dict g.G.ShareKeeper g.G.ShareKeeper-dict g.R.Threads g.R.Threads-dict g.R.Wait g.R.Wait-dict g.R.Clone g.R.Clone-dict g.B.Destruct-dict g.G.Destruct-dict κs) = search (sendable, crosses, finished_field_send) depth 20 in
     param_send 3 _ premise
+
+pub spawn_with-requires-clause-keeps : goal.spawn_with-requires-clause-keeps
+spawn_with-requires-clause-keeps g c κs within worked kept = rw (c.of-2.ensures, c.of.ensures) kept

@@ -1,53 +1,18 @@
-use Rattle.std.proofs.Common.{ap, sym, subst, ◌∙◌, Vec, Global}
-use Rattle.std.specs.Prelude.{Option}
-use Rattle.keyspace.specs.declared.answer.Answer.{Answer}
-use Rattle.keyspace.specs.declared.batch.Batch.{Batch}
-use Rattle.lane.specs.Lane.{PortView, IntakeView, PortGoesOn, IntakeGoesOn, HasEnded}
-use Rattle.replay_output.specs.declared.line.Line.{Line}
+use Rattle.std.proofs.Common.{ap, subst}
+use Rattle.std.specs.Io.KnownBytes.{IsAtEnd}
+use Rattle.std.specs.Prelude.{Option, List, ℕ}
+use Rattle.wire.specs.declared.frames.Frames.{Frames}
 use Rattle.wire.specs.Frames.{frames_reader}
-use Rattle.replay_workers.specs.Worker.{LeavesLane, fault_of, unsent_of}
-use Rattle.replay_workers.proofs.callers.Ending.{keeps_moved, sends_moved}
-use Rattle.replay_workers.proofs.Keeping.{inbox_goes_on}
+use Rattle.wire.specs.NextFrame.{TakesFrame}
+use Rattle.replay_workers.specs.Worker.{HasWorked, IsFaultAt}
+use Rattle.replay_workers.proofs.Seen.{worked_seen}
 use Rattle.replay_workers.proofs.worker.work.Goals as goal
 
 pub returns-clause-worked : goal.returns-clause-worked
 returns-clause-worked g c =
-    let made = c.new-worker.ensures in
-    let sent = c.send_frames-end.ensures in
-    let closed = c.close.ensures in
-    let done = c.finish.ensures in
-    let first = c.new-worker.result.inbox in
-    let after = c.send_frames-end.new.self.inbox in
-    let last = c.close.new.self.inbox in
-    let end = c.send_frames-end.result in
-    let given = c.args.client in
-    let finished = c.finish.result in
-    let goes = inbox_goes_on first after last sent.inbox closed.inbox in
-    record {
-      client = record {
-        requests =
-            subst (λ (r : PortView Batch). PortGoesOn r finished.client.requests) made.requests
-            (subst (λ (r : PortView Batch). PortGoesOn first.ends.requests r) (sym done.requests) goes.ends.requests);
-        replies =
-            subst (λ (r : IntakeView Answer). IntakeGoesOn r finished.client.replies) made.replies
-            (subst (λ (r : IntakeView Answer). IntakeGoesOn first.ends.replies r) (sym done.replies) goes.ends.replies);
-      };
-      sends =
-          sends_moved (g.S.Source.remaining (frames_reader c.read_frames.result)) (g.S.Source.remaining c.args.reader)
-          first.ends.requests.sent given.requests.sent after.ends.requests.sent finished.client.requests.sent (fault_of end)
-          finished.fault (unsent_of end) finished.unsent (ap g.S.Source.remaining c.read_frames.ensures.reader)
-          (ap (λ (r : PortView Batch). r.sent) made.requests)
-          (sym (ap (λ (r : PortView Batch). r.sent) done.requests ∙ closed.nothing_sent)) (sym done.fault) (sym done.unsent)
-          sent.sent;
-      keeps =
-          keeps_moved last.style c.args.assignment.style last.proxy c.args.assignment.proxy given.replies.taken
-          last.ends.replies.taken finished.client.replies.taken last.lines.items finished.lines.items last.lost finished.lost
-          (goes.style ∙ made.style) (goes.proxy ∙ made.proxy)
-          (sym (ap (λ (r : IntakeView Answer). r.taken) done.replies)) (sym (ap (λ (l : Vec Line Global). l.items) done.lines)) (sym done.lost)
-          (goes.lines given.replies.taken made.lines);
-      leaves =
-          subst (λ (u : Option Batch). LeavesLane given.requests.closed finished.client.requests u) (sym done.unsent)
-          (subst (λ (r : PortView Batch). LeavesLane given.requests.closed r (unsent_of end)) (sym done.requests)
-          (closed.leaves given.requests.closed (sent.closed_stays ∙ ap (λ (r : PortView Batch). r.closed) made.requests)));
-      ended = subst (λ (r : IntakeView Answer). HasEnded r) (sym done.replies) closed.ended;
-    }
+    let view = λ (frames : Frames g.row.S.Denot). g.S.Source.remaining (frames_reader frames) in
+    let assignment = c.args.assignment in
+    subst (λ (bytes : Option (List ℕ)). HasWorked assignment.style assignment.proxy bytes c.args.client c.work_over.result)
+    (ap g.S.Source.remaining c.read_frames-frames.ensures.reader)
+    (worked_seen view TakesFrame IsAtEnd IsFaultAt _ assignment.style assignment.proxy c.read_frames-frames.result c.args.client
+    c.work_over.result c.work_over.ensures.worked)
