@@ -1,2 +1,3 @@
 -- lemmas that proofs of the crates above may cite
 pub mod Chains
+pub mod Following

@@ -1,6 +1,8 @@
 -- What a history keeps of a chain. This project's own.
-use Rattle.std.specs.Prelude.{◌≡◌, ℤ, pos, ◌≤ℤ◌, List, ◌++◌, All}
+use Rattle.std.specs.Prelude.{◌≡◌, ℤ, pos, ◌≤ℤ◌, List, ◌++◌, All, None, IfSome}
+use Rattle.keyspace.specs.Judged.{edge}
 use Rattle.keyspace.specs.Processed.{Processed}
+use Rattle.explanations.specs.Explains.{newest_of}
 
 pub record HistoryState : Type 0 where
   -- how far back a transaction may read, in versions
@@ -24,3 +26,9 @@ pub record DropsUpTo (edge : ℤ) (ps kept : List Processed) : Type 0 where
 -- the history keeps the last of these batches
 abbrev pub Keeps : List Processed → HistoryState → Type 0
 Keeps ps h = DropsUpTo h.edge ps h.kept
+
+-- the history is that of these batches, and at no later edge than the last of them
+pub record FollowsChain (h : HistoryState) (ps : List Processed) : Type 0 where
+  pub keeps : Keeps ps h
+  pub edge : IfSome (newest_of ps) (λ b. h.edge ≤ℤ edge h.window b)
+  pub natural : newest_of ps ≡ None → h.edge ≡ pos 0

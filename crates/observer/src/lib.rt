@@ -7,7 +7,7 @@
 
 mod unobserved;
 
-ghost use Rattle.std.specs.Prelude.{◌≡◌, ℤ, ◌++◌, ◌∷◌, [], List, length, OnErr, OnOk};
+ghost use Rattle.std.specs.Prelude.{◌≡◌, ◌++◌, ◌∷◌, [], List, length, OnErr, OnOk};
 ghost use Rattle.keyspace.specs.Processed.{Processed};
 
 use keyspace::{Batch, Reply};
@@ -20,7 +20,9 @@ pub trait Observer {
     ghost has_seen: { Self → List Processed → Type 0 };
 
     // What stays the same of an observer, whatever it sees.
-    ghost setting: { Self → ℤ };
+    ghost Setting: { Type 0 };
+
+    ghost setting: { Self → Setting };
 
     /// Sees a batch that was just processed, with the number of the proxy that sent it, and its
     /// reply. If memory is refused, the observer has seen no more than before.

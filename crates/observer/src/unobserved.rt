@@ -9,11 +9,11 @@ use std::alloc::AllocError;
 pub struct Unobserved;
 
 impl Observer for Unobserved {
-    ghost use Rattle.std.specs.Prelude.{pos};
-
     ghost has_seen = { λ _ _. Unit {0} };
 
-    ghost setting = { λ _. pos 0 };
+    ghost Setting = { Unit {0} };
+
+    ghost setting = { λ _. tt };
 
     fn see(&mut self, _proxy: usize, _batch: Batch, _reply: &Reply) -> Result<(), AllocError> {
         Ok(())

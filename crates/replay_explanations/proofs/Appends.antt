@@ -1,14 +1,14 @@
 -- Texts to which one piece after the other is appended.
-use Rattle.std.proofs.Common.{◌≡◌, ℕ, List, ◌++◌, codes, sym, ap, ◌∙◌, append_assoc}
-use Rattle.std.specs.Prelude.{ℤ, decimal}
-use Rattle.std.specs.Fmt.{signed_decimal}
+use Rattle.std.proofs.Common.{◌≡◌, ℕ, cond, List, ◌++◌, sym, ap, ◌∙◌, append_assoc}
+use Rattle.std.specs.Prelude.{ℤ, OnOk, Result, Ok, Err, is_ok}
 use Rattle.keyspace.specs.declared.txn.Txn.{Txn}
 use Rattle.keyspace.specs.declared.batch.Batch.{Batch}
 use Rattle.keyspace.specs.declared.reply.Verdict.{Verdict}
 use Rattle.keyspace.specs.declared.reply.Verdict.TheVariants.{TooOld}
 use Rattle.keyspace.specs.Judged.{edge}
 use Rattle.keyspace.specs.Processed.{Processed}
-use Rattle.replay_explanations.specs.Lines.{txn_lines}
+use Rattle.replay_explanations.specs.declared.form.ExplanationForm.{ExplanationForm}
+use Rattle.replay_explanations.specs.Lines.{too_old_text, txn_lines}
 
 -- two pieces
 pub joined : (start now next xs ys : List ℕ) → now ≡ start ++ xs → next ≡ now ++ ys → next ≡ start ++ (xs ++ ys)
@@ -30,15 +30,16 @@ six_after o a b c d e f = simp append_assoc
 pub as_piece : (now next xs ys : List ℕ) → next ≡ now ++ xs → xs ≡ ys → next ≡ now ++ ys
 as_piece now next xs ys put same = put ∙ ap (λ (zs : List ℕ). now ++ zs) same
 
--- the line of a transaction that is too old
-pub too_old : (window : ℤ) (kept : List Processed) (b : Batch) (j : ℕ) (t : Txn) (verdict : Verdict) (places : List ℕ)
-    (snapshot oldest : ℤ) → verdict ≡ TooOld → snapshot ≡ t.snapshot → oldest ≡ edge window b
-    → codes "  txn " ++ decimal j ++ codes " too old: snapshot " ++ signed_decimal snapshot
-    ++ codes ", oldest readable version " ++ signed_decimal oldest ++ codes "\n"
-    ≡ txn_lines window kept b j t verdict places
-too_old window kept b j t verdict places snapshot oldest is snapshot_is oldest_is =
-    ap (λ (z : ℤ). codes "  txn " ++ decimal j ++ codes " too old: snapshot " ++ signed_decimal z
-    ++ codes ", oldest readable version " ++ signed_decimal oldest ++ codes "\n") snapshot_is
-    ∙ ap (λ (z : ℤ). codes "  txn " ++ decimal j ++ codes " too old: snapshot " ++ signed_decimal t.snapshot
-    ++ codes ", oldest readable version " ++ signed_decimal z ++ codes "\n") oldest_is
-    ∙ ap (λ (v : Verdict). txn_lines window kept b j t v places) (sym is)
+-- a piece that was appended, if it could be
+pub if_appended : {A E : Type 0} (r : Result A E) (next more same : List ℕ) → next ≡ cond (is_ok r) more same → OnOk r (next ≡ more)
+if_appended (Ok x) next more same is = is
+if_appended (Err e) next more same is = tt
+
+-- the text of a transaction that is too old
+pub too_old : (form : ExplanationForm) (window : ℤ) (kept : List Processed) (b : Batch) (j : ℕ) (t : Txn) (verdict : Verdict)
+    (places : List ℕ) (snapshot oldest : ℤ) → verdict ≡ TooOld → snapshot ≡ t.snapshot → oldest ≡ edge window b
+    → too_old_text form j snapshot oldest ≡ txn_lines form window kept b j t verdict places
+too_old form window kept b j t verdict places snapshot oldest is snapshot_is oldest_is =
+    ap (λ (z : ℤ). too_old_text form j z oldest) snapshot_is
+    ∙ ap (λ (z : ℤ). too_old_text form j t.snapshot z) oldest_is
+    ∙ ap (λ (v : Verdict). txn_lines form window kept b j t v places) (sym is)

@@ -8,7 +8,8 @@ use Rattle.keyspace.specs.declared.reply.Entry.{Entry}
 use Rattle.keyspace.specs.Processed.{Processed}
 use Rattle.explanations.specs.Written.{Written}
 use Rattle.explanations.specs.Found.{IsExplained}
-use Rattle.replay_explanations.specs.Lines.{conflict_line, lines_from, newest, read_line, txn_lines}
+use Rattle.replay_explanations.specs.declared.form.ExplanationForm.{ExplanationForm}
+use Rattle.replay_explanations.specs.Lines.{conflict_text, lines_from, newest, read_line, txn_lines}
 
 newest_push : (others : List Written) (w : Written) → newest (others ++ w ∷ []) ≡ Some w
 newest_push [] w = refl
@@ -21,48 +22,48 @@ count_of all others most further whole count =
     ap (λ (n : ℕ). min n most) same ∙ sym count
 
 -- the line names the newest of them, and the number of the others
-pub explained : (version : ℤ) (j i : ℕ) (range : Range) (ws : List Written) (w : Written) (further : ℕ)
+pub explained : (form : ExplanationForm) (version : ℤ) (j i : ℕ) (range : Range) (ws : List Written) (w : Written) (further : ℕ)
     → IsExplained ws (2 ^ 64 - 1) w further
-    → conflict_line version j i range (Some w) further ≡ read_line version j i (Some range) ws
-explained version j i range ws w further found =
+    → conflict_text form version j i range (Some w) further ≡ read_line form version j i (Some range) ws
+explained form version j i range ws w further found =
     let whole : length ws ≡ length found.others + 1 =
     ap (λ (xs : List Written). length xs) found.last ∙ length-append found.others (w ∷ []) in
-    sym (ap (λ (o : Option Written). conflict_line version j i range o (min (length ws - 1) (2 ^ 64 - 1)))
+    sym (ap (λ (o : Option Written). conflict_text form version j i range o (min (length ws - 1) (2 ^ 64 - 1)))
     (ap newest found.last ∙ newest_push found.others w)
-    ∙ ap (conflict_line version j i range (Some w))
+    ∙ ap (conflict_text form version j i range (Some w))
     (count_of (length ws) (length found.others) (2 ^ 64 - 1) further whole found.count))
 
-more_from : (window : ℤ) (ps : List Processed) (b : Batch) (first last : ℕ) (ts : List Txn) (es : List Entry) (n : ℕ) (t : Txn) (e : Entry)
+more_from : (form : ExplanationForm) (window : ℤ) (ps : List Processed) (b : Batch) (first last : ℕ) (ts : List Txn) (es : List Entry) (n : ℕ) (t : Txn) (e : Entry)
     → last ≡ first + n → slice_get ts n ≡ Some t → slice_get es n ≡ Some e
-    → lines_from window ps b first (take (suc n) ts) (take (suc n) es)
-    ≡ lines_from window ps b first (take n ts) (take n es) ++ txn_lines window ps b last t e.verdict e.places
-more_from window ps b first last [] es n t e same at_t at_e = absurd cc
-more_from window ps b first last (s ∷ ts) [] n t e same at_t at_e = absurd cc
-more_from window ps b first last (s ∷ ts) (f ∷ es) zero t e same at_t at_e =
+    → lines_from form window ps b first (take (suc n) ts) (take (suc n) es)
+    ≡ lines_from form window ps b first (take n ts) (take n es) ++ txn_lines form window ps b last t e.verdict e.places
+more_from form window ps b first last [] es n t e same at_t at_e = absurd cc
+more_from form window ps b first last (s ∷ ts) [] n t e same at_t at_e = absurd cc
+more_from form window ps b first last (s ∷ ts) (f ∷ es) zero t e same at_t at_e =
     let same_t : s ≡ t = cc in
     let same_e : f ≡ e = cc in
     let same_txn : first ≡ last = omega arith in
-    append-nil (txn_lines window ps b first s f.verdict f.places)
-    ∙ ap (λ (j : ℕ). txn_lines window ps b j s f.verdict f.places) same_txn
-    ∙ ap (λ (x : Entry). txn_lines window ps b last s x.verdict x.places) same_e
-    ∙ ap (λ (x : Txn). txn_lines window ps b last x e.verdict e.places) same_t
-more_from window ps b first last (s ∷ ts) (f ∷ es) (suc n) t e same at_t at_e =
-    let own = txn_lines window ps b first s f.verdict f.places in
-    ap (λ (xs : List ℕ). own ++ xs) (more_from window ps b (first + 1) last ts es n t e (omega arith) at_t at_e)
-    ∙ sym (append_assoc own (lines_from window ps b (first + 1) (take n ts) (take n es))
-    (txn_lines window ps b last t e.verdict e.places))
+    append-nil (txn_lines form window ps b first s f.verdict f.places)
+    ∙ ap (λ (j : ℕ). txn_lines form window ps b j s f.verdict f.places) same_txn
+    ∙ ap (λ (x : Entry). txn_lines form window ps b last s x.verdict x.places) same_e
+    ∙ ap (λ (x : Txn). txn_lines form window ps b last x e.verdict e.places) same_t
+more_from form window ps b first last (s ∷ ts) (f ∷ es) (suc n) t e same at_t at_e =
+    let own = txn_lines form window ps b first s f.verdict f.places in
+    ap (λ (xs : List ℕ). own ++ xs) (more_from form window ps b (first + 1) last ts es n t e (omega arith) at_t at_e)
+    ∙ sym (append_assoc own (lines_from form window ps b (first + 1) (take n ts) (take n es))
+    (txn_lines form window ps b last t e.verdict e.places))
 
 -- a text with the lines of one more transaction
-pub lines_next : (window : ℤ) (ps : List Processed) (b : Batch) (ts : List Txn) (es : List Entry) (n : ℕ) (t : Txn) (e : Entry)
+pub lines_next : (form : ExplanationForm) (window : ℤ) (ps : List Processed) (b : Batch) (ts : List Txn) (es : List Entry) (n : ℕ) (t : Txn) (e : Entry)
     (start now next : List ℕ) → slice_get ts n ≡ Some t → slice_get es n ≡ Some e
-    → now ≡ start ++ lines_from window ps b 0 (take n ts) (take n es)
-    → next ≡ now ++ txn_lines window ps b n t e.verdict e.places
-    → next ≡ start ++ lines_from window ps b 0 (take (n + 1) ts) (take (n + 1) es)
-lines_next window ps b ts es n t e start now next at_t at_e before more =
+    → now ≡ start ++ lines_from form window ps b 0 (take n ts) (take n es)
+    → next ≡ now ++ txn_lines form window ps b n t e.verdict e.places
+    → next ≡ start ++ lines_from form window ps b 0 (take (n + 1) ts) (take (n + 1) es)
+lines_next form window ps b ts es n t e start now next at_t at_e before more =
     let one : n + 1 ≡ suc n = omega arith in
-    let lines = lines_from window ps b 0 (take n ts) (take n es) in
-    more ∙ ap (λ (xs : List ℕ). xs ++ txn_lines window ps b n t e.verdict e.places) before
-    ∙ append_assoc start lines (txn_lines window ps b n t e.verdict e.places)
+    let lines = lines_from form window ps b 0 (take n ts) (take n es) in
+    more ∙ ap (λ (xs : List ℕ). xs ++ txn_lines form window ps b n t e.verdict e.places) before
+    ∙ append_assoc start lines (txn_lines form window ps b n t e.verdict e.places)
     ∙ ap (λ (xs : List ℕ). start ++ xs)
-    (sym (more_from window ps b 0 n ts es n t e (omega arith) at_t at_e)
-    ∙ ap (λ (k : ℕ). lines_from window ps b 0 (take k ts) (take k es)) (sym one))
+    (sym (more_from form window ps b 0 n ts es n t e (omega arith) at_t at_e)
+    ∙ ap (λ (k : ℕ). lines_from form window ps b 0 (take k ts) (take k es)) (sym one))

@@ -14,7 +14,9 @@ use Rattle.keyspace.specs.Judged.{IsHit, MeetsEarlier, IsReported, HasReport}
 use Rattle.explanations.specs.Written.{Written, all_written}
 use Rattle.explanations.specs.Explains.{explaining, explaining_range, explaining_txn}
 use Rattle.explanations.proofs.callers.Chains.{explained_if_in_conflict, each_conflict_explained}
-use Rattle.replay_explanations.specs.Lines.{conflict_line, conflict_lines, indices_from, newest, read_line}
+use Rattle.replay_explanations.specs.declared.form.ExplanationForm.{ExplanationForm}
+use Rattle.replay_explanations.specs.declared.form.ExplanationForm.TheVariants.{Words, Json}
+use Rattle.replay_explanations.specs.Lines.{conflict_text, conflict_lines, indices_from, newest, read_line}
 use Rattle.replay_explanations.proofs.Indices.{index_at}
 
 first_empty : (xs ys : List ℕ) → xs ++ ys ≡ [] → xs ≡ []
@@ -39,21 +41,22 @@ some_newest [] some = absurd (some refl)
 some_newest (w ∷ []) some = (w, refl)
 some_newest (w ∷ x ∷ ws) some = some_newest (x ∷ ws) (λ e. cc)
 
-line_of_write : (version : ℤ) (j i : ℕ) (range : Range) (w : Written) (others : ℕ)
-    → conflict_line version j i range (Some w) others ≢ []
-line_of_write version j i range w others e = cc
+line_of_write : (form : ExplanationForm) (version : ℤ) (j i : ℕ) (range : Range) (w : Written) (others : ℕ)
+    → conflict_text form version j i range (Some w) others ≢ []
+line_of_write Words version j i range w others e = cc
+line_of_write Json version j i range w others e = cc
 
 -- a read range that a write explains has a line
-line_of_range : (version : ℤ) (j i : ℕ) (o : Option Range) (all : List Written) (snapshot : ℤ)
+line_of_range : (form : ExplanationForm) (version : ℤ) (j i : ℕ) (o : Option Range) (all : List Written) (snapshot : ℤ)
     → explaining_range all version j snapshot o ≢ []
-    → read_line version j i o (explaining_range all version j snapshot o) ≢ []
-line_of_range version j i None all snapshot some e = some refl
-line_of_range version j i (Some range) all snapshot some e =
+    → read_line form version j i o (explaining_range all version j snapshot o) ≢ []
+line_of_range form version j i None all snapshot some e = some refl
+line_of_range form version j i (Some range) all snapshot some e =
     let ws = explaining_range all version j snapshot (Some range) in
     let others = min (length ws - 1) (2 ^ 64 - 1) in
     let last = some_newest ws some in
-    line_of_write version j i range last.0 others
-    (ap (λ (o : Option Written). conflict_line version j i range o others) (sym last.1) ∙ e)
+    line_of_write form version j i range last.0 others
+    (ap (λ (o : Option Written). conflict_text form version j i range o others) (sym last.1) ∙ e)
 
 read_within : (version : ℤ) (j i : ℕ) (reads : List Range) (all : List Written) (snapshot : ℤ)
     → explaining_range all version j snapshot (slice_get reads i) ≢ [] → i < length reads
@@ -66,11 +69,11 @@ read_within version j i reads all snapshot some = go (slice_get reads i) refl
 head_is_in : (x : ℕ) (xs : List ℕ) → Contains (x ∷ xs) x
 head_is_in x xs = (0, omega arith, refl)
 
-module _ (window : ℤ) (ps : List Processed) (p : Processed) (chain : IsChain window (ps ++ p ∷ [])) (j : ℕ) (t : Txn) (e : Entry)
+module _ (form : ExplanationForm) (window : ℤ) (ps : List Processed) (p : Processed) (chain : IsChain window (ps ++ p ∷ [])) (j : ℕ) (t : Txn) (e : Entry)
     (at_t : slice_get p.batch.txns j ≡ Some t) (at_e : slice_get p.reply.entries j ≡ Some e) (conflict : e.verdict ≡ Conflict) where
   -- the line of read range i
   line : ℕ → List ℕ
-  line i = read_line p.batch.version j i (slice_get t.reads i) (explaining (ps ++ p ∷ []) p.batch j i)
+  line i = read_line form p.batch.version j i (slice_get t.reads i) (explaining (ps ++ p ∷ []) p.batch j i)
 
   by_range : (i : ℕ) → explaining (ps ++ p ∷ []) p.batch j i
       ≡ explaining_range (all_written (ps ++ p ∷ [])) p.batch.version j t.snapshot (slice_get t.reads i)
@@ -79,9 +82,9 @@ module _ (window : ℤ) (ps : List Processed) (p : Processed) (chain : IsChain w
   line_there : (i : ℕ) → explaining (ps ++ p ∷ []) p.batch j i ≢ [] → line i ≢ []
   unfolding line
   line_there i some none =
-      line_of_range p.batch.version j i (slice_get t.reads i) (all_written (ps ++ p ∷ [])) t.snapshot
+      line_of_range form p.batch.version j i (slice_get t.reads i) (all_written (ps ++ p ∷ [])) t.snapshot
       (λ no. some (by_range i ∙ no))
-      (ap (read_line p.batch.version j i (slice_get t.reads i)) (sym (by_range i)) ∙ none)
+      (ap (read_line form p.batch.version j i (slice_get t.reads i)) (sym (by_range i)) ∙ none)
 
   in_conflict : (i : ℕ) → IsHit (writes ps) t i ⊎ MeetsEarlier (earlier p.batch p.reply j) t i → line i ≢ []
   in_conflict i met = line_there i ((explained_if_in_conflict window ps p chain j t i at_t).0 met)
@@ -112,11 +115,11 @@ module _ (window : ℤ) (ps : List Processed) (p : Processed) (chain : IsChain w
       let lists : place ∷ places ≡ [] = sym is ∙ report.silent unreported in
       absurd cc
 
-  pub has_line : conflict_lines (ps ++ p ∷ []) p.batch j t e.places ≢ []
+  pub has_line : conflict_lines form (ps ++ p ∷ []) p.batch j t e.places ≢ []
   unfolding line
   has_line = go e.places refl
     where
-      go : (places : List ℕ) → e.places ≡ places → conflict_lines (ps ++ p ∷ []) p.batch j t places ≢ []
+      go : (places : List ℕ) → e.places ≡ places → conflict_lines form (ps ++ p ∷ []) p.batch j t places ≢ []
       go [] is none = without_report none
       go (place ∷ places) is none =
           first_place place places is (first_empty (line place) (flat_map line places) none)

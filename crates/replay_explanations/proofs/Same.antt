@@ -1,9 +1,7 @@
 -- The lines of the batch processed last are the same by the batches that a history keeps.
-use Rattle.std.proofs.Common.{◌≡◌, ℕ, zero, suc, ◌+◌, ◌<◌, Bool, true, false, List, [], ◌∷◌, ◌++◌, length, Option, Some, None, slice_get, refl, sym, ap, subst, ◌∙◌, arith}
-use Rattle.std.specs.Prelude.{ℤ, ◌≤ℤ◌, ◌<ℤ◌, int_lt}
+use Rattle.std.proofs.Common.{◌≡◌, ℕ, zero, suc, ◌+◌, List, [], ◌∷◌, ◌++◌, length, Option, Some, None, slice_get, refl, sym, ap, ◌∙◌, arith}
+use Rattle.std.specs.Prelude.{ℤ, ◌≤ℤ◌}
 use Rattle.std.specs.List.{flat_map}
-use Rattle.std.proofs.lemmas.Int.{ints}
-use Rattle.std.proofs.lemmas.Option.{slice_get_within}
 use Rattle.keys.specs.declared.range.Range.{Range}
 use Rattle.keyspace.specs.declared.txn.Txn.{Txn}
 use Rattle.keyspace.specs.declared.batch.Batch.{Batch}
@@ -12,72 +10,53 @@ use Rattle.keyspace.specs.declared.reply.Verdict.{Verdict}
 use Rattle.keyspace.specs.declared.reply.Verdict.TheVariants.{Conflict, TooOld, Committed}
 use Rattle.keyspace.specs.Processed.{Processed}
 use Rattle.keyspace.specs.Chain.{IsChain}
-use Rattle.keyspace.specs.Writes.{writes, earlier}
-use Rattle.keyspace.specs.Judged.{edge, HasVerdict, IsTooOld}
+use Rattle.keyspace.specs.Judged.{edge}
 use Rattle.explanations.specs.Explains.{explaining, newest_of}
 use Rattle.explanations.specs.History.{HistoryState, Keeps}
-use Rattle.explanations.proofs.callers.Chains.{dropped_explain_nothing}
-use Rattle.replay_explanations.specs.Lines.{asked_about, explanation, lines_from, read_line, txn_lines}
+use Rattle.explanations.proofs.callers.Following.{same_explaining}
+use Rattle.replay_explanations.specs.declared.form.ExplanationForm.{ExplanationForm}
+use Rattle.replay_explanations.specs.Lines.{asked_about, explanation, lines_from, read_line, txn_lines, whole}
 
-below_from_test : (a b : ℤ) → int_lt a b ≡ true → a <ℤ b
-below_from_test a b h = grind arith
-
-through_test : (a b c : ℤ) → a ≤ℤ b → int_lt c b ≡ false → a ≤ℤ c
-through_test a b c h e = grind (arith, ints)
-
-at_most_unless : (a b c : ℤ) → a ≤ℤ b → (c <ℤ b → ⊥) → a ≤ℤ c
-at_most_unless a b c h never = go (int_lt c b) refl
-  where
-    go : (test : Bool) → int_lt c b ≡ test → a ≤ℤ c
-    go true e = absurd (never (below_from_test c b e))
-    go false e = through_test a b c h e
-
-lines_same : (window : ℤ) (ps qs : List Processed) (b : Batch) (first : ℕ) (ts : List Txn) (es : List Entry)
+lines_same : (form : ExplanationForm) (window : ℤ) (ps qs : List Processed) (b : Batch) (first : ℕ) (ts : List Txn) (es : List Entry)
     → ((j k : ℕ) (t : Txn) (e : Entry) → j ≡ first + k → slice_get ts k ≡ Some t → slice_get es k ≡ Some e
-    → txn_lines window ps b j t e.verdict e.places ≡ txn_lines window qs b j t e.verdict e.places)
-    → lines_from window ps b first ts es ≡ lines_from window qs b first ts es
-lines_same window ps qs b first [] es h = refl
-lines_same window ps qs b first (t ∷ ts) [] h = refl
-lines_same window ps qs b first (t ∷ ts) (e ∷ es) h =
-    ap (λ (xs : List ℕ). xs ++ lines_from window ps b (first + 1) ts es) (h first zero t e (omega arith) refl refl)
-    ∙ ap (λ (xs : List ℕ). txn_lines window qs b first t e.verdict e.places ++ xs)
-    (lines_same window ps qs b (first + 1) ts es (λ j k u f same at_u at_f. h j (suc k) u f (omega (arith, same)) at_u at_f))
+    → txn_lines form window ps b j t e.verdict e.places ≡ txn_lines form window qs b j t e.verdict e.places)
+    → lines_from form window ps b first ts es ≡ lines_from form window qs b first ts es
+lines_same form window ps qs b first [] es h = refl
+lines_same form window ps qs b first (t ∷ ts) [] h = refl
+lines_same form window ps qs b first (t ∷ ts) (e ∷ es) h =
+    ap (λ (xs : List ℕ). xs ++ lines_from form window ps b (first + 1) ts es) (h first zero t e (omega arith) refl refl)
+    ∙ ap (λ (xs : List ℕ). txn_lines form window qs b first t e.verdict e.places ++ xs)
+    (lines_same form window ps qs b (first + 1) ts es (λ j k u f same at_u at_f. h j (suc k) u f (omega (arith, same)) at_u at_f))
 
-module _ (window : ℤ) (ps : List Processed) (p : Processed) (h : HistoryState) (chain : IsChain window (ps ++ p ∷ []))
+module _ (form : ExplanationForm) (window : ℤ) (ps : List Processed) (p : Processed) (h : HistoryState) (chain : IsChain window (ps ++ p ∷ []))
     (keeps : Keeps (ps ++ p ∷ []) h) (newest : newest_of h.kept ≡ Some p.batch) (low : h.edge ≤ℤ edge window p.batch) where
-  read_same : (j : ℕ) (t : Txn) → slice_get p.batch.txns j ≡ Some t → (IsTooOld (edge window p.batch) t → ⊥) → (i : ℕ)
-      → read_line p.batch.version j i (slice_get t.reads i) (explaining (ps ++ p ∷ []) p.batch j i)
-      ≡ read_line p.batch.version j i (slice_get t.reads i) (explaining h.kept p.batch j i)
-  read_same j t at young i = go (slice_get t.reads i) refl
+  read_same : (j : ℕ) (t : Txn) (e : Entry) → slice_get p.batch.txns j ≡ Some t → slice_get p.reply.entries j ≡ Some e
+      → e.verdict ≡ Conflict → (i : ℕ)
+      → read_line form p.batch.version j i (slice_get t.reads i) (explaining (ps ++ p ∷ []) p.batch j i)
+      ≡ read_line form p.batch.version j i (slice_get t.reads i) (explaining h.kept p.batch j i)
+  read_same j t e at_t at_e is i = go (slice_get t.reads i) refl
     where
       go : (o : Option Range) → slice_get t.reads i ≡ o
-          → read_line p.batch.version j i o (explaining (ps ++ p ∷ []) p.batch j i)
-          ≡ read_line p.batch.version j i o (explaining h.kept p.batch j i)
-      go None e = refl
-      go (Some range) e =
-          let inside : i < length t.reads = slice_get_within t.reads i range e in
-          let some : 0 < length t.reads = omega (arith, inside) in
-          let readable : h.edge ≤ℤ t.snapshot = at_most_unless h.edge (edge window p.batch) t.snapshot low (λ old. young (some, old)) in
-          ap (read_line p.batch.version j i (Some range))
-          (dropped_explain_nothing window (ps ++ p ∷ []) h chain keeps p.batch newest j i t at readable)
+          → read_line form p.batch.version j i o (explaining (ps ++ p ∷ []) p.batch j i)
+          ≡ read_line form p.batch.version j i o (explaining h.kept p.batch j i)
+      go None none = refl
+      go (Some range) read =
+          ap (read_line form p.batch.version j i (Some range))
+          (same_explaining window ps p h chain keeps newest low j t e at_t at_e is i range read)
 
   txn_same : (j : ℕ) (t : Txn) (e : Entry) → slice_get p.batch.txns j ≡ Some t → slice_get p.reply.entries j ≡ Some e
-      → txn_lines window (ps ++ p ∷ []) p.batch j t e.verdict e.places ≡ txn_lines window h.kept p.batch j t e.verdict e.places
+      → txn_lines form window (ps ++ p ∷ []) p.batch j t e.verdict e.places ≡ txn_lines form window h.kept p.batch j t e.verdict e.places
   txn_same j t e at_t at_e = go e.verdict refl
     where
       go : (verdict : Verdict) → e.verdict ≡ verdict
-          → txn_lines window (ps ++ p ∷ []) p.batch j t verdict e.places ≡ txn_lines window h.kept p.batch j t verdict e.places
+          → txn_lines form window (ps ++ p ∷ []) p.batch j t verdict e.places ≡ txn_lines form window h.kept p.batch j t verdict e.places
       go Committed is = refl
       go TooOld is = refl
-      go Conflict is =
-          let judged : HasVerdict (edge window p.batch) (writes ps) (earlier p.batch p.reply j) t Conflict =
-          subst (λ (v : Verdict). HasVerdict (edge window p.batch) (writes ps) (earlier p.batch p.reply j) t v) is
-          ((chain ps p [] refl).judged.verdicts j t e at_t at_e) in
-          λ x. flat_map (λ i. read_same j t at_t judged.0 i x) (asked_about e.places (length t.reads))
+      go Conflict is = λ x. flat_map (λ i. read_same j t e at_t at_e is i x) (asked_about e.places (length t.reads))
 
-  pub same_explanation : explanation window (ps ++ p ∷ []) p ≡ explanation window h.kept p
+  pub same_explanation : explanation form window (ps ++ p ∷ []) p ≡ explanation form window h.kept p
   same_explanation =
-      lines_same window (ps ++ p ∷ []) h.kept p.batch 0 p.batch.txns p.reply.entries
+      ap (whole form) (lines_same form window (ps ++ p ∷ []) h.kept p.batch 0 p.batch.txns p.reply.entries
       (λ j k t e is at_t at_e.
       let same : k ≡ j = omega (arith, is) in
-      txn_same j t e (ap (slice_get p.batch.txns) (sym same) ∙ at_t) (ap (slice_get p.reply.entries) (sym same) ∙ at_e))
+      txn_same j t e (ap (slice_get p.batch.txns) (sym same) ∙ at_t) (ap (slice_get p.reply.entries) (sym same) ∙ at_e)))

@@ -5,7 +5,6 @@ use Rattle.std.specs.Int.{int_max}
 use Rattle.std.specs.Ordering.{int_eq}
 use Rattle.std.proofs.lemmas.Int.{ints}
 use Rattle.std.proofs.lemmas.Bool.Decides.{Decides-int_eq}
-use Rattle.std.proofs.lemmas.Option.{none-some, same_Some}
 use Rattle.std.proofs.lemmas.List.Elements.{All-head, All-tail}
 use Rattle.keys.proofs.callers.Booleans.{and_right, false_unless}
 use Rattle.keyspace.specs.declared.batch.Batch.{Batch}
@@ -13,80 +12,13 @@ use Rattle.keyspace.specs.Processed.{Processed}
 use Rattle.keyspace.specs.Chain.{IsChain}
 use Rattle.keyspace.specs.Judged.{edge}
 use Rattle.explanations.specs.Explains.{newest_of}
-use Rattle.explanations.specs.History.{HistoryState, Keeps}
-use Rattle.explanations.proofs.callers.Chains.{Precedes, versions_below, newest_of-more}
+use Rattle.explanations.specs.History.{FollowsChain, Keeps}
+use Rattle.explanations.proofs.callers.Chains.{Precedes, versions_below}
+use Rattle.explanations.proofs.callers.Following.{chain_before, edge_within, follows_more}
+use Rattle.replay_explanations.specs.declared.form.ExplanationForm.{ExplanationForm}
 use Rattle.replay_explanations.specs.Lines.{explanation, explanation_at, explanation_from}
-use Rattle.replay_explanations.specs.Explainer.{ExplainerState, FollowsChain, HasExplained, Texts, text_of}
+use Rattle.replay_explanations.specs.Explainer.{ExplainerState, HasExplained, Texts, text_of}
 use Rattle.replay_explanations.proofs.Same.{same_explanation}
-
--- the batches before the last are a chain too
-chain_before : (window : ℤ) (ps : List Processed) (p : Processed) → IsChain window (ps ++ p ∷ []) → IsChain window ps
-chain_before window ps p chain before q after split =
-    chain before q (after ++ p ∷ [])
-    (ap (λ (qs : List Processed). qs ++ p ∷ []) split ∙ append_assoc before (q ∷ after) (p ∷ []))
-
--- edges in a chain
-
-above_below : (c d : ℤ) → c ≤ℤ d → int_lt (pos 0) c ≡ true → int_lt (pos 0) d ≡ false → c ≤ℤ pos 0
-above_below c d h e f = grind (arith, ints)
-
-natural_above : (d : ℤ) → int_lt (pos 0) d ≡ true → pos 0 ≤ℤ d
-natural_above d e = grind (arith, ints)
-
-at_most_itself : (d : ℤ) → d ≤ℤ d
-at_most_itself d = omega (arith, ints)
-
-max_rises : (c d : ℤ) → c ≤ℤ d → int_max c (pos 0) ≤ℤ int_max d (pos 0)
-max_rises c d h = go (int_lt (pos 0) c) (int_lt (pos 0) d) refl refl
-  where
-    go : (x y : Bool) → int_lt (pos 0) c ≡ x → int_lt (pos 0) d ≡ y → cond x c (pos 0) ≤ℤ cond y d (pos 0)
-    go true true e f = h
-    go true false e f = above_below c d h e f
-    go false true e f = natural_above d f
-    go false false e f = at_most_itself (pos 0)
-
-max_natural : (d : ℤ) → pos 0 ≤ℤ int_max d (pos 0)
-max_natural d = go (int_lt (pos 0) d) refl
-  where
-    go : (x : Bool) → int_lt (pos 0) d ≡ x → pos 0 ≤ℤ cond x d (pos 0)
-    go true e = natural_above d e
-    go false e = at_most_itself (pos 0)
-
-max_below : (a b : ℤ) → a ≤ℤ b → int_max a b ≤ℤ b
-max_below a b h = go (int_lt b a)
-  where
-    go : (x : Bool) → cond x a b ≤ℤ b
-    go true = h
-    go false = at_most_itself b
-
-less_by : (a b window : ℤ) → a <ℤ b → (a -ℤ window) ≤ℤ (b -ℤ window)
-less_by a b window h = omega (arith, ints)
-
-through : (a b c : ℤ) → a ≤ℤ b → b ≤ℤ c → a ≤ℤ c
-through a b c h k = omega (arith, ints)
-
-edge_rises : (window : ℤ) (a b : Batch) → a.version <ℤ b.version → edge window a ≤ℤ edge window b
-edge_rises window a b h =
-    max_rises (a.version -ℤ window) (b.version -ℤ window) (less_by a.version b.version window h)
-
-newest_precedes : (ps : List Processed) (p : Processed) (b : Batch) → newest_of ps ≡ Some b → All (Precedes p) ps
-    → b.version <ℤ p.batch.version
-newest_precedes [] p b is all = absurd cc
-newest_precedes (q ∷ []) p b is all =
-    subst (λ (x : Batch). x.version <ℤ p.batch.version) (same_Some q.batch b is) (All-head (Precedes p) q [] all)
-newest_precedes (q ∷ r ∷ ps) p b is all = newest_precedes (r ∷ ps) p b is (All-tail (Precedes p) q (r ∷ ps) all)
-
-edge_before : (h : HistoryState) (ps : List Processed) (p : Processed) → FollowsChain h ps → All (Precedes p) ps
-    → h.edge ≤ℤ edge h.window p.batch
-edge_before h ps p follows all = go (newest_of ps) refl
-  where
-    go : (o : Option Batch) → newest_of ps ≡ o → h.edge ≤ℤ edge h.window p.batch
-    go None is =
-        subst (λ (z : ℤ). z ≤ℤ edge h.window p.batch) (sym (follows.natural is)) (max_natural (p.batch.version -ℤ h.window))
-    go (Some b) is =
-        through h.edge (edge h.window b) (edge h.window p.batch)
-        (subst (λ (o : Option Batch). IfSome o (λ x. h.edge ≤ℤ edge h.window x)) is follows.edge)
-        (edge_rises h.window b p.batch (newest_precedes ps p b is all))
 
 -- the batch of a proxy and version
 
@@ -105,45 +37,41 @@ apart p q version lower first second =
     not_below_itself version
     (subst (λ (z : ℤ). z <ℤ version) first (subst (λ (z : ℤ). q.batch.version <ℤ z) second lower))
 
-none_yet : (window : ℤ) (before ps : List Processed) (p : Processed) → All (Precedes p) ps
-    → explanation_from window before ps p.proxy p.batch.version ≡ []
-none_yet window before [] p all = refl
-none_yet window before (q ∷ ps) p all =
+none_yet : (form : ExplanationForm) (window : ℤ) (before ps : List Processed) (p : Processed) → All (Precedes p) ps
+    → explanation_from form window before ps p.proxy p.batch.version ≡ []
+none_yet form window before [] p all = refl
+none_yet form window before (q ∷ ps) p all =
     let other : is_batch q p.proxy p.batch.version ≡ false =
     false_unless (is_batch q p.proxy p.batch.version) (λ is.
     apart p q p.batch.version (All-head (Precedes p) q ps all) (has_version q p.proxy p.batch.version is) refl) in
-    ap (λ b. cond b (explanation window (before ++ q ∷ []) q)
-    (explanation_from window (before ++ q ∷ []) ps p.proxy p.batch.version)) other
-    ∙ none_yet window (before ++ q ∷ []) ps p (All-tail (Precedes p) q ps all)
+    ap (λ b. cond b (explanation form window (before ++ q ∷ []) q)
+    (explanation_from form window (before ++ q ∷ []) ps p.proxy p.batch.version)) other
+    ∙ none_yet form window (before ++ q ∷ []) ps p (All-tail (Precedes p) q ps all)
 
-explained_more : (window : ℤ) (before ps : List Processed) (p : Processed) (proxy : ℕ) (version : ℤ) → All (Precedes p) ps
-    → explanation_from window before (ps ++ p ∷ []) proxy version
-    ≡ cond (is_batch p proxy version) (explanation window ((before ++ ps) ++ p ∷ []) p) (explanation_from window before ps proxy version)
-explained_more window before [] p proxy version all =
-    ap (λ (qs : List Processed). cond (is_batch p proxy version) (explanation window (qs ++ p ∷ []) p) []) (sym (append-nil before))
-explained_more window before (q ∷ ps) p proxy version all =
-    go (is_batch q proxy version) refl (explained_more window (before ++ q ∷ []) ps p proxy version (All-tail (Precedes p) q ps all))
+explained_more : (form : ExplanationForm) (window : ℤ) (before ps : List Processed) (p : Processed) (proxy : ℕ) (version : ℤ) → All (Precedes p) ps
+    → explanation_from form window before (ps ++ p ∷ []) proxy version
+    ≡ cond (is_batch p proxy version) (explanation form window ((before ++ ps) ++ p ∷ []) p) (explanation_from form window before ps proxy version)
+explained_more form window before [] p proxy version all =
+    ap (λ (qs : List Processed). cond (is_batch p proxy version) (explanation form window (qs ++ p ∷ []) p) []) (sym (append-nil before))
+explained_more form window before (q ∷ ps) p proxy version all =
+    go (is_batch q proxy version) refl (explained_more form window (before ++ q ∷ []) ps p proxy version (All-tail (Precedes p) q ps all))
   where
     go : (b : Bool) → is_batch q proxy version ≡ b
-        → explanation_from window (before ++ q ∷ []) (ps ++ p ∷ []) proxy version
-        ≡ cond (is_batch p proxy version) (explanation window (((before ++ q ∷ []) ++ ps) ++ p ∷ []) p)
-        (explanation_from window (before ++ q ∷ []) ps proxy version)
-        → cond b (explanation window (before ++ q ∷ []) q) (explanation_from window (before ++ q ∷ []) (ps ++ p ∷ []) proxy version)
-        ≡ cond (is_batch p proxy version) (explanation window ((before ++ (q ∷ ps)) ++ p ∷ []) p)
-        (cond b (explanation window (before ++ q ∷ []) q) (explanation_from window (before ++ q ∷ []) ps proxy version))
+        → explanation_from form window (before ++ q ∷ []) (ps ++ p ∷ []) proxy version
+        ≡ cond (is_batch p proxy version) (explanation form window (((before ++ q ∷ []) ++ ps) ++ p ∷ []) p)
+        (explanation_from form window (before ++ q ∷ []) ps proxy version)
+        → cond b (explanation form window (before ++ q ∷ []) q) (explanation_from form window (before ++ q ∷ []) (ps ++ p ∷ []) proxy version)
+        ≡ cond (is_batch p proxy version) (explanation form window ((before ++ (q ∷ ps)) ++ p ∷ []) p)
+        (cond b (explanation form window (before ++ q ∷ []) q) (explanation_from form window (before ++ q ∷ []) ps proxy version))
     go true is rest =
         let other : is_batch p proxy version ≡ false =
         false_unless (is_batch p proxy version) (λ own.
         apart p q version (All-head (Precedes p) q ps all) (has_version q proxy version is) (has_version p proxy version own)) in
-        ap (λ b. cond b (explanation window ((before ++ (q ∷ ps)) ++ p ∷ []) p) (explanation window (before ++ q ∷ []) q)) (sym other)
+        ap (λ b. cond b (explanation form window ((before ++ (q ∷ ps)) ++ p ∷ []) p) (explanation form window (before ++ q ∷ []) q)) (sym other)
     go false is rest =
         rest
-        ∙ ap (λ (qs : List Processed). cond (is_batch p proxy version) (explanation window (qs ++ p ∷ []) p)
-        (explanation_from window (before ++ q ∷ []) ps proxy version)) (append_assoc before (q ∷ []) ps)
-
--- the parts of a processed batch
-pub same_processed : (p q : Processed) → p.proxy ≡ q.proxy → p.batch ≡ q.batch → p.reply ≡ q.reply → p ≡ q
-same_processed p q proxy batch reply = λ i. record { proxy = proxy i; batch = batch i; reply = reply i }
+        ∙ ap (λ (qs : List Processed). cond (is_batch p proxy version) (explanation form window (qs ++ p ∷ []) p)
+        (explanation_from form window (before ++ q ∷ []) ps proxy version)) (append_assoc before (q ∷ []) ps)
 
 -- the texts before, and the version of the batch
 pub put_same : (old before new : Texts) (proxy : ℕ) (given version : ℤ) (text : List ℕ) → old ≡ before → given ≡ version
@@ -164,21 +92,22 @@ on_err (Err e) P p = p
 
 -- memory was refused
 pub has_seen_no_more : (e f : ExplainerState) (ps : List Processed) → f.has_failed ≡ true → f.texts ≡ e.texts
-    → f.history.window ≡ e.history.window → HasExplained e ps → HasExplained f ps
-has_seen_no_more e f ps failed texts window seen = record {
+    → f.history.window ≡ e.history.window → f.form ≡ e.form → HasExplained e ps → HasExplained f ps
+has_seen_no_more e f ps failed texts window form seen = record {
   follows = λ working chain. absurd (let both : true ≡ false = sym failed ∙ working in cc);
   texts = λ chain proxy version.
       ap (λ x. text_of x proxy version) texts
       ∙ seen.texts (subst (λ (w : ℤ). IsChain w ps) window chain) proxy version
-      ∙ ap (λ (w : ℤ). explanation_at w ps proxy version) (sym window);
+      ∙ ap (λ (w : ℤ). explanation_at e.form w ps proxy version) (sym window)
+      ∙ ap (λ (x : ExplanationForm). explanation_at x f.history.window ps proxy version) (sym form);
 }
 
 module _ (e f : ExplainerState) (p : Processed) (text : List ℕ)
-    (open_before : e.has_failed ≡ false) (same_window : f.history.window ≡ e.history.window)
+    (open_before : e.has_failed ≡ false) (same_window : f.history.window ≡ e.history.window) (same_form : f.form ≡ e.form)
     (keeps : (ps : List Processed) → Keeps ps e.history → Keeps (ps ++ p ∷ []) f.history)
     (edge_is : f.history.edge ≡ int_max e.history.edge (edge e.history.window p.batch))
     (newest : newest_of f.history.kept ≡ Some p.batch)
-    (text_is : text ≡ explanation f.history.window f.history.kept p)
+    (text_is : text ≡ explanation f.form f.history.window f.history.kept p)
     (put : text_of e.texts p.proxy p.batch.version ≡ [] → (proxy : ℕ) (version : ℤ)
     → text_of f.texts proxy version ≡ cond (is_batch p proxy version) text (text_of e.texts proxy version)) where
   module _ (ps : List Processed) (seen : HasExplained e ps) (chain : IsChain f.history.window (ps ++ p ∷ [])) where
@@ -191,38 +120,29 @@ module _ (e f : ExplainerState) (p : Processed) (text : List ℕ)
     followed : FollowsChain e.history ps
     followed = seen.follows open_before (chain_before e.history.window ps p old_chain)
 
-    edge_within : f.history.edge ≤ℤ edge f.history.window p.batch
-    edge_within =
-        subst (λ (w : ℤ). f.history.edge ≤ℤ edge w p.batch) (sym same_window)
-        (subst (λ (z : ℤ). z ≤ℤ edge e.history.window p.batch) (sym edge_is)
-        (max_below e.history.edge (edge e.history.window p.batch) (edge_before e.history ps p followed all_before)))
-
-    follows_more : FollowsChain f.history (ps ++ p ∷ [])
-    follows_more = record {
-      keeps = keeps ps followed.keeps;
-      edge =
-          subst (λ (o : Option Batch). IfSome o (λ b. f.history.edge ≤ℤ edge f.history.window b)) (sym (newest_of-more ps p))
-          edge_within;
-      natural = λ none. absurd (none-some p.batch (sym none ∙ newest_of-more ps p));
-    }
+    low : f.history.edge ≤ℤ edge f.history.window p.batch
+    low = edge_within e.history f.history p same_window keeps edge_is ps old_chain followed
 
     texts_more : (proxy : ℕ) (version : ℤ)
-        → text_of f.texts proxy version ≡ explanation_at f.history.window (ps ++ p ∷ []) proxy version
+        → text_of f.texts proxy version ≡ explanation_at f.form f.history.window (ps ++ p ∷ []) proxy version
     texts_more proxy version =
         let window = f.history.window in
-        let before : (q : ℕ) (v : ℤ) → text_of e.texts q v ≡ explanation_at window ps q v =
+        let form = f.form in
+        let before : (q : ℕ) (v : ℤ) → text_of e.texts q v ≡ explanation_at form window ps q v =
         λ q v. seen.texts (chain_before e.history.window ps p old_chain) q v
-        ∙ ap (λ (w : ℤ). explanation_at w ps q v) (sym same_window) in
-        put (before p.proxy p.batch.version ∙ none_yet window [] ps p all_before) proxy version
+        ∙ ap (λ (w : ℤ). explanation_at e.form w ps q v) (sym same_window)
+        ∙ ap (λ (x : ExplanationForm). explanation_at x window ps q v) (sym same_form) in
+        put (before p.proxy p.batch.version ∙ none_yet form window [] ps p all_before) proxy version
         ∙ ap (λ (xs : List ℕ). cond (is_batch p proxy version) text xs) (before proxy version)
-        ∙ ap (λ (xs : List ℕ). cond (is_batch p proxy version) xs (explanation_at window ps proxy version))
+        ∙ ap (λ (xs : List ℕ). cond (is_batch p proxy version) xs (explanation_at form window ps proxy version))
         (text_is
-        ∙ sym (same_explanation window ps p f.history chain (keeps ps followed.keeps) newest edge_within))
-        ∙ sym (explained_more window [] ps p proxy version all_before)
+        ∙ sym (same_explanation form window ps p f.history chain (keeps ps followed.keeps) newest low))
+        ∙ sym (explained_more form window [] ps p proxy version all_before)
 
   -- one more batch is explained
   pub has_seen_more : (ps : List Processed) → HasExplained e ps → HasExplained f (ps ++ p ∷ [])
   has_seen_more ps seen = record {
-    follows = λ working chain. follows_more ps seen chain;
+    follows = λ working chain.
+        follows_more e.history f.history p same_window keeps edge_is ps (old_chain ps seen chain) (followed ps seen chain);
     texts = λ chain. texts_more ps seen chain;
   }

@@ -1,13 +1,12 @@
 -- What an explainer holds of the batches that it saw. This project's own.
-use Rattle.std.specs.Prelude.{◌≡◌, ℕ, ℤ, pos, ◌≤ℤ◌, Bool, false, List, [], Option, None, Some, IfSome}
+use Rattle.std.specs.Prelude.{◌≡◌, ℕ, ℤ, Bool, false, List, [], Option, None, Some}
 use Rattle.std.specs.declared.cmp.Ordering.{Ordering}
 use Rattle.std.specs.Ordering.{nat_cmp, int_cmp, ordering_then}
 use Rattle.std.specs.FinMap as map
 use Rattle.keyspace.specs.Chain.{IsChain}
-use Rattle.keyspace.specs.Judged.{edge}
 use Rattle.keyspace.specs.Processed.{Processed}
-use Rattle.explanations.specs.Explains.{newest_of}
-use Rattle.explanations.specs.History.{HistoryState, Keeps}
+use Rattle.explanations.specs.History.{FollowsChain, HistoryState}
+use Rattle.replay_explanations.specs.declared.form.ExplanationForm.{ExplanationForm}
 use Rattle.replay_explanations.specs.Lines.{explanation_at}
 
 -- by proxy, and then by version
@@ -27,20 +26,24 @@ abbrev pub text_of : Texts → ℕ → ℤ → List ℕ
 text_of texts proxy version = text_or_none (map.get texts (proxy, version))
 
 pub record ExplainerState : Type 0 where
+  pub form : ExplanationForm
   pub history : HistoryState
   pub texts : Texts
   -- memory was refused, and what it saw last isn't explained
   pub has_failed : Bool
 
--- the history is that of these batches, and at no later edge than the last of them
-pub record FollowsChain (h : HistoryState) (ps : List Processed) : Type 0 where
-  pub keeps : Keeps ps h
-  pub edge : IfSome (newest_of ps) (λ b. h.edge ≤ℤ edge h.window b)
-  pub natural : newest_of ps ≡ None → h.edge ≡ pos 0
+-- what stays the same of an explainer
+pub record Setting : Type 0 where
+  pub form : ExplanationForm
+  -- how far back a transaction may read, in versions
+  pub window : ℤ
+
+abbrev pub setting_of : ExplainerState → Setting
+setting_of e = record { form = e.form; window = e.history.window }
 
 -- it has seen these batches: if they are a chain with right replies, it has the explanation of each
 pub record HasExplained (e : ExplainerState) (ps : List Processed) : Type 0 where
   pub follows : e.has_failed ≡ false → IsChain e.history.window ps → FollowsChain e.history ps
   pub texts :
       IsChain e.history.window ps → (proxy : ℕ) (version : ℤ)
-      → text_of e.texts proxy version ≡ explanation_at e.history.window ps proxy version
+      → text_of e.texts proxy version ≡ explanation_at e.form e.history.window ps proxy version

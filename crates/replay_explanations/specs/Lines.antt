@@ -13,6 +13,9 @@ use Rattle.keyspace.specs.Processed.{Processed}
 use Rattle.explanations.specs.Written.{Written}
 use Rattle.explanations.specs.Explains.{explaining}
 use Rattle.json_lines.specs.KeyForm.{key_form}
+use Rattle.replay_explanations.specs.declared.form.ExplanationForm.{ExplanationForm}
+use Rattle.replay_explanations.specs.declared.form.ExplanationForm.TheVariants.{Words, Json}
+use Rattle.replay_explanations.specs.Json.{conflict_json, member_json, too_old_json}
 
 -- a key in its printed form, in quotes
 abbrev pub quoted : List ℕ → List ℕ
@@ -49,10 +52,15 @@ conflict_line version j i range (Some w) others =
     codes "  txn " ++ decimal j ++ codes " read " ++ decimal i ++ codes " " ++ range_form range
     ++ codes " conflicts with write " ++ write_form version w ++ further_text others ++ codes "\n"
 
+-- the same in either form
+abbrev pub conflict_text : ExplanationForm → ℤ → ℕ → ℕ → Range → Option Written → ℕ → List ℕ
+conflict_text Words version j i range w others = conflict_line version j i range w others
+conflict_text Json version j i range w others = conflict_json version j i range w others
+
 -- the line of a read range, given the writes that explain it, oldest first; there is none if no write does
-abbrev pub read_line : ℤ → ℕ → ℕ → Option Range → List Written → List ℕ
-read_line version j i None ws = []
-read_line version j i (Some range) ws = conflict_line version j i range (newest ws) (min (length ws - 1) (2 ^ 64 - 1))
+abbrev pub read_line : ExplanationForm → ℤ → ℕ → ℕ → Option Range → List Written → List ℕ
+read_line form version j i None ws = []
+read_line form version j i (Some range) ws = conflict_text form version j i range (newest ws) (min (length ws - 1) (2 ^ 64 - 1))
 
 -- the indices from one number on, so many
 abbrev pub indices_from : ℕ → ℕ → List ℕ
@@ -65,39 +73,50 @@ asked_about [] reads = indices_from 0 reads
 asked_about (place ∷ places) reads = place ∷ places
 
 -- the lines of a conflicting transaction, which is the one at index j of this batch, the one processed last of these
-abbrev pub conflict_lines : List Processed → Batch → ℕ → Txn → List ℕ → List ℕ
-conflict_lines ps b j t places =
-    flat_map (λ i. read_line b.version j i (slice_get t.reads i) (explaining ps b j i)) (asked_about places (length t.reads))
+abbrev pub conflict_lines : ExplanationForm → List Processed → Batch → ℕ → Txn → List ℕ → List ℕ
+conflict_lines form ps b j t places =
+    flat_map (λ i. read_line form b.version j i (slice_get t.reads i) (explaining ps b j i)) (asked_about places (length t.reads))
 
-abbrev pub too_old_line : ℤ → Batch → ℕ → Txn → List ℕ
-too_old_line window b j t =
-    codes "  txn " ++ decimal j ++ codes " too old: snapshot " ++ signed_decimal t.snapshot
-    ++ codes ", oldest readable version " ++ signed_decimal (edge window b) ++ codes "\n"
+-- the line of the transaction at index j, which is too old
+abbrev pub too_old_line : ℕ → ℤ → ℤ → List ℕ
+too_old_line j snapshot oldest =
+    codes "  txn " ++ decimal j ++ codes " too old: snapshot " ++ signed_decimal snapshot
+    ++ codes ", oldest readable version " ++ signed_decimal oldest ++ codes "\n"
+
+-- the same in either form
+abbrev pub too_old_text : ExplanationForm → ℕ → ℤ → ℤ → List ℕ
+too_old_text Words j snapshot oldest = too_old_line j snapshot oldest
+too_old_text Json j snapshot oldest = too_old_json j snapshot oldest
 
 -- the lines of a transaction, by its verdict
-abbrev pub txn_lines : ℤ → List Processed → Batch → ℕ → Txn → Verdict → List ℕ → List ℕ
-txn_lines window ps b j t Committed places = []
-txn_lines window ps b j t TooOld places = too_old_line window b j t
-txn_lines window ps b j t Conflict places = conflict_lines ps b j t places
+abbrev pub txn_lines : ExplanationForm → ℤ → List Processed → Batch → ℕ → Txn → Verdict → List ℕ → List ℕ
+txn_lines form window ps b j t Committed places = []
+txn_lines form window ps b j t TooOld places = too_old_text form j t.snapshot (edge window b)
+txn_lines form window ps b j t Conflict places = conflict_lines form ps b j t places
 
 -- the lines of transactions with their entries; the first of them has this index
-abbrev pub lines_from : ℤ → List Processed → Batch → ℕ → List Txn → List Entry → List ℕ
-lines_from window ps b j (t ∷ ts) (e ∷ es) =
-    txn_lines window ps b j t e.verdict e.places ++ lines_from window ps b (j + 1) ts es
-lines_from window ps b j [] es = []
-lines_from window ps b j (t ∷ ts) [] = []
+abbrev pub lines_from : ExplanationForm → ℤ → List Processed → Batch → ℕ → List Txn → List Entry → List ℕ
+lines_from form window ps b j (t ∷ ts) (e ∷ es) =
+    txn_lines form window ps b j t e.verdict e.places ++ lines_from form window ps b (j + 1) ts es
+lines_from form window ps b j [] es = []
+lines_from form window ps b j (t ∷ ts) [] = []
 
--- the lines of the batch that was processed last of these
-abbrev pub explanation : ℤ → List Processed → Processed → List ℕ
-explanation window ps p = lines_from window ps p.batch 0 p.batch.txns p.reply.entries
+-- the lines as they are, or the objects as a member
+abbrev pub whole : ExplanationForm → List ℕ → List ℕ
+whole Words lines = lines
+whole Json objects = member_json objects
+
+-- the text of the batch that was processed last of these
+abbrev pub explanation : ExplanationForm → ℤ → List Processed → Processed → List ℕ
+explanation form window ps p = whole form (lines_from form window ps p.batch 0 p.batch.txns p.reply.entries)
 
 -- the lines of the batch of this proxy and version, if it was processed after these; each batch is explained by those up to it
-abbrev pub explanation_from : ℤ → List Processed → List Processed → ℕ → ℤ → List ℕ
-explanation_from window before [] proxy version = []
-explanation_from window before (p ∷ ps) proxy version =
-    if (p.proxy == proxy) && int_eq p.batch.version version then explanation window (before ++ p ∷ []) p
-    else explanation_from window (before ++ p ∷ []) ps proxy version
+abbrev pub explanation_from : ExplanationForm → ℤ → List Processed → List Processed → ℕ → ℤ → List ℕ
+explanation_from form window before [] proxy version = []
+explanation_from form window before (p ∷ ps) proxy version =
+    if (p.proxy == proxy) && int_eq p.batch.version version then explanation form window (before ++ p ∷ []) p
+    else explanation_from form window (before ++ p ∷ []) ps proxy version
 
 -- the lines of the batch of this proxy and version, if it was processed
-abbrev pub explanation_at : ℤ → List Processed → ℕ → ℤ → List ℕ
-explanation_at window ps proxy version = explanation_from window [] ps proxy version
+abbrev pub explanation_at : ExplanationForm → ℤ → List Processed → ℕ → ℤ → List ℕ
+explanation_at form window ps proxy version = explanation_from form window [] ps proxy version

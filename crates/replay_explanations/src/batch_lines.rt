@@ -7,9 +7,10 @@ ghost use Rattle.keyspace.specs.declared.batch.Batch.{Batch as BatchValue};
 ghost use Rattle.keyspace.specs.declared.txn.Txn.{Txn};
 ghost use Rattle.explanations.specs.Explains.{explaining_newest, newest_of};
 ghost use Rattle.replay_explanations.specs.Lines.{conflict_lines, indices_from, lines_from};
-ghost use Rattle.replay_explanations.specs.Lines.{read_line, txn_lines};
+ghost use Rattle.replay_explanations.specs.Lines.{read_line, txn_lines, whole};
 
-use crate::lines::{put_conflict_line, put_too_old_line};
+use crate::form::{ExplanationForm, put_conflict, put_too_old};
+use crate::json::member_of;
 use explanations::History;
 use keyspace::{Batch, Entry, RangesRef, Verdict};
 use std::alloc::{AllocError, Global};
@@ -18,6 +19,7 @@ use std::alloc::{AllocError, Global};
 // if no batch was added.
 pub(crate) fn lines_of(
     alloc: Global,
+    form: ExplanationForm,
     history: &History,
     entries: &[Entry],
 ) -> Result<Vec<u8>, AllocError>
@@ -25,30 +27,34 @@ pub(crate) fn lines_of(
         length entries.now ≡ length batch.txns) }
     ensures text { IfOk result (λ text. (batch : BatchValue)
         → newest_of history.now.kept ≡ Some batch
-        → text.items ≡ lines_from history.now.window history.now.kept batch 0 batch.txns
-        entries.now) }
+        → text.items ≡ whole form (lines_from form history.now.window history.now.kept batch 0
+        batch.txns entries.now)) }
 {
     let mut text = Vec::new(alloc);
     if let Some(batch) = history.newest() {
-        put_lines(&mut text, history, batch, entries)?;
+        put_lines(&mut text, form, history, batch, entries)?;
     }
-    Ok(text)
+    match form {
+        ExplanationForm::Words => Ok(text),
+        ExplanationForm::Json => member_of(alloc, &text),
+    }
 }
 
 // Appends the lines of the batch.
 fn put_lines(
     out: &mut Vec<u8>,
+    form: ExplanationForm,
     history: &History,
     batch: &Batch,
     entries: &[Entry],
 ) -> Result<(), AllocError>
     requires newest { newest_of history.now.kept ≡ Some batch.now }
     requires entries { length entries.now ≡ length batch.now.txns }
-    ensures text { OnOk result (out.new.items ≡ out.old.items ++ lines_from history.now.window
+    ensures text { OnOk result (out.new.items ≡ out.old.items ++ lines_from form history.now.window
         history.now.kept batch.now 0 batch.now.txns entries.now) }
 {
     for txn in 0..entries.len() {
-        put_txn(out, history, batch, txn, &entries[txn])?;
+        put_txn(out, form, history, batch, txn, &entries[txn])?;
     }
     Ok(())
 }
@@ -56,6 +62,7 @@ fn put_lines(
 // Appends the lines of the transaction at the index.
 fn put_txn(
     out: &mut Vec<u8>,
+    form: ExplanationForm,
     history: &History,
     batch: &Batch,
     txn: usize,
@@ -64,16 +71,22 @@ fn put_txn(
     requires newest { newest_of history.now.kept ≡ Some batch.now }
     requires within { txn < length batch.now.txns }
     ensures text { OnOk result ((t : Txn) → slice_get batch.now.txns txn ≡ Some t
-        → out.new.items ≡ out.old.items ++ txn_lines history.now.window history.now.kept
+        → out.new.items ≡ out.old.items ++ txn_lines form history.now.window history.now.kept
         batch.now txn t entry.now.verdict entry.now.places) }
 {
     match entry.verdict {
         Verdict::Committed => Ok(()),
         Verdict::TooOld => {
             let snapshot = batch.txns.snapshot(txn);
-            put_too_old_line(out, txn, snapshot, oldest_readable(history.window(), batch))
+            put_too_old(
+                out,
+                form,
+                txn,
+                snapshot,
+                oldest_readable(history.window(), batch),
+            )
         }
-        Verdict::Conflict => put_conflicts(out, history, batch, txn, entry.places.as_slice()),
+        Verdict::Conflict => put_conflicts(out, form, history, batch, txn, entry.places.as_slice()),
     }
 }
 
@@ -89,6 +102,7 @@ fn oldest_readable(window: i64, batch: &Batch) -> i64
 // read ranges are looked at.
 fn put_conflicts(
     out: &mut Vec<u8>,
+    form: ExplanationForm,
     history: &History,
     batch: &Batch,
     txn: usize,
@@ -98,30 +112,39 @@ fn put_conflicts(
     requires within { txn < length batch.now.txns }
     ensures text { OnOk result ((t : Txn) → slice_get batch.now.txns txn ≡ Some t
         → out.new.items ≡ out.old.items
-        ++ conflict_lines history.now.kept batch.now txn t places.now) }
+        ++ conflict_lines form history.now.kept batch.now txn t places.now) }
 {
     let transaction = batch.txns.txn(txn);
     if places.is_empty() {
-        put_all(out, history, batch.version, txn, &transaction.reads)
+        put_all(out, form, history, batch.version, txn, &transaction.reads)
     } else {
-        put_reported(out, history, batch.version, txn, &transaction.reads, places)
+        put_reported(
+            out,
+            form,
+            history,
+            batch.version,
+            txn,
+            &transaction.reads,
+            places,
+        )
     }
 }
 
 // Appends the lines of all read ranges.
 fn put_all(
     out: &mut Vec<u8>,
+    form: ExplanationForm,
     history: &History,
     version: i64,
     txn: usize,
     reads: &RangesRef<'_>,
 ) -> Result<(), AllocError>
     ensures text { OnOk result (out.new.items ≡ out.old.items ++ flat_map (λ read.
-        read_line version txn read (slice_get reads.now read)
+        read_line form version txn read (slice_get reads.now read)
         (explaining_newest history.now.kept txn read)) (indices_from 0 (length reads.now))) }
 {
     for read in 0..reads.len() {
-        put_read_line(out, history, version, txn, reads, read)?;
+        put_read_line(out, form, history, version, txn, reads, read)?;
     }
     Ok(())
 }
@@ -129,6 +152,7 @@ fn put_all(
 // Appends the lines of the read ranges at the places.
 fn put_reported(
     out: &mut Vec<u8>,
+    form: ExplanationForm,
     history: &History,
     version: i64,
     txn: usize,
@@ -136,11 +160,11 @@ fn put_reported(
     places: &[u16],
 ) -> Result<(), AllocError>
     ensures text { OnOk result (out.new.items ≡ out.old.items ++ flat_map (λ read.
-        read_line version txn read (slice_get reads.now read)
+        read_line form version txn read (slice_get reads.now read)
         (explaining_newest history.now.kept txn read)) places.now) }
 {
     for place in places {
-        put_read_line(out, history, version, txn, reads, usize::from(*place))?;
+        put_read_line(out, form, history, version, txn, reads, usize::from(*place))?;
     }
     Ok(())
 }
@@ -148,6 +172,7 @@ fn put_reported(
 // Appends the line of the read range at the index, if there is one and a write explains it.
 fn put_read_line(
     out: &mut Vec<u8>,
+    form: ExplanationForm,
     history: &History,
     version: i64,
     txn: usize,
@@ -155,7 +180,7 @@ fn put_read_line(
     read: usize,
 ) -> Result<(), AllocError>
     ensures text { OnOk result (out.new.items ≡ out.old.items
-        ++ read_line version txn read (slice_get reads.now read)
+        ++ read_line form version txn read (slice_get reads.now read)
         (explaining_newest history.now.kept txn read)) }
 {
     if read >= reads.len() {
@@ -164,7 +189,7 @@ fn put_read_line(
     match history.explain(txn, read) {
         Some(explanation) => {
             let range = reads.get(read);
-            put_conflict_line(out, version, txn, read, &range, &explanation)
+            put_conflict(out, form, version, txn, read, &range, &explanation)
         }
         None => Ok(()),
     }

@@ -1,9 +1,10 @@
 //! The observer that explains rejections.
 
 ghost use Rattle.std.specs.Prelude.{◌≡◌, ◌≤ℤ◌, [], pos};
-ghost use Rattle.replay_explanations.specs.Explainer.{HasExplained, text_of};
+ghost use Rattle.replay_explanations.specs.Explainer.{HasExplained, Setting, setting_of, text_of};
 
 use crate::batch_lines::lines_of;
+use crate::form::ExplanationForm;
 use crate::texts::TextStore;
 use explanations::{History, ProcessedBatch};
 use keyspace::{Batch, Reply};
@@ -18,6 +19,7 @@ use std::marker::Model;
 #[derive(Debug, Drop)]
 pub struct Explainer {
     alloc: Global,
+    form: ExplanationForm,
     history: History,
     texts: TextStore,
     // memory was refused, so it sees no more
@@ -34,6 +36,7 @@ impl Model for Explainer {
     ghost coded = { Prim.hlevel (codes, texts_type.the_row.coded) };
 
     ghost view = { λ e. record {
+      form = e.form;
       history = e.history;
       texts = e.texts;
       has_failed = e.has_failed;
@@ -43,13 +46,15 @@ impl Model for Explainer {
 impl Explainer {
     /// Creates an explainer that has seen nothing, without taking memory. `window` is how far back a
     /// transaction may read, in versions.
-    pub fn new(alloc: Global, window: i64) -> Self
+    pub fn new(alloc: Global, window: i64, form: ExplanationForm) -> Self
         requires least_window { pos 1 ≤ℤ window }
         ensures none { HasExplained result [] }
         ensures window { result.history.window ≡ window }
+        ensures form { result.form ≡ form }
     {
         Explainer {
             alloc,
+            form,
             history: History::new(alloc, window),
             texts: TextStore::new(alloc),
             has_failed: false,
@@ -63,8 +68,16 @@ impl Explainer {
         self.history.window()
     }
 
+    /// Returns the form of the explanations, as [`new`](Self::new) was given it.
+    pub fn form(&self) -> ExplanationForm
+        ensures form { result ≡ self.now.form }
+    {
+        self.form
+    }
+
     /// Returns the lines of the batch that this proxy sent with this version, each with its line
-    /// feed. They are empty if no transaction was rejected, or if no such batch was seen.
+    /// feed, or the member of a JSON object. It is empty if no transaction was rejected, or if no
+    /// such batch was seen.
     pub fn explanation(&self, proxy: usize, version: i64) -> &[u8]
         ensures text { result.now ≡ text_of self.now.texts proxy version }
     {
@@ -75,7 +88,9 @@ impl Explainer {
 impl Observer for Explainer {
     ghost has_seen = { HasExplained };
 
-    ghost setting = { λ e. e.history.window };
+    ghost Setting = { Setting };
+
+    ghost setting = { setting_of };
 
     fn see(&mut self, proxy: usize, batch: Batch, reply: &Reply) -> Result<(), AllocError> {
         if self.has_failed {
@@ -85,7 +100,12 @@ impl Observer for Explainer {
         let version = batch.version;
         let processed = ProcessedBatch::new(self.alloc, proxy, batch, reply.copy(self.alloc)?)?;
         self.history.push(processed)?;
-        let text = lines_of(self.alloc, &self.history, reply.entries.as_slice())?;
+        let text = lines_of(
+            self.alloc,
+            self.form,
+            &self.history,
+            reply.entries.as_slice(),
+        )?;
         self.texts.put(proxy, version, text)?;
         self.has_failed = false;
         Ok(())

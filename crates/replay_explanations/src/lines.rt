@@ -3,7 +3,7 @@
 ghost use Rattle.std.specs.Prelude.{◌≡◌, ◌++◌, OnOk, Some, codes, decimal};
 ghost use Rattle.std.specs.Fmt.{signed_decimal};
 ghost use Rattle.replay_explanations.specs.Lines.{conflict_line, further_text, origin};
-ghost use Rattle.replay_explanations.specs.Lines.{range_form, write_form};
+ghost use Rattle.replay_explanations.specs.Lines.{range_form, too_old_line, write_form};
 
 use crate::forms::{put_number, put_range, put_version};
 use explanations::{Explanation, WrittenRef};
@@ -40,8 +40,7 @@ pub(crate) fn put_too_old_line(
     oldest: i64,
 ) -> Result<(), AllocError>
     ensures text { OnOk result (out.new.items ≡ out.old.items
-        ++ (codes "  txn " ++ decimal txn ++ codes " too old: snapshot " ++ signed_decimal snapshot
-        ++ codes ", oldest readable version " ++ signed_decimal oldest ++ codes "\n")) }
+        ++ too_old_line txn snapshot oldest) }
 {
     put_begin(out, txn)?;
     out.extend_from_slice(b" too old: snapshot ")?;

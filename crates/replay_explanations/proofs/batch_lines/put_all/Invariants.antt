@@ -9,5 +9,5 @@ abbrev pub invariant-loop-read : goal.invariant-loop-read
 invariant-loop-read l =
     l.out.items
     ≡ l.fn.out.items
-    ++ flat_map (λ i. read_line l.version l.txn i (slice_get l.reads i) (explaining_newest l.history.kept l.txn i))
+    ++ flat_map (λ i. read_line l.form l.version l.txn i (slice_get l.reads i) (explaining_newest l.history.kept l.txn i))
     (indices_from 0 l.read)

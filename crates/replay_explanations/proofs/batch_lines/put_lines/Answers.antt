@@ -15,5 +15,5 @@ loop-txn-preserved c =
     let inside : n < length b.txns = omega (arith, within, c.requires.entries) in
     let found = some_at b.txns n inside in
     let at_e : slice_get entries n ≡ Some e = slice_get_read entries (length entries) n e refl within c.index-entries-txn.is in
-    lines_next h.window h.kept b b.txns entries n found.0 e _ _ _ found.1 at_e c.loop-txn.invariant
+    lines_next c.args.form h.window h.kept b b.txns entries n found.0 e _ _ _ found.1 at_e c.loop-txn.invariant
     (c.in_ok-put_txn.ensures.text found.0 found.1)

@@ -7,4 +7,4 @@ abbrev pub invariant-loop-txn : goal.invariant-loop-txn
 invariant-loop-txn l =
     l.out.items
     ≡ l.fn.out.items
-    ++ lines_from l.history.window l.history.kept l.batch 0 (take l.txn l.batch.txns) (take l.txn l.entries)
+    ++ lines_from l.form l.history.window l.history.kept l.batch 0 (take l.txn l.batch.txns) (take l.txn l.entries)

@@ -9,5 +9,5 @@ abbrev pub invariant-loop-place : goal.invariant-loop-place
 invariant-loop-place l =
     l.out.items
     ≡ l.fn.out.items
-    ++ flat_map (λ i. read_line l.version l.txn i (slice_get l.reads i) (explaining_newest l.history.kept l.txn i))
+    ++ flat_map (λ i. read_line l.form l.version l.txn i (slice_get l.reads i) (explaining_newest l.history.kept l.txn i))
     (take l.place-index l.places)

@@ -6,41 +6,58 @@ use Rattle.keyspace.specs.Judged.{edge}
 use Rattle.keyspace.specs.Processed.{Processed}
 use Rattle.explanations.specs.Explains.{newest_of}
 use Rattle.explanations.specs.History.{HistoryState, Keeps}
-use Rattle.replay_explanations.specs.Lines.{lines_from}
+use Rattle.explanations.proofs.callers.Following.{same_processed}
+use Rattle.replay_explanations.specs.Lines.{lines_from, whole}
 use Rattle.replay_explanations.specs.Explainer.{ExplainerState}
-use Rattle.replay_explanations.proofs.Seen.{has_seen_no_more, has_seen_more, on_err, put_same, same_processed}
+use Rattle.replay_explanations.proofs.Seen.{has_seen_no_more, has_seen_more, on_err, put_same}
 use Rattle.replay_explanations.proofs.explainer.ExplainerObserver.see.Goals as goal
+
+pub returns-in_err-copy-clause-unseen : goal.returns-in_err-copy-clause-unseen
+returns-in_err-copy-clause-unseen c =
+    let is = c.self.view_is in
+    let after : ExplainerState = record { form = c.self.inside.form; history = c.self.inside.history; texts = c.self.inside.texts; has_failed = true } in
+    on_err c.from_residual.result _ (λ ps seen.
+    has_seen_no_more c.args.self.now after ps refl (ap (λ (e : ExplainerState). e.texts) is)
+    (ap (λ (e : ExplainerState). e.history.window) is) (ap (λ (e : ExplainerState). e.form) is) seen)
+
+pub returns-in_err-processed-clause-unseen : goal.returns-in_err-processed-clause-unseen
+returns-in_err-processed-clause-unseen c =
+    let is = c.self.view_is in
+    let after : ExplainerState = record { form = c.self.inside.form; history = c.self.inside.history; texts = c.self.inside.texts; has_failed = true } in
+    on_err c.from_residual-in_err-processed.result _ (λ ps seen.
+    has_seen_no_more c.args.self.now after ps refl (ap (λ (e : ExplainerState). e.texts) is)
+    (ap (λ (e : ExplainerState). e.history.window) is) (ap (λ (e : ExplainerState). e.form) is) seen)
 
 pub returns-in_err-push-clause-unseen : goal.returns-in_err-push-clause-unseen
 returns-in_err-push-clause-unseen c =
     let is = c.self.view_is in
-    let after : ExplainerState = record { history = c.push.new.self; texts = c.self.inside.texts; has_failed = true } in
+    let after : ExplainerState = record { form = c.self.inside.form; history = c.push.new.self; texts = c.self.inside.texts; has_failed = true } in
     on_err c.from_residual-in_err-push.result _ (λ ps seen.
     has_seen_no_more c.args.self.now after ps refl (ap (λ (e : ExplainerState). e.texts) is)
-    (c.in_err-push.ensures.window ∙ ap (λ (e : ExplainerState). e.history.window) is) seen)
+    (c.in_err-push.ensures.window ∙ ap (λ (e : ExplainerState). e.history.window) is) (ap (λ (e : ExplainerState). e.form) is) seen)
 
 pub returns-in_err-text-clause-unseen : goal.returns-in_err-text-clause-unseen
 returns-in_err-text-clause-unseen c =
     let is = c.self.view_is in
-    let after : ExplainerState = record { history = c.push.new.self; texts = c.self.inside.texts; has_failed = true } in
+    let after : ExplainerState = record { form = c.self.inside.form; history = c.push.new.self; texts = c.self.inside.texts; has_failed = true } in
     on_err c.from_residual-in_err-text.result _ (λ ps seen.
     has_seen_no_more c.args.self.now after ps refl (ap (λ (e : ExplainerState). e.texts) is)
-    (c.in_ok-push.ensures.window ∙ ap (λ (e : ExplainerState). e.history.window) is) seen)
+    (c.in_ok-push.ensures.window ∙ ap (λ (e : ExplainerState). e.history.window) is) (ap (λ (e : ExplainerState). e.form) is) seen)
 
 pub returns-in_err-put-clause-unseen : goal.returns-in_err-put-clause-unseen
 returns-in_err-put-clause-unseen c =
     let is = c.self.view_is in
-    let after : ExplainerState = record { history = c.push.new.self; texts = c.put.new.self; has_failed = true } in
+    let after : ExplainerState = record { form = c.self.inside.form; history = c.push.new.self; texts = c.put.new.self; has_failed = true } in
     on_err c.from_residual-in_err-put.result _ (λ ps seen.
     has_seen_no_more c.args.self.now after ps refl (c.in_err-put.ensures.unchanged ∙ ap (λ (e : ExplainerState). e.texts) is)
-    (c.in_ok-push.ensures.window ∙ ap (λ (e : ExplainerState). e.history.window) is) seen)
+    (c.in_ok-push.ensures.window ∙ ap (λ (e : ExplainerState). e.history.window) is) (ap (λ (e : ExplainerState). e.form) is) seen)
 
 pub returns-clause-seen : goal.returns-clause-seen
 returns-clause-seen c =
     let before = c.args.self.now in
     let is = c.self.view_is in
     let history_is = ap (λ (e : ExplainerState). e.history) is in
-    let after : ExplainerState = record { history = c.push.new.self; texts = c.put.new.self; has_failed = false } in
+    let after : ExplainerState = record { form = c.self.inside.form; history = c.push.new.self; texts = c.put.new.self; has_failed = false } in
     let p : Processed = record { proxy = c.args.proxy; batch = c.args.batch; reply = c.args.reply.now } in
     let pushed : c.in_ok-processed.processed ≡ p =
     same_processed c.in_ok-processed.processed p c.in_ok-processed.ensures.proxy c.in_ok-processed.ensures.batch
@@ -59,9 +76,9 @@ returns-clause-seen c =
     c.in_ok-push.ensures.newest ∙ ap (λ (x : Processed). Some x.batch) pushed in
     let text_is =
     c.in_ok-text.ensures.text p.batch newest
-    ∙ ap (λ (es : List Entry). lines_from c.push.new.self.window c.push.new.self.kept p.batch 0 p.batch.txns es) c.as_slice.ensures.items in
+    ∙ ap (λ (es : List Entry). whole c.self.inside.form (lines_from c.self.inside.form c.push.new.self.window c.push.new.self.kept p.batch 0 p.batch.txns es)) c.as_slice.ensures.items in
     let fits : SFits w64 c.args.batch.version = search rules in
     has_seen_more before after p text working
-    (c.in_ok-push.ensures.window ∙ ap (λ (e : ExplainerState). e.history.window) is) keeps edge_is newest text_is
+    (c.in_ok-push.ensures.window ∙ ap (λ (e : ExplainerState). e.history.window) is) (ap (λ (e : ExplainerState). e.form) is) keeps edge_is newest text_is
     (put_same c.self.inside.texts before.texts c.put.new.self p.proxy _ p.batch.version text (ap (λ (e : ExplainerState). e.texts) is)
     (to_z-of_z w64 c.args.batch.version fits) c.in_ok-put.ensures.kept)
