@@ -1,0 +1,8 @@
+-- In the order in which one reads them aloud.
+pub mod Conflicts
+pub mod Counts
+pub mod Top
+pub mod Laws
+pub mod Text
+pub mod Tally
+pub mod HotRanges
