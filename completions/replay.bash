@@ -18,6 +18,9 @@ _replay() {
                 ' --versions') wanted=OTHER ;;
                 ' --check') wanted=FILE ;;
                 ' --replies') wanted=FILE ;;
+                ' -o' | ' --output') wanted=FILE ;;
+                ' --summary-to') wanted=FILE ;;
+                ' --top') wanted=OTHER ;;
                 *) ;;
             esac
         else
@@ -29,7 +32,7 @@ _replay() {
         :
     elif [[ ! $ended && $current == -* ]]; then
         case $command in
-            '') wanted='--capacity --window --limit --frames --json --quiet --only --versions --explain --summary --check --stream --replies -h --help -V --version' ;;
+            '') wanted='--capacity --window --limit --frames --json --quiet --only --versions --explain --summary --check --stream --replies -o --output --summary-to --top -h --help -V --version' ;;
             *) wanted=OTHER ;;
         esac
     else

@@ -4,7 +4,7 @@ ghost use Rattle.std.specs.Prelude.{None, ⊤};
 
 use replay_program::{FileError, Files, STANDARD_INPUT};
 use std::fs::File;
-use std::io::{BufReader, Read};
+use std::io::{BufReader, BufWriter, Read};
 use std::rt::Stdin;
 use std::{fs, io};
 use wire::{StdSink, StdSource};
@@ -49,7 +49,7 @@ impl<R: fs::Files<File = File> + AllocGlobal> Disk<'_, R> {
 impl<R: fs::Files<File = File> + AllocGlobal> Files for Disk<'_, R> {
     type Reader = StdSource<BufReader<Input>>;
 
-    type Writer = StdSink<File>;
+    type Writer = StdSink<BufWriter<File>>;
 
     ghost contents = { λ _ _. None };
 
@@ -71,10 +71,12 @@ impl<R: fs::Files<File = File> + AllocGlobal> Files for Disk<'_, R> {
         Ok(StdSource::new(reader))
     }
 
-    fn create(&self, name: &str) -> Result<StdSink<File>, FileError> {
-        match File::create(self.rt, name) {
-            Ok(file) => Ok(StdSink::new(file)),
-            Err(_) => Err(FileError::CannotOpen),
-        }
+    // What is printed to it is gathered, as for standard output, and passed on by each flush.
+    fn create(&self, name: &str) -> Result<StdSink<BufWriter<File>>, FileError> {
+        let Ok(file) = File::create(self.rt, name) else {
+            return Err(FileError::CannotOpen);
+        };
+        let writer = BufWriter::new(self.rt.alloc(), file).map_err(|_| FileError::Memory)?;
+        Ok(StdSink::new(writer))
     }
 }

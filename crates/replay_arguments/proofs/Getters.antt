@@ -1,6 +1,6 @@
 -- What the typed getters of the matches read, and that the command is one of which they are known.
 use Rattle.std.specs.Prelude.{◌≡◌, ℕ, ℤ, Bool, codes, true, false, List, Option, None, Some, Result, Ok, MatchBool, is_some, length, option_map, IfSome}
-use Rattle.std.specs.Str.Parse.{digits_value, false_text, signed_digits_value, true_text, without_leading_plus}
+use Rattle.std.specs.Str.Parse.{ParsesBool, digits_value, false_text, signed_digits_value, true_text, without_leading_plus}
 use Rattle.std.proofs.Common.{refl, sym, ap, ◌∙◌, arith}
 use Rattle.clap.specs.Values.{bool_text}
 use Rattle.clap.specs.Words.{ReadsOne, Row, all_of, is_simple, one_of, one_text, rows_of}
@@ -9,7 +9,7 @@ use Rattle.replay_arguments.specs.Command.{replay_app}
 use Rattle.replay_arguments.specs.Words.{HoldsForm, HoldsNumbers, IsFormOf, is_frames, is_json}
 use Rattle.replay_output.specs.declared.options.form.Form.{Form}
 use Rattle.replay_output.specs.declared.options.Options.{Options}
-use Rattle.replay_arguments.proofs.Numbers.{Some-injective}
+use Rattle.replay_arguments.proofs.Numbers.{Some-injective, bool_err, has_read}
 use Rattle.clap.proofs.WalkLemmas.{one_text-rows}
 
 -- what was read is what the text of the row spells
@@ -97,3 +97,21 @@ IsFormOf-held rows form frames json check a b c holds =
 pub is_some_mapped : {A B : Type 0} (f : A → B) (o : Option A) → is_some (option_map f o) ≡ is_some o
 is_some_mapped f None = refl
 is_some_mapped f (Some a) = refl
+
+-- the flag that is found is the one that was read
+pub flag_read : (E : Type 0) (found : Found) (id : List ℕ) (read : Option Bool) → (one_text found id ≡ None → read ≡ None)
+    → ((text : List ℕ) → one_text found id ≡ Some text → ReadsOne (ParsesBool {E = E}) text read)
+    → IfSome read (λ on. one_of id (rows_of found) ≡ Some (bool_text on))
+flag_read E found id None none value = tt
+flag_read E found id (Some on) none value =
+    text_read {E = E} found id ParsesBool bool_text on none value (λ text parses. text_of_bool on text parses)
+
+-- if none was read, none is found
+pub no_flag : (E : Type 0) (found : Found) (id : List ℕ) (read : Option Bool)
+    → ((text : List ℕ) → one_text found id ≡ Some text → ReadsOne (ParsesBool {E = E}) text read)
+    → (on : Bool) → read ≡ None → ¬ (one_of id (rows_of found) ≡ Some (bool_text on))
+no_flag E found id read value on none is =
+    let reads = has_read {E = E} found id ParsesBool read value (λ text. (b : Bool) × (text ≡ bool_text b)) (λ b. Unit {0})
+    (λ text b inside parses. tt) (λ text e inside parses. bool_err text e inside parses) (bool_text on, is, (on, refl)) in
+    let bad : None ≡ Some reads.0 = sym none ∙ reads.1 in
+    cc

@@ -5,4 +5,4 @@ pub mod Refusals
 pub mod Summaries
 pub mod Openings
 pub mod Explaining
-pub mod Asked
+pub mod Lines

@@ -7,6 +7,7 @@ use Rattle.clap.specs.declared.builder.value_parser.ValueParser.TheVariants.{Sig
 use Rattle.lane.specs.declared.ends.TheConstants.{MAX_CAPACITY}
 use Rattle.conflict.specs.declared.conflict_set.TheConstants.{MAX_WINDOW}
 use Rattle.stepmap.specs.declared.step_map.TheConstants.{MAX_LIMIT}
+use Rattle.replay_arguments.specs.declared.arguments.details.TheConstants.{MAX_TOP}
 
 -- an option `--name N` with this default
 abbrev pub number_rule : List ℕ → List ℕ → ValueParser → Rule
@@ -68,6 +69,22 @@ replies_rule = record (new_rule (codes "replies")) {
   action = Some Append;
 }
 
+-- an option `--output FILE`, or `-o FILE`
+abbrev pub output_rule : Rule
+output_rule = record (new_rule (codes "output")) { short = Some 111; long = Some (codes "output"); value_names = 1 }
+
+-- an option `--summary-to FILE`
+abbrev pub summary_to_rule : Rule
+summary_to_rule = record (new_rule (codes "summary-to")) { long = Some (codes "summary-to"); value_names = 1 }
+
+-- an option `--top N`
+abbrev pub top_rule : Rule
+top_rule = record (new_rule (codes "top")) {
+  long = Some (codes "top");
+  value_names = 1;
+  parser = Some (Unsigned 1 MAX_TOP);
+}
+
 -- the files: one word or more, anywhere among the options
 abbrev pub file_rule : Rule
 file_rule = record (new_rule (codes "FILE")) { action = Some Append; required = true }
@@ -75,11 +92,26 @@ file_rule = record (new_rule (codes "FILE")) { action = Some Append; required = 
 abbrev pub plain_app : App
 plain_app = new_app (codes "replay")
 
+-- the options that say how batches are resolved
+abbrev pub with_resolving : App → App
+with_resolving app = with_rule (with_rule (with_rule app capacity_rule) window_rule) limit_rule
+
+-- the options that say what is printed
+abbrev pub with_printing : App → App
+with_printing app =
+    with_rule (with_rule (with_rule (with_rule (with_rule (with_rule (with_rule app frames_rule) json_rule) quiet_rule) only_rule)
+    versions_rule) explain_rule) summary_rule
+
+-- the options that name files beside those of batches, and the last ones
+abbrev pub with_files : App → App
+with_files app =
+    with_rule (with_rule (with_rule (with_rule (with_rule (with_rule app check_rule) stream_rule) replies_rule) output_rule)
+    summary_to_rule) top_rule
+
 -- `replay [--capacity N] [--window N] [--limit N] [--frames] [--json] [--quiet] [--only VERDICT] [--versions A..B] [--explain]
--- [--summary] [--check REPLIES].. [--stream] [--replies OUT].. FILE..`, with `--help` and `--version`
+-- [--summary] [--check REPLIES].. [--stream] [--replies OUT].. [--output FILE] [--summary-to FILE] [--top N]
+-- FILE..`, with `--help` and `--version`
 unfoldable pub replay_app : App
 replay_app =
-    with_rule (with_rule (with_rule (with_rule (with_rule (with_rule (with_rule (with_rule (with_rule (with_rule (with_rule (with_rule
-    (with_rule (with_rule (record plain_app { top = record plain_app.top { has_version = true } })
-    capacity_rule) window_rule) limit_rule) frames_rule) json_rule) quiet_rule) only_rule) versions_rule)
-    explain_rule) summary_rule) check_rule) stream_rule) replies_rule) file_rule
+    with_rule (with_files (with_printing (with_resolving (record plain_app { top = record plain_app.top { has_version = true } }))))
+    file_rule

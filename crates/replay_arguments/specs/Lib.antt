@@ -3,5 +3,7 @@ pub mod Opening
 pub mod Command
 pub mod Words
 pub mod Printing
+pub mod Details
 pub mod Names
 pub mod Asked
+pub mod Asks

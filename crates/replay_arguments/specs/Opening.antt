@@ -4,6 +4,10 @@ use Rattle.std.specs.List.{All}
 use Rattle.std.specs.Fmt.{decimal}
 use Rattle.replay_arguments.specs.declared.opening.OpeningError.{OpeningError}
 use Rattle.replay_arguments.specs.declared.opening.OpeningError.TheVariants as opening
+use Rattle.replay_arguments.specs.declared.opening.files.FileError.{FileError}
+use Rattle.replay_arguments.specs.declared.opening.files.FileError.TheVariants as file_error
+use Rattle.replay_arguments.specs.declared.opening.written.WrittenFile.{WrittenFile}
+use Rattle.replay_arguments.specs.declared.opening.written.WrittenFile.TheVariants.{Output, Summary}
 use Rattle.replay_output.specs.declared.start.StartError.TheVariants as start
 use Rattle.replay_output.specs.Start.{start_line}
 
@@ -31,3 +35,13 @@ replies_of proxy = codes "replay: replies " ++ decimal proxy
 abbrev pub creating_line : OpeningError → List ℕ
 creating_line (opening.CannotOpen proxy) = replies_of proxy ++ codes ": cannot open\n"
 creating_line opening.Memory = start_line start.Memory
+
+-- the line of standard error if this file can't be created
+abbrev pub uncreated_line : WrittenFile → List ℕ
+uncreated_line Output = codes "replay: create output\n"
+uncreated_line Summary = codes "replay: create summary\n"
+
+-- the line of standard error if this file was not created for this cause
+abbrev pub written_line : WrittenFile → FileError → List ℕ
+written_line file file_error.CannotOpen = uncreated_line file
+written_line file file_error.Memory = start_line start.Memory

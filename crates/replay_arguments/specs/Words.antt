@@ -21,6 +21,8 @@ use Rattle.replay_output.specs.declared.options.Options.{Options}
 use Rattle.replay_summary.specs.declared.text.SummaryForm.{SummaryForm}
 use Rattle.replay_summary.specs.declared.text.SummaryForm.TheVariants as summaries
 use Rattle.replay_arguments.specs.Command.{replay_app}
+use Rattle.replay_arguments.specs.declared.arguments.details.TheConstants.{MAX_TOP}
+use Rattle.replay_arguments.specs.declared.arguments.summary_file.SummaryFile.{SummaryFile}
 use Rattle.replay_arguments.specs.declared.arguments.refusal.Refusal.{Refusal}
 use Rattle.replay_arguments.specs.declared.arguments.refusal.Refusal.TheVariants.{Memory, Refused, Shown}
 
@@ -245,20 +247,60 @@ HasSummary rows = (asked : Bool) × (one_of (codes "summary") rows ≡ Some (boo
 abbrev pub HoldsExplain : List Row → Bool → Type 0
 HoldsExplain rows explains = one_of (codes "explain") rows ≡ Some (bool_text explains)
 
--- the answers are found to be printed by lines of words, once all was resolved
+-- the answers are found to be printed by lines of words or of JSON, once all was resolved
 pub record IsPlain (rows : List Row) : Type 0 where
   pub frames : one_of (codes "frames") rows ≡ Some (bool_text false)
-  pub json : one_of (codes "json") rows ≡ Some (bool_text false)
   pub check : is_some (all_of (codes "check") rows) ≡ false
   pub stream : HoldsStream rows false
   pub summary : one_of (codes "summary") rows ≡ Some (bool_text false)
 
--- rejections are found to be explained or not, and if they are, by lines among lines of words
+-- rejections are found to be explained or not, and if they are, among lines of words or of JSON
 abbrev pub HasExplain : List Row → Type 0
 HasExplain rows = (explains : Bool) × HoldsExplain rows explains × (explains ≡ true → IsPlain rows)
 
+-- The file for the summary that is found. The form of the summary is that of the lines.
+abbrev pub HoldsSummaryFile : List Row → Form → Option SummaryFile → Type 0
+HoldsSummaryFile rows form None = first_of (codes "summary-to") rows ≡ None
+HoldsSummaryFile rows form (Some file) =
+    (first_of (codes "summary-to") rows ≡ Some file.name.now) × (summary_form form ≡ Some file.form)
+
+-- answers alone are found to be printed, as words or JSON, once all was resolved
+pub record IsBeside (rows : List Row) : Type 0 where
+  pub frames : one_of (codes "frames") rows ≡ Some (bool_text false)
+  pub check : is_some (all_of (codes "check") rows) ≡ false
+  pub stream : HoldsStream rows false
+  pub summary : one_of (codes "summary") rows ≡ Some (bool_text false)
+  pub explain : HoldsExplain rows false
+
+-- a file for the summary is found beside such answers alone
+abbrev pub HasSummaryFile : List Row → Type 0
+HasSummaryFile rows = is_some (first_of (codes "summary-to") rows) ≡ true → IsBeside rows
+
+-- the text of a number from 1 to `MAX_TOP`
+abbrev pub IsTopOf : List ℕ → ℕ → Type 0
+IsTopOf text top = IsUnsignedIn 1 MAX_TOP text × (top ≡ digits_value 10 (without_leading_plus text))
+
+-- the number that is found, if one is given
+abbrev pub IsTop : Option (List ℕ) → Option ℕ → Type 0
+IsTop None None = ⊤
+IsTop (Some text) (Some top) = IsTopOf text top
+IsTop _ _ = ⊥
+
+-- how many ranges are found to be listed
+abbrev pub HoldsTop : List Row → Option ℕ → Type 0
+HoldsTop rows top = IsTop (first_of (codes "top") rows) top
+
+-- a summary is found to be printed instead of answers
+abbrev pub IsSummarized : List Row → Type 0
+IsSummarized rows = one_of (codes "summary") rows ≡ Some (bool_text true)
+
+-- how many ranges are to be listed is found or not, and if it is, a summary is found to be printed
+abbrev pub HasTop : List Row → Type 0
+HasTop rows = ((top : Option ℕ) × HoldsTop rows top) × (is_some (first_of (codes "top") rows) ≡ true → IsSummarized rows)
+
 -- What the options that are found ask to print is of no use: two forms, a filter that is none or beside a comparison, answers that are
--- to be compared as they come, a summary beside another option that says what to print, or explanations without lines of words.
+-- to be compared as they come, a summary beside another option that says what to print, or explanations without lines of words or of
+-- JSON.
 pub data PrintsNothing (rows : List Row) : Type 0 where
   no_form : ¬ (HasForm rows) → PrintsNothing rows
   no_filter : ¬ (HasFilter rows) → PrintsNothing rows
@@ -267,16 +309,22 @@ pub data PrintsNothing (rows : List Row) : Type 0 where
   no_explanations : ¬ (HasExplain rows) → PrintsNothing rows
 
 -- The names that are found are of no use: no files or too many, standard input twice, other than one file of replies a file, or other
--- than one file for records a file.
+-- than one file for records a file, or a file for the summary without answers alone, as words or JSON, at the end.
 pub data NamesNothing (rows : List Row) : Type 0 where
   no_files : ¬ (HasFiles rows) → NamesNothing rows
   no_input : ¬ (HasInputOnce rows) → NamesNothing rows
   no_replies : ¬ (HasRepliesEach rows) → NamesNothing rows
   no_records : ¬ (HasRecordsEach rows) → NamesNothing rows
+  no_summary_file : ¬ (HasSummaryFile rows) → NamesNothing rows
 
--- the arguments that are found are of no use: what to print, the names, or a number out of its range
+-- The details that are found are of no use: ranges without a summary that is printed.
+pub data DetailsNothing (rows : List Row) : Type 0 where
+  no_top : ¬ (HasTop rows) → DetailsNothing rows
+
+-- the arguments that are found are of no use: what to print, its details, the names, or a number out of its range
 pub data IsOfNoUse (rows : List Row) : Type 0 where
   no_printing : PrintsNothing rows → IsOfNoUse rows
+  no_details : DetailsNothing rows → IsOfNoUse rows
   no_numbers : ¬ (HasNumbers rows) → IsOfNoUse rows
   no_names : NamesNothing rows → IsOfNoUse rows
 

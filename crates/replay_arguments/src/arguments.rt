@@ -1,23 +1,21 @@
 //! The words of the command line.
 
-ghost use Rattle.std.specs.Prelude.{◌≡◌, ◌≢◌, ◌≤◌, ◌⊎◌, IfErr, IfOk, OnOk, Some, codes, is_some};
-ghost use Rattle.std.specs.Prelude.{map, string_bytes, true, vec_len};
-ghost use Rattle.clap.specs.Words.{all_of, found_of, rows_of};
+ghost use Rattle.std.specs.Prelude.{◌≡◌, IfErr, IfOk, OnOk, map, string_bytes};
+ghost use Rattle.clap.specs.Words.{found_of, rows_of};
 ghost use Rattle.replay_arguments.specs.Asked.{IsLineOf};
-ghost use Rattle.replay_arguments.specs.Words.{AsksForAll, AsksForText, HasInputOnce, HoldsExplain};
-ghost use Rattle.replay_arguments.specs.Words.{HoldsOptions, HoldsStream, HoldsSummary, IsAlone};
-ghost use Rattle.replay_arguments.specs.Words.{IsMistaken, IsPlain, IsRefusalBy, IsTaken, faults_of};
-ghost use Rattle.replay_arguments.specs.Words.{named, rows_of_words};
+ghost use Rattle.replay_arguments.specs.Asks.{Asks};
+ghost use Rattle.replay_arguments.specs.Words.{AsksForText, IsMistaken, IsRefusalBy, IsTaken};
+ghost use Rattle.replay_arguments.specs.Words.{faults_of, rows_of_words};
 
 use crate::arguments::asked::{Asked, asked_of};
+use crate::arguments::task::task_of;
 use clap::ArgMatches;
-use replay_output::{Form, Options};
-use replay_summary::SummaryForm;
-use resolver::MAX_PROXIES;
+use replay_output::Options;
 use std::alloc::{AllocError, Global};
 
 mod asked;
 mod command;
+mod details;
 mod explaining;
 mod filtering;
 mod input;
@@ -26,64 +24,33 @@ mod names;
 mod printing;
 mod refusal;
 mod summary;
+mod summary_file;
+mod task;
 
+pub use details::MAX_TOP;
 pub use refusal::Refusal;
+pub use summary_file::SummaryFile;
+pub use task::Task;
 
 /// What the command line asks for. `Options` keeps its numbers within their ranges.
 #[derive(Debug, Drop)]
 pub struct CommandLine<'a> {
-    /// The names of the files, from 1 to [`MAX_PROXIES`]. At most one name is
-    /// [`STANDARD_INPUT`](crate::STANDARD_INPUT), of these and those of replies.
+    /// The names of the files of batches, from 1 to [`MAX_PROXIES`](resolver::MAX_PROXIES). At most
+    /// one name of these and of replies is [`STANDARD_INPUT`](crate::STANDARD_INPUT).
     pub files: Vec<&'a str>,
-    /// The names of the files of replies, one per file if replies are kept to be checked, and
-    /// otherwise none.
-    pub replies: Vec<&'a str>,
-    /// Answers are printed as they come.
-    pub is_streamed: bool,
-    /// The names of the files for records of answers, one per file if they are requested, and
-    /// otherwise none.
-    pub records: Vec<&'a str>,
-    /// The form of the summary that is printed instead of answers, if one is requested.
-    pub summary: Option<SummaryForm>,
-    /// Rejections are explained.
-    pub explains: bool,
+    /// What is printed.
+    pub task: Task<'a>,
+    /// The name of the file for the output, if it isn't standard output.
+    pub output: Option<&'a str>,
+    /// The file for the summary that is written beside the answers, if one is requested.
+    pub summary_to: Option<SummaryFile<'a>>,
     pub options: Options,
 }
 
 /// Reads the words of the command line, of which the first is the program's name. An error says how
 /// the program ends instead of replaying, by [`Refusal::end`].
 pub fn read_words<'a>(alloc: Global, words: &'a [String]) -> Result<CommandLine<'a>, Refusal>
-    ensures options { IfOk result (λ line.
-        HoldsOptions (rows_of_words (map string_bytes words.entry.now)) line.options) }
-    ensures files { IfOk result (λ line.
-        all_of (codes "FILE") (rows_of_words (map string_bytes words.entry.now))
-        ≡ Some (map (λ name. name.now) line.files.items)) }
-    ensures least { IfOk result (λ line. 1 ≤ vec_len line.files) }
-    ensures most { IfOk result (λ line. vec_len line.files ≤ MAX_PROXIES) }
-    ensures replies { IfOk result (λ line. line.options.style.form ≡ Form.Kept
-        → all_of (codes "check") (rows_of_words (map string_bytes words.entry.now))
-        ≡ Some (map (λ name. name.now) line.replies.items)) }
-    ensures as_many { IfOk result (λ line. line.options.style.form ≡ Form.Kept
-        → vec_len line.replies ≡ vec_len line.files) }
-    ensures all { IfOk result (λ line. line.options.style.form ≡ Form.Kept
-        → AsksForAll (rows_of_words (map string_bytes words.entry.now))) }
-    ensures input { OnOk result (HasInputOnce (rows_of_words (map string_bytes words.entry.now))) }
-    ensures streamed { IfOk result (λ line.
-        HoldsStream (rows_of_words (map string_bytes words.entry.now)) line.is_streamed) }
-    ensures plain { IfOk result (λ line. line.is_streamed ≡ true → line.options.style.form ≢ Form.Kept) }
-    ensures records { IfOk result (λ line. map (λ name. name.now) line.records.items
-        ≡ named (all_of (codes "replies") (rows_of_words (map string_bytes words.entry.now)))) }
-    ensures records_each { IfOk result (λ line. (vec_len line.records ≡ 0)
-        ⊎ ((line.is_streamed ≡ true) × (vec_len line.records ≡ vec_len line.files))) }
-    ensures summary { IfOk result (λ line. HoldsSummary
-        (rows_of_words (map string_bytes words.entry.now)) line.options.style.form line.summary) }
-    ensures alone { IfOk result (λ line. is_some line.summary ≡ true
-        → IsAlone (rows_of_words (map string_bytes words.entry.now))) }
-    ensures explains { IfOk result (λ line.
-        HoldsExplain (rows_of_words (map string_bytes words.entry.now)) line.explains) }
-    ensures explained_plain { IfOk result (λ line. line.explains ≡ true
-        → IsPlain (rows_of_words (map string_bytes words.entry.now))) }
-    ensures taken { OnOk result (IsTaken (map string_bytes words.entry.now)) }
+    ensures asks { IfOk result (Asks (map string_bytes words.entry.now)) }
     ensures shown { (text : _) → result ≡ Err (Refusal.Shown text)
         → AsksForText (map string_bytes words.entry.now) }
     ensures refused { (text : _) → result ≡ Err (Refusal.Refused text)
@@ -102,11 +69,9 @@ impl<'a> CommandLine<'a> {
     {
         Ok(CommandLine {
             files: Vec::from_slice(alloc, asked.names.files)?,
-            replies: Vec::from_slice(alloc, asked.names.replies)?,
-            is_streamed: asked.printing.is_streamed,
-            records: Vec::from_slice(alloc, asked.names.records)?,
-            summary: asked.printing.summary,
-            explains: asked.printing.explains,
+            task: task_of(alloc, asked)?,
+            output: asked.names.output,
+            summary_to: asked.names.summary,
             options: asked.options,
         })
     }

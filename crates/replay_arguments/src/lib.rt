@@ -1,16 +1,18 @@
 //! The command line of the program `replay`, and the files that it names.
 //!
-//! [`read_words`] reads the arguments. It returns a [`CommandLine`], or a [`Refusal`] that says how
-//! the program ends. [`open_files`] opens the files by their names, through any [`Files`].
+//! [`read_words`] reads the arguments. It returns a [`CommandLine`], which has one [`Task`], or a
+//! [`Refusal`] that says how the program ends. [`open_files`] opens the files by their names, through
+//! any [`Files`].
 //!
-//! The definitions are in `specs/Words.antt` and `specs/Opening.antt`.
+//! What a command line asks for is defined in `specs/Asks.antt`, and why arguments are of no use in
+//! `specs/Words.antt`. `specs/Opening.antt` defines what is opened.
 #![tactic(auto)]
 
 mod arguments;
 mod opening;
 
-pub use arguments::{CommandLine, Refusal, read_words};
+pub use arguments::{CommandLine, MAX_TOP, Refusal, SummaryFile, Task, read_words};
 pub use opening::{
-    FileError, Files, OpeningError, STANDARD_INPUT, create_files, fail_to_create, fail_to_open,
-    open_files,
+    FileError, Files, OpeningError, STANDARD_INPUT, WrittenFile, create_files, fail_to_create,
+    fail_to_create_file, fail_to_open, open_files,
 };

@@ -3,17 +3,20 @@
 ghost use Rattle.std.specs.Prelude.{◌≡◌, ◌↔◌, ◌<◌, ◌≤◌, ◌⊎◌, ℕ, [], map, length, vec_capacity};
 ghost use Rattle.std.specs.Prelude.{IfOk, IsErr, OnErr, OnOk};
 ghost use Rattle.std.specs.Io.KnownBytes.{Appends};
+ghost use Rattle.std.specs.List.{All};
 ghost use Rattle.replay_arguments.specs.Opening.{IsFirstRefused, contents_each, creating_line};
 ghost use Rattle.replay_arguments.specs.Opening.{opening_line, replies_of};
 
 use itoa::Buffer;
 use replay_output::{StartError, Status, begin_line, print_start_error};
-use std::alloc::{AllocError, Global};
+use std::alloc::Global;
 use wire::{Failed, Sink, write_all};
 
 mod files;
+mod written;
 
 pub use files::{FileError, Files, STANDARD_INPUT};
+pub use written::{WrittenFile, fail_to_create_file};
 
 /// Why the files were not opened.
 #[derive(Clone, Copy, Debug, PartialEq, Eq)]
@@ -47,6 +50,8 @@ pub fn open_files<F: Files>(
     ensures contents { IfOk result (λ readers.
         map F.Reader.remaining readers.items
         ≡ contents_each (F.contents files.now) (map (λ name. name.now) names.now)) }
+    ensures opened { OnOk result (All (F.has_opened files.now)
+        (map (λ name. name.now) names.now)) }
     ensures refused { (proxy : ℕ) → result ≡ Err (OpeningError.CannotOpen proxy)
         → IsFirstRefused (F.has_opened files.now) (F.cannot_open files.now)
         (map (λ name. name.now) names.now) proxy }
@@ -68,6 +73,8 @@ fn open_each<F: Files>(
     ensures contents { IfOk result (λ readers.
         map F.Reader.remaining readers.items
         ≡ contents_each (F.contents files.now) (map (λ name. name.now) names.now)) }
+    ensures opened { OnOk result (All (F.has_opened files.now)
+        (map (λ name. name.now) names.now)) }
     ensures refused { (proxy : ℕ) → result ≡ Err (OpeningError.CannotOpen proxy)
         → IsFirstRefused (F.has_opened files.now) (F.cannot_open files.now)
         (map (λ name. name.now) names.now) proxy }

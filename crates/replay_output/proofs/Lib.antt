@@ -5,4 +5,5 @@ pub mod Numbered
 pub mod Clean
 pub mod InOrder
 pub mod Packing
+pub mod Members
 pub mod LineTexts

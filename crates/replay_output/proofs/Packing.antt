@@ -34,6 +34,13 @@ with_letters units bytes text now is ascii pushed =
     ∙ ap (λ (front : List ℕ). front ++ spelled_all bytes) is
     ∙ ap (λ (back : List ℕ). text ++ back) (letters bytes ascii ∙ sym (take-length bytes))
 
+-- the text before letters that are removed from its end
+pub without_letters : (units kept end text : List ℕ) → spelled_all units ≡ text → IsAscii end → units ≡ kept ++ end
+    → text ≡ spelled_all kept ++ end
+without_letters units kept end text is ascii split =
+    sym is ∙ ap spelled_all split ∙ flat_map-append spelled kept end
+    ∙ ap (λ (back : List ℕ). spelled_all kept ++ back) (letters end ascii)
+
 spelled_word : (unit : ℕ) → FIRST_WORD ≤ unit → spelled unit ≡ repeat (times_of unit) (word_text (word_of unit))
 spelled_word unit word = grind arith
 

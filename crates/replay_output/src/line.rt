@@ -5,7 +5,7 @@ ghost use Rattle.replay_output.specs.Lines.{conflict_word, entry_word, formed_li
 ghost use Rattle.replay_output.specs.Lines.{line, outcome, plain_line, words};
 ghost use Rattle.replay_output.specs.Line.{IsLineOf, answer_of, counted_of_line, kept_of};
 ghost use Rattle.replay_output.specs.Line.{version_of_line};
-ghost use Rattle.replay_output.specs.Notes.{with_note};
+ghost use Rattle.replay_output.specs.Notes.{with_member, with_note};
 
 use crate::options::{Form, Style};
 use crate::version::version_of;
@@ -16,7 +16,7 @@ use packed::Word;
 use replay_summary::{Counted, HasCounted};
 use std::alloc::Global;
 use std::io;
-use std::io::Write;
+use std::io::{Error, ErrorKind, Write};
 use std::snapshot::Snapshot;
 use wire::encode_reply;
 
@@ -71,6 +71,29 @@ impl Line {
         }
         self.text.reserve(note.len())?;
         self.text.write_all(note)
+    }
+
+    /// Puts a member at the end of a line of JSON, if the line is shown. `member` is ASCII without a
+    /// comma at its ends. After an error the text is unspecified. An empty member takes no memory.
+    ///
+    /// It is an error if the text doesn't end in `}` and a line feed, letter by letter. JSON does.
+    pub fn add_member(&mut self, member: &[u8]) -> io::Result<()>
+        ensures text { OnOk result (self.new.text ≡ with_member self.old.text member.now) }
+        ensures answer { self.new.answer ≡ self.old.answer }
+        ensures counted { self.new.counted ≡ self.old.counted }
+        ensures reply { self.new.reply ≡ self.old.reply }
+        ensures empty { member.now ≡ [] → IsOk result }
+    {
+        if member.is_empty() || self.text.is_empty() {
+            return Ok(());
+        }
+        self.text.reserve(member.len().saturating_add(1))?;
+        if !self.text.remove_end(b"}\n") {
+            return Err(Error::from(ErrorKind::InvalidInput));
+        }
+        self.text.write_all(b",")?;
+        self.text.write_all(member)?;
+        self.text.write_all(b"}\n")
     }
 }
 

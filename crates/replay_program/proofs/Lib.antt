@@ -6,4 +6,7 @@ pub mod Programs
 pub mod ReadingReplies
 pub mod KeptReplies
 pub mod Noting
+pub mod Ranges
+pub mod Beside
 pub mod Explaining
+pub mod Counting

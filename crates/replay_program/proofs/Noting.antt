@@ -8,13 +8,14 @@ use Rattle.std.specs.List.{All, enumerate_from}
 use Rattle.checking.specs.Check.{count_at}
 use Rattle.keyspace.specs.declared.answer.Answer.{Answer}
 use Rattle.keyspace.specs.declared.answer.Answer.TheVariants as answer
+use Rattle.replay_explanations.specs.declared.form.ExplanationForm.{ExplanationForm}
+use Rattle.replay_explanations.specs.declared.form.ExplanationForm.TheVariants as explanations
 use Rattle.replay_summary.specs.declared.counted.Counted.{Counted}
 use Rattle.replay_summary.specs.Counted.{counted_of}
 use Rattle.replay_output.specs.declared.line.Line.{Line}
 use Rattle.replay_output.specs.declared.options.style.Style.{Style}
 use Rattle.replay_output.specs.Line.{AreLines, AreLinesBy, IsLineBy, IsLineOf, answer_of, answers_of}
-use Rattle.replay_output.specs.Notes.{with_note}
-use Rattle.replay_program.specs.Explained.{Explained, explained_line, note_at, note_of, noted, noted_each}
+use Rattle.replay_program.specs.Explained.{Explained, explained_line, explanation_form, note_at, note_of, noted, noted_each, with_explanation}
 
 module _ {Y : Type 0} (change : ℕ → Y → Y) where
   -- the first i are changed, each by its number from n on
@@ -92,76 +93,80 @@ viewed_also {X} {Y} view change i whole xs x y inside within at changes so_far =
     ∙ changed_also change 0 i whole (map view xs) (view x) (view y) inside here
     (changes ∙ ap (λ (m : ℕ). change m (view x)) (sym first)) so_far
 
-no_note : (text : List ℕ) → with_note text [] ≡ text
-no_note [] = refl
-no_note (letter ∷ text) = append-nil (letter ∷ text)
+no_explanation : (form : ExplanationForm) (text : List ℕ) → with_explanation form text [] ≡ text
+no_explanation explanations.Words [] = refl
+no_explanation explanations.Words (letter ∷ text) = append-nil (letter ∷ text)
+no_explanation explanations.Json [] = refl
+no_explanation explanations.Json (letter ∷ text) = refl
 
-module _ (explained : Explained) where
+module _ (form : ExplanationForm) (explained : Explained) where
   -- a line whose answer has no explanation stays
   pub stays_noted : (proxy : ℕ) (l : Line) → note_at explained proxy l.counted.version l.counted.outcome ≡ []
-      → l ≡ noted explained proxy l
+      → l ≡ noted form explained proxy l
   stays_noted proxy l none =
       ap (λ (text : List ℕ). record l { text = text })
-      (sym (ap (with_note l.text) none ∙ no_note l.text))
+      (sym (ap (with_explanation form l.text) none ∙ no_explanation form l.text))
 
   note_counted : (proxy : ℕ) (a : Answer) → note_at explained proxy (counted_of a).version (counted_of a).outcome ≡ note_of explained proxy a
   note_counted proxy (answer.Reply reply) = refl
   note_counted proxy (answer.Never version) = refl
   note_counted proxy (answer.Held version) = refl
 
-  noted_line : (style : Style) (proxy : ℕ) (l : Line) → IsLineOf style proxy l
-      → IsLineBy (explained_line style explained) proxy (noted explained proxy l)
-  noted_line style proxy l is =
+  noted_line : (style : Style) → explanation_form style.form ≡ form → (proxy : ℕ) (l : Line) → IsLineOf style proxy l
+      → IsLineBy (explained_line style explained) proxy (noted form explained proxy l)
+  noted_line style same proxy l is =
       let note : note_at explained proxy l.counted.version l.counted.outcome ≡ note_of explained proxy (answer_of l) =
       ap (λ (c : Counted). note_at explained proxy c.version c.outcome) is.counted ∙ note_counted proxy (answer_of l) in
       record {
-        text = ap₂ with_note is.text note;
+        text =
+            ap (λ (f : ExplanationForm). with_explanation f l.text (note_at explained proxy l.counted.version l.counted.outcome)) (sym same)
+            ∙ ap₂ (with_explanation (explanation_form style.form)) is.text note;
         counted = is.counted;
       }
 
-  noted_all : (style : Style) (proxy : ℕ) (ls : List Line) → All (IsLineOf style proxy) ls
-      → All (IsLineBy (explained_line style explained) proxy) (map (noted explained proxy) ls)
-  noted_all style proxy [] all = λ k d inside. absurd (omega (arith, inside))
-  noted_all style proxy (l ∷ ls) all =
+  noted_all : (style : Style) → explanation_form style.form ≡ form → (proxy : ℕ) (ls : List Line) → All (IsLineOf style proxy) ls
+      → All (IsLineBy (explained_line style explained) proxy) (map (noted form explained proxy) ls)
+  noted_all style same proxy [] all = λ k d inside. absurd (omega (arith, inside))
+  noted_all style same proxy (l ∷ ls) all =
       let Of = IsLineOf style proxy in
-      All-cons (IsLineBy (explained_line style explained) proxy) (noted explained proxy l) (map (noted explained proxy) ls)
-      (noted_line style proxy l (All-head Of l ls all)) (noted_all style proxy ls (All-tail Of l ls all))
+      All-cons (IsLineBy (explained_line style explained) proxy) (noted form explained proxy l) (map (noted form explained proxy) ls)
+      (noted_line style same proxy l (All-head Of l ls all)) (noted_all style same proxy ls (All-tail Of l ls all))
 
   -- the lines of each proxy from n on, explained, are lines with explanations
-  noted_from : (style : Style) (n : ℕ) (ls : List (List Line))
+  noted_from : (style : Style) → explanation_form style.form ≡ form → (n : ℕ) (ls : List (List Line))
       → ((proxy : ℕ) (own : List Line) → slice_get ls proxy ≡ Some own → All (IsLineOf style (n + proxy)) own)
       → (proxy : ℕ) (own : List Line)
-      → slice_get (map (λ own. map (noted explained own.0) own.1) (enumerate_from n ls)) proxy ≡ Some own
+      → slice_get (map (λ own. map (noted form explained own.0) own.1) (enumerate_from n ls)) proxy ≡ Some own
       → All (IsLineBy (explained_line style explained) (n + proxy)) own
-  noted_from style n [] are proxy own at = absurd (none-some own at)
-  noted_from style n (first ∷ ls) are zero own at =
+  noted_from style same n [] are proxy own at = absurd (none-some own at)
+  noted_from style same n (first ∷ ls) are zero own at =
       subst (λ (m : ℕ). All (IsLineBy (explained_line style explained) m) own) (sym (add-zero n))
-      (subst (All (IsLineBy (explained_line style explained) n)) (same_Some (map (noted explained n) first) own at)
-      (noted_all style n first (subst (λ (m : ℕ). All (IsLineOf style m) first) (add-zero n) (are zero first refl))))
-  noted_from style n (first ∷ ls) are (suc proxy) own at =
+      (subst (All (IsLineBy (explained_line style explained) n)) (same_Some (map (noted form explained n) first) own at)
+      (noted_all style same n first (subst (λ (m : ℕ). All (IsLineOf style m) first) (add-zero n) (are zero first refl))))
+  noted_from style same n (first ∷ ls) are (suc proxy) own at =
       let more : (n + 1) + proxy ≡ n + suc proxy = omega arith in
       subst (λ (m : ℕ). All (IsLineBy (explained_line style explained) m) own) more
-      (noted_from style (n + 1) ls
+      (noted_from style same (n + 1) ls
       (λ p o is. subst (λ (m : ℕ). All (IsLineOf style m) o) (omega arith) (are (suc p) o is)) proxy own at)
 
-  pub noted_lines : (style : Style) (ls : List (List Line)) → AreLines style ls
-      → AreLinesBy (explained_line style explained) (noted_each explained ls)
-  noted_lines style ls are proxy own at =
+  pub noted_lines : (style : Style) → explanation_form style.form ≡ form → (ls : List (List Line)) → AreLines style ls
+      → AreLinesBy (explained_line style explained) (noted_each form explained ls)
+  noted_lines style same ls are proxy own at =
       let first : 0 + proxy ≡ proxy = omega arith in
       subst (λ (m : ℕ). All (IsLineBy (explained_line style explained) m) own) first
-      (noted_from style 0 ls (λ p o is. subst (λ (m : ℕ). All (IsLineOf style m) o) (omega arith) (are p o is)) proxy own at)
+      (noted_from style same 0 ls (λ p o is. subst (λ (m : ℕ). All (IsLineOf style m) o) (omega arith) (are p o is)) proxy own at)
 
-  same_answers : (proxy : ℕ) (ls : List Line) → answers_of (map (noted explained proxy) ls) ≡ answers_of ls
+  same_answers : (proxy : ℕ) (ls : List Line) → answers_of (map (noted form explained proxy) ls) ≡ answers_of ls
   same_answers proxy [] = refl
   same_answers proxy (l ∷ ls) = ap (λ (a : List Answer). answer_of l ∷ a) (same_answers proxy ls)
 
   same_from : (n : ℕ) (ls : List (List Line))
-      → map answers_of (map (λ own. map (noted explained own.0) own.1) (enumerate_from n ls)) ≡ map answers_of ls
+      → map answers_of (map (λ own. map (noted form explained own.0) own.1) (enumerate_from n ls)) ≡ map answers_of ls
   same_from n [] = refl
   same_from n (own ∷ ls) = ap₂ (λ (a : List Answer) (rest : List (List Answer)). a ∷ rest) (same_answers n own) (same_from (n + 1) ls)
 
   -- they have the same answers
-  pub noted_answers : (ls : List (List Line)) → map answers_of (noted_each explained ls) ≡ map answers_of ls
+  pub noted_answers : (ls : List (List Line)) → map answers_of (noted_each form explained ls) ≡ map answers_of ls
   noted_answers ls = same_from 0 ls
 
 -- lists with the same answers are of the same length

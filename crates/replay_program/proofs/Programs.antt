@@ -1,42 +1,49 @@
 -- How the program ends, from what each of its parts says.
-use Rattle.std.specs.Prelude.{◌≡◌, ◌≢◌, ℕ, Bool, true, false, List, Option, None, Some, string_bytes}
+use Rattle.std.specs.Prelude.{◌≡◌, ◌≢◌, ℕ, List, Option, None, Some, IsSomeAnd, string_bytes}
+use Rattle.std.specs.Borrow.{Bor}
+use Rattle.std.specs.List.{All}
 use Rattle.std.specs.Io.KnownBytes.{Keeps}
 use Rattle.std.proofs.Common.{refl, sym, ◌∙◌, subst, inl, inr}
-use Rattle.replay_arguments.specs.declared.opening.OpeningError.{OpeningError}
-use Rattle.replay_arguments.specs.declared.opening.OpeningError.TheVariants as opening
-use Rattle.replay_output.specs.declared.options.form.Form.{Form}
-use Rattle.replay_output.specs.declared.options.form.Form.TheVariants.{Words, Frames, Json, Kept}
-use Rattle.replay_output.specs.declared.options.Options.{Options}
+use Rattle.replay_arguments.specs.declared.arguments.CommandLine.{CommandLine}
 use Rattle.replay_arguments.specs.declared.arguments.refusal.Refusal.{Refusal}
 use Rattle.replay_arguments.specs.declared.arguments.refusal.Refusal.TheVariants as refusal
+use Rattle.replay_arguments.specs.declared.arguments.summary_file.SummaryFile.{SummaryFile}
+use Rattle.replay_arguments.specs.declared.arguments.task.Task.{Task}
+use Rattle.replay_arguments.specs.declared.arguments.task.Task.TheVariants as task
+use Rattle.replay_arguments.specs.declared.opening.OpeningError.{OpeningError}
+use Rattle.replay_arguments.specs.declared.opening.OpeningError.TheVariants as opening
+use Rattle.replay_arguments.specs.declared.opening.files.FileError.{FileError}
+use Rattle.replay_arguments.specs.declared.opening.files.FileError.TheVariants as file_error
+use Rattle.replay_arguments.specs.declared.opening.written.WrittenFile.TheVariants.{Output, Summary}
+use Rattle.replay_arguments.specs.Asks.{Asks}
+use Rattle.replay_arguments.specs.Opening.{IsFirstRefused, opening_line, written_line}
+use Rattle.replay_arguments.specs.Words.{AsksForText, IsMistaken}
+use Rattle.replay_output.specs.declared.options.Options.{Options}
 use Rattle.replay_output.specs.declared.start.StartError.TheVariants as start
 use Rattle.replay_output.specs.declared.status.Status.{Status}
 use Rattle.replay_output.specs.declared.status.Status.TheVariants.{Done, Failed, Usage, Differs}
-use Rattle.replay_arguments.specs.Opening.{IsFirstRefused, contents_each, creating_line, opening_line}
+use Rattle.replay_output.specs.Start.{start_line}
+use Rattle.replay_program.specs.declared.report.RunReport.{RunReport}
 use Rattle.replay_program.specs.Program.{
-  AsksToCheck,
-  AsksToExplain,
-  AsksToReplay,
-  AsksToStream,
-  AsksToSummarize,
-  ChecksFiles,
-  FailsOnExplaining,
-  FailsOnFiles,
-  FailsOnStream,
-  FailsOnSummary,
-  FailsToCheck,
+  AreNotPrinted,
+  ArePrinted,
+  DidNotCreateFile,
+  FailsToStreamFiles,
+  GoesTo,
   HasDifferences,
   IsDone,
   IsFailed,
+  IsGiven,
+  OfOutput,
+  IsTaskDone,
+  LineFails,
+  NamedFiles,
   StreamsFiles,
+  TaskFails,
   Told,
+  texts,
 }
-use Rattle.replay_program.specs.Explained.{IsReplayedWithExplanations}
-use Rattle.replay_program.specs.Replayed.{HasFailed, IsReplayed, IsSummarized, Took, Written}
-use Rattle.replay_output.specs.Quieted.{quieted}
-use Rattle.replay_output.specs.Start.{start_line}
-use Rattle.replay_summary.specs.declared.text.SummaryForm.{SummaryForm}
-use Rattle.replay_arguments.specs.Words.{AsksForText, IsMistaken, is_kept}
+use Rattle.replay_program.specs.Replayed.{HasFailed, Took, Written, written}
 use Rattle.replay_stream.specs.declared.recorder.Recorder.{Recorder}
 use Rattle.replay_stream.specs.Sinks.{SinkState}
 
@@ -47,245 +54,188 @@ keeps_itself (Some xs) = refl
 pub keeps_same : (a b : Option (List ℕ)) → b ≡ a → Keeps a b
 keeps_same a b same = subst (Keeps a) (sym same) (keeps_itself a)
 
-pub not_kept : (form : Form) → (form ≡ Kept → ⊥) → is_kept form ≡ false
-not_kept Words other = refl
-not_kept Frames other = refl
-not_kept Json other = refl
-not_kept Kept other = absurd (other refl)
+pub asked_by : (words : List (List ℕ)) (line : CommandLine) → Asks words line → (asked : List (List ℕ)) × Asks asked line
+asked_by words line asks = (words, asks)
 
-pub not_streamed : (is_streamed : Bool) → (is_streamed ≡ true → ⊥) → is_streamed ≡ false
-not_streamed false other = refl
-not_streamed true other = absurd (other refl)
+-- it ends in no other way
+pub is_done : (status : Status) → status ≢ Failed → status ≢ Usage → status ≢ Differs → status ≡ Done
+is_done Done failed usage differs = refl
+is_done Failed failed usage differs = absurd (failed refl)
+is_done Usage failed usage differs = absurd (usage refl)
+is_done Differs failed usage differs = absurd (differs refl)
 
-module _ (has_opened cannot_open : List ℕ → Type 0) (contents : List ℕ → Option (List ℕ)) (out error : Written) where
-  pub fails_on_files : (options : Options) (names : List (List ℕ)) (cause : OpeningError)
-      → ((proxy : ℕ) → cause ≡ opening.CannotOpen proxy → IsFirstRefused has_opened cannot_open names proxy)
-      → out.after ≡ out.before → Told error (opening_line cause)
-      → FailsOnFiles has_opened cannot_open contents options names out error
-  fails_on_files options names (opening.CannotOpen proxy) first nothing told =
-      inl (record { proxy = proxy; first = first proxy refl; nothing_printed = nothing; told = told })
-  fails_on_files options names opening.Memory first nothing told =
+module _ {W : Type 0} (state_of : W → SinkState) (files : NamedFiles) where
+  -- reports with the same recorders and the same writer of the summary say the same of a task
+  pub done_alike : (bytes : List (Option (List ℕ))) (line : CommandLine) (t : Task) (report other : RunReport W) (out : Written)
+      → other.recorders.items ≡ report.recorders.items → other.summary ≡ report.summary
+      → IsTaskDone state_of files bytes line t report out → IsTaskDone state_of files bytes line t other out
+  done_alike bytes line task.Print report other out recorders summary is =
+      subst (λ (s : Option W). ArePrinted state_of files bytes line.options line.summary_to s out) (sym summary) is
+  done_alike bytes line task.Explain report other out recorders summary is = is
+  done_alike bytes line (task.Summarize form top) report other out recorders summary is = is
+  done_alike bytes line (task.Stream records) report other out recorders summary is =
+      subst (λ (r : List (Option (Recorder W))).
+      StreamsFiles state_of files.begun line.options bytes (texts records.items) r out.before out.after) (sym recorders) is
+  done_alike bytes line (task.Check replies) report other out recorders summary is = is
+
+  pub fails_alike : (bytes : List (Option (List ℕ))) (line : CommandLine) (t : Task) (report other : RunReport W) (out error : Written)
+      → other.recorders.items ≡ report.recorders.items → other.summary ≡ report.summary
+      → TaskFails state_of files bytes line t report out error → TaskFails state_of files bytes line t other out error
+  fails_alike bytes line task.Print report other out error recorders summary is =
+      subst (λ (s : Option W). AreNotPrinted state_of files bytes line.options line.summary_to s out error) (sym summary) is
+  fails_alike bytes line task.Explain report other out error recorders summary is = is
+  fails_alike bytes line (task.Summarize form top) report other out error recorders summary is = is
+  fails_alike bytes line (task.Stream records) report other out error recorders summary is =
+      subst (λ (r : List (Option (Recorder W))).
+      FailsToStreamFiles state_of files line.options bytes (texts records.items) r out error) (sym recorders) is
+  fails_alike bytes line (task.Check replies) report other out error recorders summary is = is
+
+  -- what was written to a file, from its new writer and its last one
+  pub is_given : (begun : Option (List ℕ)) (opened last : W) (writer : Option W) → (state_of opened).given ≡ begun
+      → writer ≡ Some last
+      → IsGiven state_of begun writer
+      (written (state_of opened).given (state_of last).given (state_of opened).failures (state_of last).failures)
+  is_given begun opened last writer new is =
+      record { opened = opened; last = last; new = new; writer_is = is; to_is = refl }
+
+  -- the file for the summary was not created
+  pub no_summary_file : (bytes : List (Option (List ℕ))) (options : Options) (file : SummaryFile) (writer : Option W) (cause : FileError)
+      (out error : Written) → (cause ≡ file_error.CannotOpen → files.cannot_create file.name.now) → out.after ≡ out.before
+      → Told error (written_line Summary cause) → AreNotPrinted state_of files bytes options (Some file) writer out error
+  no_summary_file bytes options file writer file_error.CannotOpen out error refused nothing told =
+      inl (record { refused = refused refl; nothing_printed = nothing; told = told })
+  no_summary_file bytes options file writer file_error.Memory out error refused nothing told =
       inr (inl (record { cause = start.Memory; nothing_printed = nothing; told = told }))
 
-  pub fails_on_explaining : (options : Options) (names : List (List ℕ)) (cause : OpeningError)
-      → ((proxy : ℕ) → cause ≡ opening.CannotOpen proxy → IsFirstRefused has_opened cannot_open names proxy)
-      → out.after ≡ out.before → Told error (opening_line cause)
-      → FailsOnExplaining has_opened cannot_open contents options names out error
-  fails_on_explaining options names (opening.CannotOpen proxy) first nothing told =
-      inl (record { proxy = proxy; first = first proxy refl; nothing_printed = nothing; told = told })
-  fails_on_explaining options names opening.Memory first nothing told =
-      inr (inl (record { cause = start.Memory; nothing_printed = nothing; told = told }))
+  module _ (line : CommandLine) (report : RunReport W) (standard error : Written) where
+    -- the output went to standard output
+    pub to_standard : (Holds : Written → Type 0) → line.output ≡ None → report.output ≡ None → Holds standard
+        → OfOutput state_of files line report standard Holds
+    to_standard Holds none no_writer so = record {
+      out = standard;
+      goes_to = subst (λ (name : Option (Bor (List ℕ))). GoesTo state_of files.begun name report.output standard standard) (sym none)
+          (no_writer, refl);
+      holds = so;
+    }
 
-  pub fails_on_summary : (form : SummaryForm) (options : Options) (names : List (List ℕ)) (cause : OpeningError)
-      → ((proxy : ℕ) → cause ≡ opening.CannotOpen proxy → IsFirstRefused has_opened cannot_open names proxy)
-      → out.after ≡ out.before → Told error (opening_line cause)
-      → FailsOnSummary form has_opened cannot_open contents options names out error
-  fails_on_summary form options names (opening.CannotOpen proxy) first nothing told =
-      inl (record { proxy = proxy; first = first proxy refl; nothing_printed = nothing; told = told })
-  fails_on_summary form options names opening.Memory first nothing told =
-      inr (inl (record { cause = start.Memory; nothing_printed = nothing; told = told }))
+    -- the output went to the file of this name
+    pub to_file : (Holds : Written → Type 0) (name : Bor (List ℕ)) (opened last : W) → line.output ≡ Some name
+        → report.output ≡ Some last → (state_of opened).given ≡ files.begun name.now → standard.after ≡ standard.before
+        → standard.failures_after ≡ standard.failures_before
+        → Holds (written (state_of opened).given (state_of last).given (state_of opened).failures (state_of last).failures)
+        → OfOutput state_of files line report standard Holds
+    to_file Holds name opened last named writer new nothing no_failure so =
+        let out = written (state_of opened).given (state_of last).given (state_of opened).failures (state_of last).failures in
+        record {
+          out = out;
+          goes_to = subst (λ (o : Option (Bor (List ℕ))). GoesTo state_of files.begun o report.output standard out) (sym named)
+              (nothing, no_failure, is_given (files.begun name.now) opened last report.output new writer);
+          holds = so;
+        }
 
-  pub fails_to_open : (options : Options) (names replies : List (List ℕ)) (cause : OpeningError)
-      → ((proxy : ℕ) → cause ≡ opening.CannotOpen proxy → IsFirstRefused has_opened cannot_open names proxy)
-      → out.after ≡ out.before → Told error (opening_line cause)
-      → FailsToCheck has_opened cannot_open contents options names replies out error
-  fails_to_open options names replies (opening.CannotOpen proxy) first nothing told =
-      inl (record { proxy = proxy; first = first proxy refl; nothing_printed = nothing; told = told })
-  fails_to_open options names replies opening.Memory first nothing told =
-      inr (inr (inl (record { cause = start.Memory; nothing_printed = nothing; told = told })))
-
-  module _ {W : Type 0} (state_of : W → SinkState) (has_created cannot_create : List ℕ → Type 0)
-      (begun : List ℕ → Option (List ℕ)) (recorders : List (Option (Recorder W))) where
-    -- the files for the answers were not read, or those for records not opened
-    pub fails_to_stream : (options : Options) (names records : List (List ℕ)) (cause : OpeningError)
-        → ((proxy : ℕ) → cause ≡ opening.CannotOpen proxy → IsFirstRefused has_opened cannot_open names proxy)
-        → out.after ≡ out.before → Told error (opening_line cause)
-        → FailsOnStream state_of has_opened cannot_open contents has_created cannot_create begun options names records recorders out error
-    fails_to_stream options names records (opening.CannotOpen proxy) first nothing told =
+    -- a file of batches was not opened
+    pub not_opened : (cause : OpeningError)
+        → ((proxy : ℕ) → cause ≡ opening.CannotOpen proxy
+        → IsFirstRefused files.has_opened files.cannot_open (texts line.files.items) proxy)
+        → standard.after ≡ standard.before → Told error (opening_line cause)
+        → LineFails state_of files line report standard error
+    not_opened (opening.CannotOpen proxy) first nothing told =
         inl (record { proxy = proxy; first = first proxy refl; nothing_printed = nothing; told = told })
-    fails_to_stream options names records opening.Memory first nothing told =
+    not_opened opening.Memory first nothing told =
         inr (inr (inl (record { cause = start.Memory; nothing_printed = nothing; told = told })))
 
-    pub fails_to_create : (options : Options) (names records : List (List ℕ)) (cause : OpeningError)
-        → ((proxy : ℕ) → cause ≡ opening.CannotOpen proxy → IsFirstRefused has_created cannot_create records proxy)
-        → out.after ≡ out.before → Told error (creating_line cause)
-        → FailsOnStream state_of has_opened cannot_open contents has_created cannot_create begun options names records recorders out error
-    fails_to_create options names records (opening.CannotOpen proxy) first nothing told =
-        inr (inl (record { proxy = proxy; first = first proxy refl; nothing_printed = nothing; told = told }))
-    fails_to_create options names records opening.Memory first nothing told =
+    -- the file for the output was not created
+    pub not_created : (name : Bor (List ℕ)) (cause : FileError) → line.output ≡ Some name
+        → All files.has_opened (texts line.files.items)
+        → (cause ≡ file_error.CannotOpen → files.cannot_create name.now) → standard.after ≡ standard.before
+        → Told error (written_line Output cause) → LineFails state_of files line report standard error
+    not_created name file_error.CannotOpen named opened refused nothing told =
+        inr (inl (
+          opened,
+          subst (λ (o : Option (Bor (List ℕ))). IsSomeAnd o (λ name. DidNotCreateFile files.cannot_create name.now Output standard error))
+              (sym named) (record { refused = refused refl; nothing_printed = nothing; told = told }),
+        ))
+    not_created name file_error.Memory named opened refused nothing told =
         inr (inr (inl (record { cause = start.Memory; nothing_printed = nothing; told = told })))
 
-  module _ {W : Type 0} (state_of : W → SinkState) (has_created cannot_create : List ℕ → Type 0)
-      (begun : List ℕ → Option (List ℕ)) (recorders : List (Option (Recorder W))) (words : List (List ℕ)) (status : Status) where
-    pub record Ends : Type 0 where
-      pub done : status ≡ Done → IsDone state_of contents begun words recorders out
-      pub quiet : status ≡ Done → Keeps error.before error.after
-      pub failed :
-          status ≡ Failed
-          → IsFailed state_of has_opened cannot_open contents has_created cannot_create begun words recorders out error
-      pub mistaken : status ≡ Usage → IsMistaken words
-      pub nothing : status ≡ Usage → out.after ≡ out.before
-      pub usage : status ≡ Usage → (text : List ℕ) × Told error text
-      pub differs : status ≡ Differs → HasDifferences contents words out
-      pub quiet_too : status ≡ Differs → Keeps error.before error.after
+module _ {W : Type 0} (state_of : W → SinkState) (files : NamedFiles) (words : List (List ℕ)) (report : RunReport W)
+    (out error : Written) (status : Status) where
+  pub record Ends : Type 0 where
+    pub done : status ≡ Done → IsDone state_of files words report out
+    pub quiet : status ≡ Done → Keeps error.before error.after
+    pub failed : status ≡ Failed → IsFailed state_of files words report out error
+    pub mistaken : status ≡ Usage → IsMistaken words
+    pub nothing : status ≡ Usage → out.after ≡ out.before
+    pub usage : status ≡ Usage → (text : List ℕ) × Told error text
+    pub differs : status ≡ Differs → HasDifferences state_of files words report out
+    pub quiet_too : status ≡ Differs → Keeps error.before error.after
 
-    pub ends_shown : (text : List ℕ) → AsksForText words → (status ≡ Done → Took out text)
-        → (status ≢ Done → (status ≡ Failed) × HasFailed out) → error.after ≡ error.before → Ends
-    ends_shown text asks shown not_shown quiet = record {
-      done = λ is. inl (asks, (text, shown is));
-      quiet = λ is. keeps_same error.before error.after quiet;
-      failed = λ is.
-          let other : status ≢ Done = λ done. let bad : Failed ≡ Done = sym is ∙ done in cc in
-          inr (inl (asks, (not_shown other).1));
-      mistaken = λ is. absurd (never is);
-      nothing = λ is. absurd (never is);
-      usage = λ is. absurd (never is);
-      differs = λ is. absurd (never_differs is);
-      quiet_too = λ is. absurd (never_differs is);
-    }
-      where
-        never_differs : ¬ (status ≡ Differs)
-        never_differs is =
-            let other : status ≢ Done = λ done. let bad : Differs ≡ Done = sym is ∙ done in cc in
-            let bad : Differs ≡ Failed = sym is ∙ (not_shown other).0 in
-            cc
+  ends_shown : (text : List ℕ) → AsksForText words → (status ≡ Done → Took out text)
+      → (status ≢ Done → (status ≡ Failed) × HasFailed out) → error.after ≡ error.before → Ends
+  ends_shown text asks shown not_shown quiet = record {
+    done = λ is. inl (asks, (text, shown is));
+    quiet = λ is. keeps_same error.before error.after quiet;
+    failed = λ is.
+        let other : status ≢ Done = λ done. let bad : Failed ≡ Done = sym is ∙ done in cc in
+        inr (inl (asks, (not_shown other).1));
+    mistaken = λ is. absurd (never is);
+    nothing = λ is. absurd (never is);
+    usage = λ is. absurd (never is);
+    differs = λ is. absurd (never_differs is);
+    quiet_too = λ is. absurd (never_differs is);
+  }
+    where
+      never_differs : ¬ (status ≡ Differs)
+      never_differs is =
+          let other : status ≢ Done = λ done. let bad : Differs ≡ Done = sym is ∙ done in cc in
+          let bad : Differs ≡ Failed = sym is ∙ (not_shown other).0 in
+          cc
 
-        never : ¬ (status ≡ Usage)
-        never is =
-            let other : status ≢ Done = λ done. let bad : Usage ≡ Done = sym is ∙ done in cc in
-            let bad : Usage ≡ Failed = sym is ∙ (not_shown other).0 in
-            cc
+      never : ¬ (status ≡ Usage)
+      never is =
+          let other : status ≢ Done = λ done. let bad : Usage ≡ Done = sym is ∙ done in cc in
+          let bad : Usage ≡ Failed = sym is ∙ (not_shown other).0 in
+          cc
 
-    pub ends_refused : (text : List ℕ) → IsMistaken words → status ≡ Usage → out.after ≡ out.before
-        → Told error text → Ends
-    ends_refused text mistaken usage nothing told = record {
-      done = λ is. let bad : Usage ≡ Done = sym usage ∙ is in cc;
-      quiet = λ is. let bad : Usage ≡ Done = sym usage ∙ is in cc;
-      failed = λ is. let bad : Usage ≡ Failed = sym usage ∙ is in cc;
-      mistaken = λ is. mistaken;
-      nothing = λ is. nothing;
-      usage = λ is. (text, told);
-      differs = λ is. let bad : Usage ≡ Differs = sym usage ∙ is in cc;
-      quiet_too = λ is. let bad : Usage ≡ Differs = sym usage ∙ is in cc;
-    }
+  ends_refused : (text : List ℕ) → IsMistaken words → status ≡ Usage → out.after ≡ out.before
+      → Told error text → Ends
+  ends_refused text mistaken usage nothing told = record {
+    done = λ is. let bad : Usage ≡ Done = sym usage ∙ is in cc;
+    quiet = λ is. let bad : Usage ≡ Done = sym usage ∙ is in cc;
+    failed = λ is. let bad : Usage ≡ Failed = sym usage ∙ is in cc;
+    mistaken = λ is. mistaken;
+    nothing = λ is. nothing;
+    usage = λ is. (text, told);
+    differs = λ is. let bad : Usage ≡ Differs = sym usage ∙ is in cc;
+    quiet_too = λ is. let bad : Usage ≡ Differs = sym usage ∙ is in cc;
+  }
 
-    pub ends_without_memory : status ≡ Failed → out.after ≡ out.before → Told error (start_line start.Memory) → Ends
-    ends_without_memory failed nothing told = record {
-      done = λ is. let bad : Failed ≡ Done = sym failed ∙ is in cc;
-      quiet = λ is. let bad : Failed ≡ Done = sym failed ∙ is in cc;
-      failed = λ is. inl (nothing, told);
-      mistaken = λ is. let bad : Failed ≡ Usage = sym failed ∙ is in cc;
-      nothing = λ is. nothing;
-      usage = λ is. let bad : Failed ≡ Usage = sym failed ∙ is in cc;
-      differs = λ is. let bad : Failed ≡ Differs = sym failed ∙ is in cc;
-      quiet_too = λ is. let bad : Failed ≡ Differs = sym failed ∙ is in cc;
-    }
+  ends_without_memory : status ≡ Failed → out.after ≡ out.before → Told error (start_line start.Memory) → Ends
+  ends_without_memory failed nothing told = record {
+    done = λ is. let bad : Failed ≡ Done = sym failed ∙ is in cc;
+    quiet = λ is. let bad : Failed ≡ Done = sym failed ∙ is in cc;
+    failed = λ is. inl (nothing, told);
+    mistaken = λ is. let bad : Failed ≡ Usage = sym failed ∙ is in cc;
+    nothing = λ is. nothing;
+    usage = λ is. let bad : Failed ≡ Usage = sym failed ∙ is in cc;
+    differs = λ is. let bad : Failed ≡ Differs = sym failed ∙ is in cc;
+    quiet_too = λ is. let bad : Failed ≡ Differs = sym failed ∙ is in cc;
+  }
 
-    pub ends_replayed : (options : Options) (names : List (List ℕ)) → AsksToReplay words options names
-        → (status ≡ Done → IsReplayed options (contents_each contents names) out.before out.after)
-        → (status ≡ Done → Keeps error.before error.after)
-        → (status ≡ Failed → FailsOnFiles has_opened cannot_open contents options names out error)
-        → status ≢ Usage → status ≢ Differs → Ends
-    ends_replayed options names asked done quiet failed ends same = record {
-      done = λ is. inr (inl (record { options = options; names = names; asked = asked; replayed = done is }));
-      quiet = quiet;
-      failed = λ is.
-          inr (inr (inl (record { options = options; names = names; asked = asked; failed = failed is })));
-      mistaken = λ is. absurd (ends is);
-      nothing = λ is. absurd (ends is);
-      usage = λ is. absurd (ends is);
-      differs = λ is. absurd (same is);
-      quiet_too = λ is. absurd (same is);
-    }
-
-    pub ends_checked : (options : Options) (names replies : List (List ℕ)) → AsksToCheck words options names replies
-        → (status ≡ Done → ChecksFiles (λ count. count ≡ 0) contents options names replies out.before out.after)
-        → (status ≡ Differs → ChecksFiles (λ count. count ≢ 0) contents options names replies out.before out.after)
-        → (status ≢ Failed → Keeps error.before error.after)
-        → (status ≡ Failed → FailsToCheck has_opened cannot_open contents options names replies out error)
-        → status ≢ Usage → Ends
-    ends_checked options names replies asked done differs quiet failed ends = record {
-      done = λ is.
-          inr (inr (inl (record { options = options; names = names; replies = replies; asked = asked; checked = done is })));
-      quiet = λ is. quiet (λ other. let bad : Done ≡ Failed = sym is ∙ other in cc);
-      failed = λ is.
-          inr (inr (inr (inl (record { options = options; names = names; replies = replies; asked = asked; failed = failed is }))));
-      mistaken = λ is. absurd (ends is);
-      nothing = λ is. absurd (ends is);
-      usage = λ is. absurd (ends is);
-      differs = λ is. record { options = options; names = names; replies = replies; asked = asked; checked = differs is };
-      quiet_too = λ is. quiet (λ other. let bad : Differs ≡ Failed = sym is ∙ other in cc);
-    }
-
-    pub ends_streamed : (options : Options) (names records : List (List ℕ)) → AsksToStream words options names records
-        → (status ≡ Done → StreamsFiles state_of contents begun options names records recorders out.before out.after)
-        → (status ≡ Done → Keeps error.before error.after)
-        → (status ≡ Failed
-        → FailsOnStream state_of has_opened cannot_open contents has_created cannot_create begun options names records recorders out error)
-        → status ≢ Usage → status ≢ Differs → Ends
-    ends_streamed options names records asked done quiet failed ends same = record {
-      done = λ is.
-          inr (inr (inr (inl (record { options = options; names = names; records = records; asked = asked; streamed = done is }))));
-      quiet = quiet;
-      failed = λ is.
-          inr (inr (inr (inr (inl (record { options = options; names = names; records = records; asked = asked; failed = failed is })))));
-      mistaken = λ is. absurd (ends is);
-      nothing = λ is. absurd (ends is);
-      usage = λ is. absurd (ends is);
-      differs = λ is. absurd (same is);
-      quiet_too = λ is. absurd (same is);
-    }
-
-    pub ends_summarized : (form : SummaryForm) (options : Options) (names : List (List ℕ)) → AsksToSummarize words form options names
-        → (status ≡ Done → IsSummarized form (quieted options) (contents_each contents names) out.before out.after)
-        → (status ≡ Done → Keeps error.before error.after)
-        → (status ≡ Failed → FailsOnSummary form has_opened cannot_open contents options names out error)
-        → status ≢ Usage → status ≢ Differs → Ends
-    ends_summarized form options names asked done quiet failed ends same = record {
-      done = λ is.
-          inr (inr (inr (inr (inl (record { form = form; options = options; names = names; asked = asked; summarized = done is })))));
-      quiet = quiet;
-      failed = λ is.
-          inr (inr (inr (inr (inr (inl (record { form = form; options = options; names = names; asked = asked; failed = failed is }))))));
-      mistaken = λ is. absurd (ends is);
-      nothing = λ is. absurd (ends is);
-      usage = λ is. absurd (ends is);
-      differs = λ is. absurd (same is);
-      quiet_too = λ is. absurd (same is);
-    }
-
-    pub ends_explained : (options : Options) (names : List (List ℕ)) → AsksToExplain words options names
-        → (status ≡ Done → IsReplayedWithExplanations options (contents_each contents names) out.before out.after)
-        → (status ≡ Done → Keeps error.before error.after)
-        → (status ≡ Failed → FailsOnExplaining has_opened cannot_open contents options names out error)
-        → status ≢ Usage → status ≢ Differs → Ends
-    ends_explained options names asked done quiet failed ends same = record {
-      done = λ is.
-          inr (inr (inr (inr (inr (record { options = options; names = names; asked = asked; explained = done is })))));
-      quiet = quiet;
-      failed = λ is.
-          inr (inr (inr (inr (inr (inr (record { options = options; names = names; asked = asked; failed = failed is }))))));
-      mistaken = λ is. absurd (ends is);
-      nothing = λ is. absurd (ends is);
-      usage = λ is. absurd (ends is);
-      differs = λ is. absurd (same is);
-      quiet_too = λ is. absurd (same is);
-    }
-
-    -- from what was refused, by the clauses of its end
-    pub ends_by : (r : Refusal)
-        → ((text : _) → r ≡ refusal.Shown text → AsksForText words)
-        → ((text : _) → r ≡ refusal.Refused text → IsMistaken words)
-        → ((text : _) → r ≡ refusal.Shown text → status ≡ Done → Took out (string_bytes text))
-        → ((text : _) → r ≡ refusal.Shown text → status ≢ Done → (status ≡ Failed) × HasFailed out)
-        → ((text : _) → r ≡ refusal.Shown text → error.after ≡ error.before)
-        → ((text : _) → r ≡ refusal.Refused text → (status ≡ Usage) × (out.after ≡ out.before))
-        → ((text : _) → r ≡ refusal.Refused text → Told error (string_bytes text))
-        → (r ≡ refusal.Memory → (status ≡ Failed) × (out.after ≡ out.before))
-        → (r ≡ refusal.Memory → Told error (start_line start.Memory)) → Ends
-    ends_by (refusal.Shown text) asks mistaken shown not_shown quiet refused told memory memory_told =
-        ends_shown (string_bytes text) (asks text refl) (shown text refl) (not_shown text refl) (quiet text refl)
-    ends_by (refusal.Refused text) asks mistaken shown not_shown quiet refused told memory memory_told =
-        ends_refused (string_bytes text) (mistaken text refl) (refused text refl).0 (refused text refl).1 (told text refl)
-    ends_by refusal.Memory asks mistaken shown not_shown quiet refused told memory memory_told =
-        ends_without_memory (memory refl).0 (memory refl).1 (memory_told refl)
+  -- from what was refused, by the clauses of its end
+  pub ends_by : (r : Refusal)
+      → ((text : _) → r ≡ refusal.Shown text → AsksForText words)
+      → ((text : _) → r ≡ refusal.Refused text → IsMistaken words)
+      → ((text : _) → r ≡ refusal.Shown text → status ≡ Done → Took out (string_bytes text))
+      → ((text : _) → r ≡ refusal.Shown text → status ≢ Done → (status ≡ Failed) × HasFailed out)
+      → ((text : _) → r ≡ refusal.Shown text → error.after ≡ error.before)
+      → ((text : _) → r ≡ refusal.Refused text → (status ≡ Usage) × (out.after ≡ out.before))
+      → ((text : _) → r ≡ refusal.Refused text → Told error (string_bytes text))
+      → (r ≡ refusal.Memory → (status ≡ Failed) × (out.after ≡ out.before))
+      → (r ≡ refusal.Memory → Told error (start_line start.Memory)) → Ends
+  ends_by (refusal.Shown text) asks mistaken shown not_shown quiet refused told memory memory_told =
+      ends_shown (string_bytes text) (asks text refl) (shown text refl) (not_shown text refl) (quiet text refl)
+  ends_by (refusal.Refused text) asks mistaken shown not_shown quiet refused told memory memory_told =
+      ends_refused (string_bytes text) (mistaken text refl) (refused text refl).0 (refused text refl).1 (told text refl)
+  ends_by refusal.Memory asks mistaken shown not_shown quiet refused told memory memory_told =
+      ends_without_memory (memory refl).0 (memory refl).1 (memory_told refl)

@@ -23,7 +23,7 @@ use Rattle.replay_workers.specs.Worker.{TakesFrames}
 use Rattle.replay_workers.proofs.callers.Lists.{all_at, found}
 use Rattle.replay_program.proofs.Reporting.{from_one, each_said, all_said}
 
-loss_is_no_clean : (proxy : ℕ) (failures : List ProxyFailure) → proxy < length failures
+pub loss_is_no_clean : (proxy : ℕ) (failures : List ProxyFailure) → proxy < length failures
     → ¬ (All IsClean (with_loss proxy failures))
 loss_is_no_clean proxy [] inside clean = absurd (omega arith)
 loss_is_no_clean zero (failure ∷ failures) inside clean =

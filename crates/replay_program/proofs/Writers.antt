@@ -1,15 +1,18 @@
 -- The writers of records, and the files that they are of.
 use Rattle.std.specs.Prelude.{◌≡◌, ◌⊎◌, ℕ, zero, suc, ◌+◌, ◌≤◌, List, [], ◌∷◌, ◌++◌, length, map, MatchOption, Option, Some, None, Result, Ok, Err, option_map, slice_get}
-use Rattle.std.proofs.Common.{refl, sym, ap, subst, ◌∙◌, append_assoc, inl, inr, arith}
+use Rattle.std.proofs.Common.{refl, sym, ap, ◌∙◌, append_assoc, inl, inr, arith}
 use Rattle.std.proofs.lemmas.List.{length-map}
 use Rattle.std.proofs.lemmas.Option.{none-some, same_Some, slice_get-map}
-use Rattle.replay_arguments.specs.Opening.{contents_each}
+use Rattle.replay_arguments.specs.declared.opening.OpeningError.{OpeningError}
+use Rattle.replay_arguments.specs.declared.opening.OpeningError.TheVariants as opening
+use Rattle.replay_arguments.specs.Opening.{IsFirstRefused, contents_each, creating_line}
 use Rattle.replay_stream.specs.declared.recorder.Recorder.{Recorder}
 use Rattle.replay_stream.specs.Sinks.{SinkState}
 use Rattle.replay_output.specs.declared.options.Options.{Options}
-use Rattle.replay_program.specs.Program.{AreWriters, HaveWriters, StreamsAndFails, StreamsFiles}
+use Rattle.replay_output.specs.declared.start.StartError.TheVariants as start
+use Rattle.replay_program.specs.Program.{AreWriters, DidNotCreate, HaveWriters, StreamsAndFails, Told}
 use Rattle.replay_program.specs.Replayed.{DidNotStart, Written}
-use Rattle.replay_program.specs.Streamed.{FailsToStream, IsStreamDone, StreamedAndFailed}
+use Rattle.replay_program.specs.Streamed.{FailsToStream}
 
 -- so many places, of which the first have these items
 abbrev pub padded : {X : Type 0} → ℕ → List X → List (Option X)
@@ -82,26 +85,23 @@ have_writers {W} given_to begun names opened places are few =
           sym w.2 ∙ ap (option_map given_to) (padded_beyond places opened proxy w.0 (omega (arith, count, beyond)) w.1);
     }
 
-module _ {W : Type 0} (state_of : W → SinkState) (contents begun : List ℕ → Option (List ℕ)) (options : Options)
-    (names records : List (List ℕ)) (files : List (Option (List ℕ))) (writers : List (Option W))
-    (recorders : List (Option (Recorder W))) (are : files ≡ contents_each contents names)
-    (opened : AreWriters state_of begun names records writers) where
-  -- the files of these names, as their readers and writers were streamed
-  pub files_streamed : (before after : Option (List ℕ)) → IsStreamDone state_of options files writers recorders before after
-      → StreamsFiles state_of contents begun options names records recorders before after
-  files_streamed before after done = record {
-    writers = writers;
-    opened = opened;
-    whole =
-        subst (λ (l : List (Option (List ℕ))). IsStreamDone state_of options l writers recorders before after) are done;
-  }
+-- the files for records were not created
+pub not_recorded : {Rest : Type 0} (has_created cannot_create : List ℕ → Type 0) (names : List (List ℕ)) (out error : Written)
+    (cause : OpeningError)
+    → ((proxy : ℕ) → cause ≡ opening.CannotOpen proxy → IsFirstRefused has_created cannot_create names proxy)
+    → out.after ≡ out.before → Told error (creating_line cause)
+    → DidNotCreate has_created cannot_create names out error ⊎ (DidNotStart out error ⊎ Rest)
+not_recorded has_created cannot_create names out error (opening.CannotOpen proxy) first nothing told =
+    inl (record { proxy = proxy; first = first proxy refl; nothing_printed = nothing; told = told })
+not_recorded has_created cannot_create names out error opening.Memory first nothing told =
+    inr (inl (record { cause = start.Memory; nothing_printed = nothing; told = told }))
 
-  pub files_failed : (out error : Written) → FailsToStream state_of options files writers recorders out error
-      → DidNotStart out error ⊎ StreamsAndFails state_of contents begun options names records recorders out error
-  files_failed out error (inl not_started) = inl not_started
-  files_failed out error (inr ran) = inr (record {
-    writers = writers;
-    opened = opened;
-    failed =
-        subst (λ (l : List (Option (List ℕ))). StreamedAndFailed state_of options l writers recorders out error) are ran;
-  })
+-- the writers that were created were streamed to
+pub recorded_and_failed : {W : Type 0} (state_of : W → SinkState) (begun : List ℕ → Option (List ℕ)) (options : Options)
+    (bytes : List (Option (List ℕ))) (records : List (List ℕ)) (writers : List (Option W))
+    (recorders : List (Option (Recorder W))) → AreWriters state_of begun (length bytes) records writers
+    → (out error : Written) → FailsToStream state_of options bytes writers recorders out error
+    → DidNotStart out error ⊎ StreamsAndFails state_of begun options bytes records recorders out error
+recorded_and_failed state_of begun options bytes records writers recorders created out error (inl not_started) = inl not_started
+recorded_and_failed state_of begun options bytes records writers recorders created out error (inr ran) =
+    inr (record { writers = writers; opened = created; failed = ran })

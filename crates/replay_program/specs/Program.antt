@@ -1,50 +1,62 @@
 -- How the program ends, beside the words of its command line and the bytes of its files. This project's own.
-use Rattle.std.specs.Prelude.{◌≡◌, ◌≢◌, ◌⊎◌, ℕ, ◌≤◌, true, false, List, codes, length, map, Option, None, Some, option_map, slice_get}
-use Rattle.std.specs.List.{AllZip}
-use Rattle.clap.specs.Words.{all_of}
+use Rattle.std.specs.Prelude.{◌≡◌, ◌≢◌, ◌⊎◌, ℕ, ◌≤◌, List, codes, length, map, Option, None, Some, IsSomeAnd, option_map, slice_get}
+use Rattle.std.specs.Borrow.{Bor}
+use Rattle.std.specs.List.{All, AllZip}
 use Rattle.keyspace.specs.declared.reply.Reply.{Reply}
-use Rattle.resolver.specs.declared.resolver_core.TheConstants.{MAX_PROXIES}
+use Rattle.replay_arguments.specs.declared.arguments.CommandLine.{CommandLine}
+use Rattle.replay_arguments.specs.declared.arguments.summary_file.SummaryFile.{SummaryFile}
+use Rattle.replay_arguments.specs.declared.arguments.task.Task.{Task}
+use Rattle.replay_arguments.specs.declared.arguments.task.Task.TheVariants as task
 use Rattle.replay_arguments.specs.declared.opening.OpeningError.TheVariants as opening
-use Rattle.replay_output.specs.declared.options.form.Form.TheVariants.{Kept}
+use Rattle.replay_arguments.specs.declared.opening.files.FileError.TheVariants as file_error
+use Rattle.replay_arguments.specs.declared.opening.written.WrittenFile.{WrittenFile}
+use Rattle.replay_arguments.specs.declared.opening.written.WrittenFile.TheVariants.{Output, Summary}
+use Rattle.replay_arguments.specs.Asks.{Asks}
+use Rattle.replay_arguments.specs.Opening.{IsFirstRefused, contents_each, creating_line, opening_line, written_line}
+use Rattle.replay_arguments.specs.Words.{AsksForText}
 use Rattle.replay_output.specs.declared.options.Options.{Options}
-use Rattle.replay_program.specs.declared.check.replies.RepliesError.{RepliesError}
 use Rattle.replay_output.specs.declared.start.StartError.TheVariants as start
-use Rattle.replay_arguments.specs.Opening.{IsFirstRefused, contents_each, creating_line, opening_line}
-use Rattle.replay_program.specs.Checked.{TakesToCompare, check_lines}
-use Rattle.replay_program.specs.Explained.{FailsToExplain, IsReplayedWithExplanations}
-use Rattle.replay_program.specs.Replayed.{
-  DidNotStart,
-  FailsToPrint,
-  FailsToReplay,
-  FailsToSummarize,
-  HasFailed,
-  IsChecked,
-  IsReplayed,
-  IsSummarized,
-  Took,
-  Written,
-}
-use Rattle.replay_program.specs.Replies.{IsCauseOf, IsReplyFile, replies_line}
 use Rattle.replay_output.specs.Quieted.{quieted}
 use Rattle.replay_output.specs.Start.{start_line}
-use Rattle.replay_summary.specs.declared.text.SummaryForm.{SummaryForm}
-use Rattle.replay_arguments.specs.Words.{
-  AsksForText,
-  HasInputOnce,
-  HoldsExplain,
-  HoldsOptions,
-  HoldsStream,
-  HoldsSummary,
-  IsAlone,
-  IsPlain,
-  IsTaken,
-  is_kept,
-  named,
-  rows_of_words,
-}
+use Rattle.replay_program.specs.declared.check.replies.RepliesError.{RepliesError}
+use Rattle.replay_program.specs.declared.report.RunReport.{RunReport}
+use Rattle.replay_program.specs.Checked.{TakesToCompare, check_lines}
+use Rattle.replay_program.specs.Explained.{FailsToExplain, IsReplayedWithExplanations}
+use Rattle.replay_program.specs.Replayed.{DidNotStart, FailsToPrint, FailsToReplay, HasFailed, IsChecked, IsReplayed, Took, Written, written}
+use Rattle.replay_program.specs.Replies.{IsCauseOf, IsReplyFile, replies_line}
+use Rattle.replay_program.specs.Streamed.{IsStreamDone, StreamedAndFailed}
+use Rattle.replay_program.specs.Summarized.{FailsToReplayAndSummarize, FailsToSummarize, IsReplayedAndSummarized, IsSummarized}
 use Rattle.replay_stream.specs.declared.recorder.Recorder.{Recorder}
 use Rattle.replay_stream.specs.Sinks.{SinkState}
-use Rattle.replay_program.specs.Streamed.{IsStreamDone, StreamedAndFailed}
+
+-- What files report, by their names: of one that is read, its bytes, and whether it was opened or can't be; of one that is written, what
+-- its new writer was given, and whether it was created or can't be.
+pub record NamedFiles : Type 1 where
+  pub contents : List ℕ → Option (List ℕ)
+  pub has_opened : List ℕ → Type 0
+  pub cannot_open : List ℕ → Type 0
+  pub begun : List ℕ → Option (List ℕ)
+  pub has_created : List ℕ → Type 0
+  pub cannot_create : List ℕ → Type 0
+
+abbrev pub named_files : (List ℕ → Option (List ℕ)) → (List ℕ → Type 0) → (List ℕ → Type 0)
+    → (List ℕ → Option (List ℕ)) → (List ℕ → Type 0) → (List ℕ → Type 0) → NamedFiles
+named_files contents has_opened cannot_open begun has_created cannot_create = record {
+  contents = contents;
+  has_opened = has_opened;
+  cannot_open = cannot_open;
+  begun = begun;
+  has_created = has_created;
+  cannot_create = cannot_create;
+}
+
+-- the texts of names
+abbrev pub texts : List (Bor (List ℕ)) → List (List ℕ)
+texts names = map (λ name. name.now) names
+
+-- the bytes of the files of batches that a command line names
+abbrev pub bytes_of : NamedFiles → CommandLine → List (Option (List ℕ))
+bytes_of files line = contents_each files.contents (texts line.files.items)
 
 -- the line was printed, or standard error failed
 abbrev pub Told : Written → List ℕ → Type 0
@@ -58,6 +70,49 @@ pub record DidNotOpen (has_opened cannot_open : List ℕ → Type 0) (names : Li
   pub nothing_printed : out.after ≡ out.before
   pub told : Told error (opening_line (opening.CannotOpen proxy))
 
+-- the file of this name can't be created: nothing was printed, and that was reported
+pub record DidNotCreateFile (cannot_create : List ℕ → Type 0) (name : List ℕ) (file : WrittenFile) (out error : Written) :
+    Type 0 where
+  pub refused : cannot_create name
+  pub nothing_printed : out.after ≡ out.before
+  pub told : Told error (written_line file file_error.CannotOpen)
+
+-- this is what was written to a file: its new writer, which was given `begun`, has become this one
+pub record IsGiven {W : Type 0} (state_of : W → SinkState) (begun : Option (List ℕ)) (writer : Option W) (to : Written) :
+    Type 0 where
+  pub opened : W
+  pub last : W
+  pub new : (state_of opened).given ≡ begun
+  pub writer_is : writer ≡ Some last
+  pub to_is :
+      to ≡ written (state_of opened).given (state_of last).given (state_of opened).failures (state_of last).failures
+
+-- Where the output goes: to standard output, unless a file is named for it. Then standard output stays as it was.
+abbrev pub GoesTo : {W : Type 0} → (W → SinkState) → (List ℕ → Option (List ℕ)) → Option (Bor (List ℕ)) → Option W → Written
+    → Written → Type 0
+GoesTo state_of begun None writer standard out = (writer ≡ None) × (out ≡ standard)
+GoesTo state_of begun (Some name) writer standard out =
+    (standard.after ≡ standard.before) × (standard.failures_after ≡ standard.failures_before)
+    × IsGiven state_of (begun name.now) writer out
+
+-- The answers to these files of batches were printed. Their summary was written to the file that is named for it, if one is.
+abbrev pub ArePrinted : {W : Type 0} → (W → SinkState) → NamedFiles → List (Option (List ℕ)) → Options → Option SummaryFile
+    → Option W → Written → Type 0
+ArePrinted state_of files bytes options None writer out = IsReplayed options bytes out.before out.after
+ArePrinted state_of files bytes options (Some file) writer out =
+    (to : Written) × IsGiven state_of (files.begun file.name.now) writer to
+    × IsReplayedAndSummarized file.form options bytes out.before out.after to.before to.after
+
+-- the answers, or their summary, were not printed completely, or something failed
+abbrev pub AreNotPrinted : {W : Type 0} → (W → SinkState) → NamedFiles → List (Option (List ℕ)) → Options → Option SummaryFile
+    → Option W → Written → Written → Type 0
+AreNotPrinted state_of files bytes options None writer out error = FailsToReplay options bytes out error
+AreNotPrinted state_of files bytes options (Some file) writer out error =
+    DidNotCreateFile files.cannot_create file.name.now Summary out error
+    ⊎ (DidNotStart out error
+    ⊎ ((to : Written) × IsGiven state_of (files.begun file.name.now) writer to
+    × FailsToReplayAndSummarize file.form options bytes out to error))
+
 -- the files of replies were not read: nothing was printed, and the cause was reported
 pub record DidNotReadReplies (has_opened cannot_open : List ℕ → Type 0) (contents : List ℕ → Option (List ℕ))
     (names : List (List ℕ)) (out error : Written) : Type 0 where
@@ -66,113 +121,143 @@ pub record DidNotReadReplies (has_opened cannot_open : List ℕ → Type 0) (con
   pub nothing_printed : out.after ≡ out.before
   pub told : Told error (replies_line cause)
 
--- the files of these names were not replayed, or something failed
-abbrev pub FailsOnFiles : (List ℕ → Type 0) → (List ℕ → Type 0) → (List ℕ → Option (List ℕ)) → Options
-    → List (List ℕ) → Written → Written → Type 0
-FailsOnFiles has_opened cannot_open contents options names out error =
-    DidNotOpen has_opened cannot_open names out error
-    ⊎ FailsToReplay options (contents_each contents names) out error
-
--- the files of these names were not replayed with explanations, or something failed
-abbrev pub FailsOnExplaining : (List ℕ → Type 0) → (List ℕ → Type 0) → (List ℕ → Option (List ℕ)) → Options
-    → List (List ℕ) → Written → Written → Type 0
-FailsOnExplaining has_opened cannot_open contents options names out error =
-    DidNotOpen has_opened cannot_open names out error
-    ⊎ FailsToExplain options (contents_each contents names) out error
-
--- the files of these names were not summarized, or something failed
-abbrev pub FailsOnSummary : SummaryForm → (List ℕ → Type 0) → (List ℕ → Type 0) → (List ℕ → Option (List ℕ)) → Options
-    → List (List ℕ) → Written → Written → Type 0
-FailsOnSummary form has_opened cannot_open contents options names out error =
-    DidNotOpen has_opened cannot_open names out error
-    ⊎ FailsToSummarize form (quieted options) (contents_each contents names) out error
-
 -- the replies that were read of the files of these names
 abbrev pub AreRecorded : (List ℕ → Option (List ℕ)) → List (List ℕ) → List (List Reply) → Type 0
 AreRecorded contents names recorded = AllZip IsReplyFile (contents_each contents names) recorded
 
--- the replies were read, and then the program failed
-pub record FailsBeside (contents : List ℕ → Option (List ℕ)) (options : Options) (names replies : List (List ℕ))
-    (out error : Written) : Type 0 where
+-- the answers to these files were compared with the replies in the files of these names, and the number of differences is as said
+pub record ChecksFiles (So_many : ℕ → Type 0) (contents : List ℕ → Option (List ℕ)) (options : Options)
+    (bytes : List (Option (List ℕ))) (replies : List (List ℕ)) (before after : Option (List ℕ)) : Type 0 where
   pub recorded : List (List Reply)
   pub read : AreRecorded contents replies recorded
-  pub failed : FailsToPrint (check_lines recorded) (TakesToCompare recorded) options (contents_each contents names) out error
+  pub checked : IsChecked So_many recorded options bytes before after
 
--- the files of these names were not compared with those of replies, or something failed
-abbrev pub FailsToCheck : (List ℕ → Type 0) → (List ℕ → Type 0) → (List ℕ → Option (List ℕ)) → Options
-    → List (List ℕ) → List (List ℕ) → Written → Written → Type 0
-FailsToCheck has_opened cannot_open contents options names replies out error =
-    DidNotOpen has_opened cannot_open names out error
-    ⊎ (DidNotReadReplies has_opened cannot_open contents replies out error
-    ⊎ (DidNotStart out error ⊎ FailsBeside contents options names replies out error))
+-- the replies were read, and then the program failed
+pub record FailsBeside (contents : List ℕ → Option (List ℕ)) (options : Options) (bytes : List (Option (List ℕ)))
+    (replies : List (List ℕ)) (out error : Written) : Type 0 where
+  pub recorded : List (List Reply)
+  pub read : AreRecorded contents replies recorded
+  pub failed : FailsToPrint (check_lines recorded) (TakesToCompare recorded) options bytes out error
 
--- the words are taken, and ask for a replay of the files of these names with these options
-pub record AsksToReplay (words : List (List ℕ)) (options : Options) (names : List (List ℕ)) : Type 0 where
-  pub taken : IsTaken words
-  pub holds_options : HoldsOptions (rows_of_words words) options
-  pub holds_names : all_of (codes "FILE") (rows_of_words words) ≡ Some names
-  pub least : 1 ≤ length names
-  pub most : length names ≤ MAX_PROXIES
-  pub input : HasInputOnce (rows_of_words words)
-  pub plain : is_kept options.style.form ≡ false
-  pub at_the_end : HoldsStream (rows_of_words words) false
-  pub no_summary : HoldsSummary (rows_of_words words) options.style.form None
-  pub no_explanations : HoldsExplain (rows_of_words words) false
+-- the answers to these files were not compared with the replies in the files of these names, or something failed
+abbrev pub FailsToCheck : NamedFiles → Options → List (Option (List ℕ)) → List (List ℕ) → Written → Written → Type 0
+FailsToCheck files options bytes replies out error =
+    DidNotReadReplies files.has_opened files.cannot_open files.contents replies out error
+    ⊎ (DidNotStart out error ⊎ FailsBeside files.contents options bytes replies out error)
 
--- the words are taken, and ask for a replay of the files of these names with these options, in which rejections are explained
-pub record AsksToExplain (words : List (List ℕ)) (options : Options) (names : List (List ℕ)) : Type 0 where
-  pub taken : IsTaken words
-  pub holds_options : HoldsOptions (rows_of_words words) options
-  pub holds_names : all_of (codes "FILE") (rows_of_words words) ≡ Some names
-  pub least : 1 ≤ length names
-  pub most : length names ≤ MAX_PROXIES
-  pub input : HasInputOnce (rows_of_words words)
-  pub explanations : HoldsExplain (rows_of_words words) true
-  pub plain : IsPlain (rows_of_words words)
+-- Each of these files for records has its writer, at the number of its proxy, and no other proxy has one. Of each writer, the bytes
+-- that it was given.
+pub record HaveWriters (begun : List ℕ → Option (List ℕ)) (names : List (List ℕ)) (writers : List (Option (Option (List ℕ))))
+    : Type 0 where
+  pub each : (proxy : ℕ) (name : List ℕ) → slice_get names proxy ≡ Some name → slice_get writers proxy ≡ Some (Some (begun name))
+  pub no_more :
+      (proxy : ℕ) (writer : Option (Option (List ℕ))) → length names ≤ proxy → slice_get writers proxy ≡ Some writer
+      → writer ≡ None
 
--- the words are taken, and ask for a summary, in this form, of a replay of the files of these names with these options
-pub record AsksToSummarize (words : List (List ℕ)) (form : SummaryForm) (options : Options) (names : List (List ℕ)) :
+-- the writers that were opened for n proxies, one for each of these files for records
+pub record AreWriters {W : Type 0} (state_of : W → SinkState) (begun : List ℕ → Option (List ℕ)) (proxies : ℕ)
+    (records : List (List ℕ)) (writers : List (Option W)) : Type 0 where
+  pub count : length writers ≡ proxies
+  pub of_files : HaveWriters begun records (map (option_map (λ (w : W). (state_of w).given)) writers)
+
+-- These files were read and resolved. The lines are those of all answers that are shown. The records that the writers of the files of
+-- these names were given, if there are any, are those of all answers: the recorders that have ended have these writers.
+pub record StreamsFiles {W : Type 0} (state_of : W → SinkState) (begun : List ℕ → Option (List ℕ)) (options : Options)
+    (bytes : List (Option (List ℕ))) (records : List (List ℕ)) (recorders : List (Option (Recorder W)))
+    (before after : Option (List ℕ)) : Type 0 where
+  pub writers : List (Option W)
+  pub opened : AreWriters state_of begun (length bytes) records writers
+  pub whole : IsStreamDone state_of options bytes writers recorders before after
+
+-- a file for records can't be opened: nothing was printed, and the first such file was reported
+pub record DidNotCreate (has_created cannot_create : List ℕ → Type 0) (names : List (List ℕ)) (out error : Written) :
     Type 0 where
-  pub taken : IsTaken words
-  pub holds_options : HoldsOptions (rows_of_words words) options
-  pub holds_names : all_of (codes "FILE") (rows_of_words words) ≡ Some names
-  pub least : 1 ≤ length names
-  pub most : length names ≤ MAX_PROXIES
-  pub input : HasInputOnce (rows_of_words words)
-  pub holds_summary : HoldsSummary (rows_of_words words) options.style.form (Some form)
-  pub alone : IsAlone (rows_of_words words)
-  pub no_explanations : HoldsExplain (rows_of_words words) false
+  pub proxy : ℕ
+  pub first : IsFirstRefused has_created cannot_create names proxy
+  pub nothing_printed : out.after ≡ out.before
+  pub told : Told error (creating_line (opening.CannotOpen proxy))
 
--- the words are taken, and ask that the answers to the files of these names are printed as they come, and recorded in files of these
--- names, if there are any
-pub record AsksToStream (words : List (List ℕ)) (options : Options) (names records : List (List ℕ)) : Type 0 where
-  pub taken : IsTaken words
-  pub holds_options : HoldsOptions (rows_of_words words) options
-  pub holds_names : all_of (codes "FILE") (rows_of_words words) ≡ Some names
-  pub holds_records : named (all_of (codes "replies") (rows_of_words words)) ≡ records
-  pub least : 1 ≤ length names
-  pub most : length names ≤ MAX_PROXIES
-  pub input : HasInputOnce (rows_of_words words)
-  pub plain : is_kept options.style.form ≡ false
-  pub as_they_come : HoldsStream (rows_of_words words) true
-  pub no_summary : HoldsSummary (rows_of_words words) options.style.form None
-  pub no_explanations : HoldsExplain (rows_of_words words) false
-  pub records_each : (length records ≡ 0) ⊎ (length records ≡ length names)
+-- These files were read and resolved, and something failed. The lines are those of the first answers to each proxy, each if it is
+-- shown. The records that the writers of the files of these names were given, if there are any, are those of the first answers too.
+pub record StreamsAndFails {W : Type 0} (state_of : W → SinkState) (begun : List ℕ → Option (List ℕ)) (options : Options)
+    (bytes : List (Option (List ℕ))) (records : List (List ℕ)) (recorders : List (Option (Recorder W)))
+    (out error : Written) : Type 0 where
+  pub writers : List (Option W)
+  pub opened : AreWriters state_of begun (length bytes) records writers
+  pub failed : StreamedAndFailed state_of options bytes writers recorders out error
 
--- the words are taken, and ask for a check of the files of these names beside those of replies
-pub record AsksToCheck (words : List (List ℕ)) (options : Options) (names replies : List (List ℕ)) : Type 0 where
-  pub taken : IsTaken words
-  pub holds_options : HoldsOptions (rows_of_words words) options
-  pub holds_names : all_of (codes "FILE") (rows_of_words words) ≡ Some names
-  pub holds_replies : all_of (codes "check") (rows_of_words words) ≡ Some replies
-  pub least : 1 ≤ length names
-  pub most : length names ≤ MAX_PROXIES
-  pub input : HasInputOnce (rows_of_words words)
-  pub as_many : length replies ≡ length names
-  pub kept : options.style.form ≡ Kept
-  pub at_the_end : HoldsStream (rows_of_words words) false
-  pub no_summary : HoldsSummary (rows_of_words words) options.style.form None
-  pub no_explanations : HoldsExplain (rows_of_words words) false
+-- the answers to these files were not streamed, or something failed
+abbrev pub FailsToStreamFiles : {W : Type 0} → (W → SinkState) → NamedFiles → Options → List (Option (List ℕ)) → List (List ℕ)
+    → List (Option (Recorder W)) → Written → Written → Type 0
+FailsToStreamFiles state_of files options bytes records recorders out error =
+    DidNotCreate files.has_created files.cannot_create records out error
+    ⊎ (DidNotStart out error ⊎ StreamsAndFails state_of files.begun options bytes records recorders out error)
+
+-- The task of a command line is done on files of batches with these bytes. No line is shown beside a summary that is printed.
+abbrev pub IsTaskDone : {W : Type 0} → (W → SinkState) → NamedFiles → List (Option (List ℕ)) → CommandLine → Task → RunReport W
+    → Written → Type 0
+IsTaskDone state_of files bytes line task.Print report out =
+    ArePrinted state_of files bytes line.options line.summary_to report.summary out
+IsTaskDone state_of files bytes line task.Explain report out =
+    IsReplayedWithExplanations line.options bytes out.before out.after
+IsTaskDone state_of files bytes line (task.Summarize form top) report out =
+    IsSummarized form top (quieted line.options) bytes out.before out.after
+IsTaskDone state_of files bytes line (task.Stream records) report out =
+    StreamsFiles state_of files.begun line.options bytes (texts records.items) report.recorders.items out.before out.after
+IsTaskDone state_of files bytes line (task.Check replies) report out =
+    ChecksFiles (λ count. count ≡ 0) files.contents line.options bytes (texts replies.items) out.before out.after
+
+-- answers were compared, and there are differences
+abbrev pub FindsDifferences : NamedFiles → List (Option (List ℕ)) → CommandLine → Task → Written → Type 0
+FindsDifferences files bytes line (task.Check replies) out =
+    ChecksFiles (λ count. count ≢ 0) files.contents line.options bytes (texts replies.items) out.before out.after
+FindsDifferences files bytes line _ out = ⊥
+
+-- the task of a command line has failed on files of batches with these bytes
+abbrev pub TaskFails : {W : Type 0} → (W → SinkState) → NamedFiles → List (Option (List ℕ)) → CommandLine → Task → RunReport W
+    → Written → Written → Type 0
+TaskFails state_of files bytes line task.Print report out error =
+    AreNotPrinted state_of files bytes line.options line.summary_to report.summary out error
+TaskFails state_of files bytes line task.Explain report out error = FailsToExplain line.options bytes out error
+TaskFails state_of files bytes line (task.Summarize form top) report out error =
+    FailsToSummarize form top (quieted line.options) bytes out error
+TaskFails state_of files bytes line (task.Stream records) report out error =
+    FailsToStreamFiles state_of files line.options bytes (texts records.items) report.recorders.items out error
+TaskFails state_of files bytes line (task.Check replies) report out error =
+    FailsToCheck files line.options bytes (texts replies.items) out error
+
+-- The output of a command line went where it says, and this holds of what became of the writer there.
+pub record OfOutput {W : Type 0} (state_of : W → SinkState) (files : NamedFiles) (line : CommandLine) (report : RunReport W)
+    (standard : Written) (Holds : Written → Type 0) : Type 0 where
+  pub out : Written
+  pub goes_to : GoesTo state_of files.begun line.output report.output standard out
+  pub holds : Holds out
+
+-- what a command line asks for is done
+abbrev pub IsLineDone : {W : Type 0} → (W → SinkState) → NamedFiles → CommandLine → RunReport W → Written → Type 0
+IsLineDone state_of files line report standard =
+    OfOutput state_of files line report standard (IsTaskDone state_of files (bytes_of files line) line line.task report)
+
+-- there are differences between the answers and the replies that a command line names
+abbrev pub LineFindsDifferences : {W : Type 0} → (W → SinkState) → NamedFiles → CommandLine → RunReport W → Written → Type 0
+LineFindsDifferences state_of files line report standard =
+    OfOutput state_of files line report standard (FindsDifferences files (bytes_of files line) line line.task)
+
+-- the file for the output can't be created, once all files of batches were opened
+abbrev pub DidNotCreateOutput : NamedFiles → CommandLine → Written → Written → Type 0
+DidNotCreateOutput files line standard error =
+    All files.has_opened (texts line.files.items)
+    × IsSomeAnd line.output (λ name. DidNotCreateFile files.cannot_create name.now Output standard error)
+
+-- What a command line asks for has failed: a file of batches was not opened or that for the output not created, the run did not start, or
+-- its task has failed.
+abbrev pub LineFails : {W : Type 0} → (W → SinkState) → NamedFiles → CommandLine → RunReport W → Written → Written → Type 0
+LineFails state_of files line report standard error =
+    DidNotOpen files.has_opened files.cannot_open (texts line.files.items) standard error
+    ⊎ (DidNotCreateOutput files line standard error
+    ⊎ (DidNotStart standard error
+    ⊎ OfOutput state_of files line report standard
+    (λ out. TaskFails state_of files (bytes_of files line) line line.task report out error)))
 
 -- the message about arguments that aren't text
 abbrev pub not_text : List ℕ
@@ -184,179 +269,29 @@ HasReadNoText out error = (out.after ≡ out.before) × Told error not_text
 
 -- help or the version was asked for, and shown
 abbrev pub HasShown : List (List ℕ) → Written → Type 0
-HasShown words out = AsksForText words × ((text : List ℕ) × Took out text)
-
--- all that the words ask for was read, resolved and printed
-pub record HasReplayed (contents : List ℕ → Option (List ℕ)) (words : List (List ℕ)) (out : Written) : Type 0 where
-  pub options : Options
-  pub names : List (List ℕ)
-  pub asked : AsksToReplay words options names
-  pub replayed : IsReplayed options (contents_each contents names) out.before out.after
-
--- all that the words ask for was read, resolved and printed, and the rejections explained
-pub record HasReplayedWithExplanations (contents : List ℕ → Option (List ℕ)) (words : List (List ℕ)) (out : Written) : Type 0 where
-  pub options : Options
-  pub names : List (List ℕ)
-  pub asked : AsksToExplain words options names
-  pub explained : IsReplayedWithExplanations options (contents_each contents names) out.before out.after
-
--- All that the words ask for was read, resolved and summarized. The options are those of the words, with which no line is shown.
-pub record HasSummarized (contents : List ℕ → Option (List ℕ)) (words : List (List ℕ)) (out : Written) : Type 0 where
-  pub form : SummaryForm
-  pub options : Options
-  pub names : List (List ℕ)
-  pub asked : AsksToSummarize words form options names
-  pub summarized : IsSummarized form (quieted options) (contents_each contents names) out.before out.after
-
--- the files of these names were resolved and compared with those of replies, and the number of differences is as said
-pub record ChecksFiles (So_many : ℕ → Type 0) (contents : List ℕ → Option (List ℕ)) (options : Options)
-    (names replies : List (List ℕ)) (before after : Option (List ℕ)) : Type 0 where
-  pub recorded : List (List Reply)
-  pub read : AreRecorded contents replies recorded
-  pub checked : IsChecked So_many recorded options (contents_each contents names) before after
-
--- all files of the arguments were read, resolved and compared, and the number of differences is as said
-pub record HasChecked (So_many : ℕ → Type 0) (contents : List ℕ → Option (List ℕ)) (words : List (List ℕ)) (out : Written) :
-    Type 0 where
-  pub options : Options
-  pub names : List (List ℕ)
-  pub replies : List (List ℕ)
-  pub asked : AsksToCheck words options names replies
-  pub checked : ChecksFiles So_many contents options names replies out.before out.after
-
--- Each of these files for records has its writer, at the number of its proxy, and no other proxy has one. Of each writer, the bytes
--- that it was given.
-pub record HaveWriters (begun : List ℕ → Option (List ℕ)) (names : List (List ℕ)) (writers : List (Option (Option (List ℕ))))
-    : Type 0 where
-  pub each : (proxy : ℕ) (name : List ℕ) → slice_get names proxy ≡ Some name → slice_get writers proxy ≡ Some (Some (begun name))
-  pub no_more :
-      (proxy : ℕ) (writer : Option (Option (List ℕ))) → length names ≤ proxy → slice_get writers proxy ≡ Some writer
-      → writer ≡ None
-
--- the writers that were opened, one for each of these files for records
-pub record AreWriters {W : Type 0} (state_of : W → SinkState) (begun : List ℕ → Option (List ℕ)) (names records : List (List ℕ))
-    (writers : List (Option W)) : Type 0 where
-  pub count : length writers ≡ length names
-  pub of_files : HaveWriters begun records (map (option_map (λ (w : W). (state_of w).given)) writers)
-
--- The files of these names were read and resolved. The lines are those of all answers that are shown. The records that the writers of
--- those files were given, if there are any, are those of all answers: the recorders that have ended have these writers.
-pub record StreamsFiles {W : Type 0} (state_of : W → SinkState) (contents begun : List ℕ → Option (List ℕ)) (options : Options)
-    (names records : List (List ℕ)) (recorders : List (Option (Recorder W))) (before after : Option (List ℕ)) : Type 0 where
-  pub writers : List (Option W)
-  pub opened : AreWriters state_of begun names records writers
-  pub whole : IsStreamDone state_of options (contents_each contents names) writers recorders before after
-
--- all that the words ask for was read, resolved, printed and recorded
-pub record HasStreamed {W : Type 0} (state_of : W → SinkState) (contents begun : List ℕ → Option (List ℕ)) (words : List (List ℕ))
-    (recorders : List (Option (Recorder W))) (out : Written) : Type 0 where
-  pub options : Options
-  pub names : List (List ℕ)
-  pub records : List (List ℕ)
-  pub asked : AsksToStream words options names records
-  pub streamed : StreamsFiles state_of contents begun options names records recorders out.before out.after
-
--- a file for records can't be opened: nothing was printed, and the first such file was reported
-pub record DidNotCreate (has_created cannot_create : List ℕ → Type 0) (names : List (List ℕ)) (out error : Written) :
-    Type 0 where
-  pub proxy : ℕ
-  pub first : IsFirstRefused has_created cannot_create names proxy
-  pub nothing_printed : out.after ≡ out.before
-  pub told : Told error (creating_line (opening.CannotOpen proxy))
-
--- The files of these names were read and resolved, and something failed. The lines are those of the first answers to each proxy, each
--- if it is shown. The records that the writers of those files were given, if there are any, are those of the first answers too.
-pub record StreamsAndFails {W : Type 0} (state_of : W → SinkState) (contents begun : List ℕ → Option (List ℕ)) (options : Options)
-    (names records : List (List ℕ)) (recorders : List (Option (Recorder W))) (out error : Written) : Type 0 where
-  pub writers : List (Option W)
-  pub opened : AreWriters state_of begun names records writers
-  pub failed : StreamedAndFailed state_of options (contents_each contents names) writers recorders out error
-
--- the files of these names were not streamed, or something failed
-abbrev pub FailsOnStream : {W : Type 0} → (W → SinkState) → (List ℕ → Type 0) → (List ℕ → Type 0) → (List ℕ → Option (List ℕ))
-    → (List ℕ → Type 0) → (List ℕ → Type 0) → (List ℕ → Option (List ℕ)) → Options → List (List ℕ) → List (List ℕ)
-    → List (Option (Recorder W)) → Written → Written → Type 0
-FailsOnStream state_of has_opened cannot_open contents has_created cannot_create begun options names records recorders out error =
-    DidNotOpen has_opened cannot_open names out error
-    ⊎ (DidNotCreate has_created cannot_create records out error
-    ⊎ (DidNotStart out error ⊎ StreamsAndFails state_of contents begun options names records recorders out error))
-
--- there are differences
-abbrev pub HasDifferences : (List ℕ → Option (List ℕ)) → List (List ℕ) → Written → Type 0
-HasDifferences = HasChecked (λ count. count ≢ 0)
-
--- The program is done.
-abbrev pub IsDone : {W : Type 0} → (W → SinkState) → (List ℕ → Option (List ℕ)) → (List ℕ → Option (List ℕ)) → List (List ℕ)
-    → List (Option (Recorder W)) → Written → Type 0
-IsDone state_of contents begun words recorders out =
-    HasShown words out
-    ⊎ (HasReplayed contents words out
-    ⊎ (HasChecked (λ count. count ≡ 0) contents words out
-    ⊎ (HasStreamed state_of contents begun words recorders out
-    ⊎ (HasSummarized contents words out ⊎ HasReplayedWithExplanations contents words out))))
-
--- what the words ask for failed on the files
-pub record HasFailedOnFiles (has_opened cannot_open : List ℕ → Type 0) (contents : List ℕ → Option (List ℕ))
-    (words : List (List ℕ)) (out error : Written) : Type 0 where
-  pub options : Options
-  pub names : List (List ℕ)
-  pub asked : AsksToReplay words options names
-  pub failed : FailsOnFiles has_opened cannot_open contents options names out error
-
--- what the words ask to be checked failed
-pub record HasFailedToCheck (has_opened cannot_open : List ℕ → Type 0) (contents : List ℕ → Option (List ℕ))
-    (words : List (List ℕ)) (out error : Written) : Type 0 where
-  pub options : Options
-  pub names : List (List ℕ)
-  pub replies : List (List ℕ)
-  pub asked : AsksToCheck words options names replies
-  pub failed : FailsToCheck has_opened cannot_open contents options names replies out error
-
--- what the words ask to be streamed failed
-pub record HasFailedToStream {W : Type 0} (state_of : W → SinkState) (has_opened cannot_open : List ℕ → Type 0)
-    (contents : List ℕ → Option (List ℕ)) (has_created cannot_create : List ℕ → Type 0) (begun : List ℕ → Option (List ℕ))
-    (words : List (List ℕ)) (recorders : List (Option (Recorder W))) (out error : Written) :
-    Type 0 where
-  pub options : Options
-  pub names : List (List ℕ)
-  pub records : List (List ℕ)
-  pub asked : AsksToStream words options names records
-  pub failed :
-      FailsOnStream state_of has_opened cannot_open contents has_created cannot_create begun options names records recorders out error
-
--- what the words ask to be summarized failed
-pub record HasFailedToSummarize (has_opened cannot_open : List ℕ → Type 0) (contents : List ℕ → Option (List ℕ))
-    (words : List (List ℕ)) (out error : Written) : Type 0 where
-  pub form : SummaryForm
-  pub options : Options
-  pub names : List (List ℕ)
-  pub asked : AsksToSummarize words form options names
-  pub failed : FailsOnSummary form has_opened cannot_open contents options names out error
-
--- what the words ask to be explained failed
-pub record HasFailedToExplain (has_opened cannot_open : List ℕ → Type 0) (contents : List ℕ → Option (List ℕ))
-    (words : List (List ℕ)) (out error : Written) : Type 0 where
-  pub options : Options
-  pub names : List (List ℕ)
-  pub asked : AsksToExplain words options names
-  pub failed : FailsOnExplaining has_opened cannot_open contents options names out error
+HasShown words standard = AsksForText words × ((text : List ℕ) × Took standard text)
 
 -- help or the version was asked for, and standard output failed
 abbrev pub HasNotShown : List (List ℕ) → Written → Type 0
-HasNotShown words out = AsksForText words × HasFailed out
+HasNotShown words standard = AsksForText words × HasFailed standard
 
 -- memory was refused before anything was done
 abbrev pub HasNoMemory : Written → Written → Type 0
-HasNoMemory out error = (out.after ≡ out.before) × Told error (start_line start.Memory)
+HasNoMemory standard error = (standard.after ≡ standard.before) × Told error (start_line start.Memory)
 
--- The program has failed.
-abbrev pub IsFailed : {W : Type 0} → (W → SinkState) → (List ℕ → Type 0) → (List ℕ → Type 0) → (List ℕ → Option (List ℕ))
-    → (List ℕ → Type 0) → (List ℕ → Type 0) → (List ℕ → Option (List ℕ)) → List (List ℕ) → List (Option (Recorder W)) → Written
-    → Written → Type 0
-IsFailed state_of has_opened cannot_open contents has_created cannot_create begun words recorders out error =
-    HasNoMemory out error
-    ⊎ (HasNotShown words out ⊎ (HasFailedOnFiles has_opened cannot_open contents words out error
-    ⊎ (HasFailedToCheck has_opened cannot_open contents words out error
-    ⊎ (HasFailedToStream state_of has_opened cannot_open contents has_created cannot_create begun words recorders out error
-    ⊎ (HasFailedToSummarize has_opened cannot_open contents words out error
-    ⊎ HasFailedToExplain has_opened cannot_open contents words out error)))))
+-- The program is done: it has shown help or the version, or done what the words ask for.
+abbrev pub IsDone : {W : Type 0} → (W → SinkState) → NamedFiles → List (List ℕ) → RunReport W → Written → Type 0
+IsDone state_of files words report standard =
+    HasShown words standard ⊎ ((line : CommandLine) × Asks words line × IsLineDone state_of files line report standard)
+
+-- the words ask for a comparison, and there are differences
+abbrev pub HasDifferences : {W : Type 0} → (W → SinkState) → NamedFiles → List (List ℕ) → RunReport W → Written → Type 0
+HasDifferences state_of files words report standard =
+    (line : CommandLine) × Asks words line × LineFindsDifferences state_of files line report standard
+
+-- The program has failed: memory was refused for the words, it has not shown help or the version, or what the words ask for has failed.
+abbrev pub IsFailed : {W : Type 0} → (W → SinkState) → NamedFiles → List (List ℕ) → RunReport W → Written → Written → Type 0
+IsFailed state_of files words report standard error =
+    HasNoMemory standard error
+    ⊎ (HasNotShown words standard
+    ⊎ ((line : CommandLine) × Asks words line × LineFails state_of files line report standard error))

@@ -27,8 +27,6 @@ use Rattle.replay_program.specs.Checked.{check_lines, differences_of}
 use Rattle.replay_output.specs.Failures.{failure_lines, with_loss, NothingFailed}
 use Rattle.replay_output.specs.Line.{TakesToSort, answers_of}
 use Rattle.replay_output.specs.Lines.{lines, entry_word, entry_json}
-use Rattle.replay_program.specs.Summarized.{TakesToSummarize, run_summary}
-use Rattle.replay_summary.specs.declared.text.SummaryForm.{SummaryForm}
 use Rattle.replay_workers.specs.Run.{IsRun}
 use Rattle.replay_output.specs.Start.{start_line}
 use Rattle.replay_workers.specs.Worker.{TakesFrames}
@@ -108,11 +106,6 @@ IsChecked So_many recorded options files before after =
     IsReplayedBy (λ answers. Appends before after (check_lines recorded answers) × So_many (differences_of recorded answers))
     options files
 
--- all was read, resolved and summarized: the text printed is that of the summaries of all answers
-abbrev pub IsSummarized : SummaryForm → Options → List (Option (List ℕ)) → Option (List ℕ) → Option (List ℕ) → Type 0
-IsSummarized form options files before after =
-    IsReplayedBy (λ answers. Appends before after (run_summary form answers)) options files
-
 -- what became of a writer
 pub record Written : Type 0 where
   -- the bytes that it was given, if it reports them
@@ -189,7 +182,3 @@ FailsToPrint text Takes options files out error =
 -- The program failed.
 abbrev pub FailsToReplay : Options → List (Option (List ℕ)) → Written → Written → Type 0
 FailsToReplay options files out error = FailsToPrint (lines options.style) TakesToSort options files out error
-
--- The program failed, which was to print a summary.
-abbrev pub FailsToSummarize : SummaryForm → Options → List (Option (List ℕ)) → Written → Written → Type 0
-FailsToSummarize form options files out error = FailsToPrint (run_summary form) TakesToSummarize options files out error

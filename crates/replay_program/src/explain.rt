@@ -1,13 +1,13 @@
 //! All that follows the opening of the files of a replay with explanations: their batches are
-//! resolved, and the answers printed with the lines that explain their rejections.
+//! resolved, and the answers printed with what explains their rejections.
 
 ghost use Rattle.std.specs.Prelude.{◌≡◌, ◌≤◌, ◌≢◌, map, vec_len};
 ghost use Rattle.std.specs.Io.KnownBytes.{Keeps};
-ghost use Rattle.replay_program.specs.Explained.{FailsToExplain, IsReplayedWithExplanations};
+ghost use Rattle.replay_program.specs.Explained.{FailsToExplain, IsReplayedWithExplanations, explanation_form};
 ghost use Rattle.replay_program.specs.Replayed.{written};
 
-use replay_explanations::Explainer;
-use replay_output::{Ending, Options, Status, fail_to_start};
+use replay_explanations::{Explainer, ExplanationForm};
+use replay_output::{Ending, Form, Options, Status, fail_to_start};
 use replay_workers::{Gatekeeper, Outcome, ShareKeeper, run_observed};
 use resolver::MAX_PROXIES;
 use std::alloc::Global;
@@ -19,11 +19,11 @@ mod notes;
 mod report;
 
 pub use notes::explain_lines;
-pub use report::print_explained;
+pub use report::{print_explained, report_loss};
 
-/// Replays the files of these readers as [`replay_over`](crate::replay_over) does. Prints the
-/// lines of the answers to `out`, and under each the lines that explain the rejections in its
-/// batch.
+/// Replays the files of these readers as [`replay_over`](crate::replay_over) does. Prints the lines
+/// of the answers to `out`, and with each what explains the rejections in its batch: lines under it,
+/// or a member of its object of JSON.
 ///
 /// After a stop, a batch that was processed by the last step may have an answer without explanation.
 /// If memory is refused for an explanation, its proxy has a loss, and nothing is printed to `out`.
@@ -58,7 +58,8 @@ pub fn explain_over<
     ensures same { result ≢ Status.Differs }
 {
     serial::laws::answers_tell_verdicts();
-    let mut explainer = Explainer::new(alloc, options.window);
+    let form = explanation_form(options.style.form);
+    let mut explainer = Explainer::new(alloc, options.window, form);
     let run = run_observed(rt, alloc, readers, options, gatekeeper, &mut explainer);
     let (outcome, account) = match run {
         Ok(ended) => ended,
@@ -81,4 +82,14 @@ pub fn explain_over<
         ending,
     )
     .status
+}
+
+// Returns the form of the explanations of lines in this form.
+fn explanation_form(form: Form) -> ExplanationForm
+    ensures form { result ≡ explanation_form form }
+{
+    match form {
+        Form::Json => ExplanationForm::Json,
+        Form::Words | Form::Frames | Form::Kept => ExplanationForm::Words,
+    }
 }

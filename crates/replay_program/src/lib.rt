@@ -23,13 +23,12 @@ pub use check::{
     CheckReport, RepliesError, check_over, fail_to_read_replies, print_check, read_replies,
 };
 pub use explain::{explain_lines, explain_over, print_explained};
-pub use program::{
-    check_files, explain_files, replay_files, run, run_in, stream_files, summarize_files,
-};
-pub use replay::replay_over;
+pub use program::{run, run_in};
+pub use replay::{replay_and_summarize_over, replay_over};
 pub use replay_arguments::{
-    CommandLine, FileError, Files, OpeningError, Refusal, STANDARD_INPUT, create_files,
-    fail_to_create, fail_to_open, open_files, read_words,
+    CommandLine, FileError, Files, OpeningError, Refusal, STANDARD_INPUT, SummaryFile, Task,
+    WrittenFile, create_files, fail_to_create, fail_to_create_file, fail_to_open, open_files,
+    read_words,
 };
 pub use replay_output::{
     AnswerError, Ending, Filter, Form, Line, Options, PackedText, PrintError, ProxyFailure, Report,
@@ -42,4 +41,4 @@ pub use replay_workers::{
 };
 pub use report::RunReport;
 pub use stream::stream_over;
-pub use summary::{print_summary, summarize_over};
+pub use summary::{SummaryRequest, SummaryWriter, print_summary, summarize_over};

@@ -12,6 +12,10 @@ use std::sync::{Arc, Wait};
 use std::thread::Threads;
 use wire::{Sink, Source};
 
+mod beside;
+
+pub use beside::replay_and_summarize_over;
+
 /// Replays the files of these readers, of which each is that of the proxy at its place. Prints one
 /// line per answer to `out`, sorted, and one line a failure to `error`. After a fault of a file, a
 /// failed read included, the lines of the frames before it remain, and the other files continue.

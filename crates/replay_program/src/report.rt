@@ -1,6 +1,6 @@
 //! How a run has ended.
 
-ghost use Rattle.std.specs.Prelude.{◌≡◌, []};
+ghost use Rattle.std.specs.Prelude.{◌≡◌, [], None};
 
 use replay_output::Status;
 use replay_stream::Recorder;
@@ -13,17 +13,25 @@ pub struct RunReport<W> {
     /// The recorder of each proxy, if it has one, at its number. Empty if answers were not printed as
     /// they come, or if the run could not start.
     pub recorders: Vec<Option<Recorder<W>>>,
+    /// The writer of the file for the output, if that was created.
+    pub output: Option<W>,
+    /// The writer of the file for the summary, if that was created.
+    pub summary: Option<W>,
 }
 
 impl<W> RunReport<W> {
-    /// Creates the report of a run without recorders. Takes no memory.
-    pub fn without_recorders(alloc: Global, status: Status) -> Self
+    /// Creates the report of a run that has written no file. Takes no memory.
+    pub fn without_files(alloc: Global, status: Status) -> Self
         ensures status { result.status ≡ status }
         ensures recorders { result.recorders.items ≡ [] }
+        ensures output { result.output ≡ None }
+        ensures summary { result.summary ≡ None }
     {
         RunReport {
             status,
             recorders: Vec::new(alloc),
+            output: None,
+            summary: None,
         }
     }
 }

@@ -1,7 +1,7 @@
 //! All that follows the opening of the files where answers are printed as they come.
 
 ghost use Rattle.std.specs.Prelude.{◌≡◌, ◌≤◌, ◌<◌, ◌≢◌, ◌↔◌, ◌++◌, false, map, vec_len};
-ghost use Rattle.std.specs.Prelude.{IsErr, IsOk, IsTrue, OnOk};
+ghost use Rattle.std.specs.Prelude.{IsErr, IsOk, IsTrue, None, OnOk};
 ghost use Rattle.std.specs.List.{All};
 ghost use Rattle.std.specs.Io.KnownBytes.{Appends, Keeps};
 ghost use Rattle.replay_output.specs.Failures.{NothingFailed, failure_lines};
@@ -66,6 +66,7 @@ pub fn stream_over<
         (written (O.given out.old) (O.given out.new) (O.failures out.old) (O.failures out.new))
         (written (E.given error.old) (E.given error.new) (E.failures error.old)
         (E.failures error.new)) }
+    ensures output { result.output ≡ None }
     ensures ends { result.status ≢ Status.Usage }
     ensures same { result.status ≢ Status.Differs }
 {
@@ -74,7 +75,7 @@ pub fn stream_over<
         rt, alloc, readers, records, options, gatekeeper, out,
     ) {
         Ok(ended) => ended,
-        Err(cause) => return RunReport::without_recorders(alloc, fail_to_start(error, cause)),
+        Err(cause) => return RunReport::without_files(alloc, fail_to_start(error, cause)),
     };
     let Streamed {
         failures,
@@ -90,6 +91,8 @@ pub fn stream_over<
     RunReport {
         status: status_of(is_clean, failed, told),
         recorders,
+        output: None,
+        summary: None,
     }
 }
 

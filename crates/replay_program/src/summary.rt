@@ -1,27 +1,93 @@
 //! All that follows the opening of the files of a summary: their batches are resolved, and the
 //! answers summarized.
 
-ghost use Rattle.std.specs.Prelude.{◌≡◌, ◌≢◌, ◌≤◌, map, vec_len};
-ghost use Rattle.std.specs.Io.KnownBytes.{Keeps};
-ghost use Rattle.replay_program.specs.Replayed.{FailsToSummarize, IsSummarized, written};
+ghost use Rattle.std.specs.Prelude.{◌≡◌, ◌≢◌, ◌↔◌, ◌<◌, ◌≤◌, ◌+◌, ◌&&◌, ℕ, None, Some, length, map};
+ghost use Rattle.std.specs.Prelude.{IsErr, OnOk, vec_len};
+ghost use Rattle.std.specs.Io.KnownBytes.{Appends, Keeps};
+ghost use Rattle.replay_output.specs.Failures.{failure_lines, with_loss};
+ghost use Rattle.replay_program.specs.Replayed.{written};
+ghost use Rattle.replay_program.specs.Summarized.{FailsToSummarize, IsSummarized};
 
-use replay_output::{Ending, Options, Status, fail_to_start};
+use crate::explain::report_loss;
+use ranges::text_of_top;
+use replay_hot_ranges::HotRanges;
+use replay_output::{Ending, Options, ProxyFailure, Report, Status, fail_to_start};
 use replay_summary::SummaryForm;
-use replay_workers::{Gatekeeper, Outcome, ShareKeeper, run};
+use replay_workers::{Gatekeeper, Outcome, ShareKeeper, run, run_observed};
 use resolver::MAX_PROXIES;
 use std::alloc::Global;
 use std::sync::{Arc, Wait};
 use std::thread::Threads;
 use wire::{Sink, Source};
 
+mod beside;
+mod ranges;
 mod report;
 
+pub use beside::{SummaryWriter, print_with_summary};
+pub use ranges::TopRequest;
 pub use report::print_summary;
 
+/// What a summary consists of.
+#[derive(Clone, Copy, Debug)]
+pub struct SummaryRequest {
+    pub form: SummaryForm,
+    /// How many ranges that conflict most are listed, at most, of those read and of those written.
+    /// Without a number, none are counted.
+    pub top: Option<usize>,
+}
+
 /// Replays the files of these readers as [`replay_over`](crate::replay_over) does, and prints the
-/// summary of all answers in this form to `out`, and one line a failure to `error`. Lines of answers
-/// are made as the options say, and not printed.
+/// summary of all answers to `out`, and one line a failure to `error`. If they are requested, the
+/// summary lists the ranges that conflict most. Lines of answers are made as the options say, and not
+/// printed.
+///
+/// If memory is refused for the ranges, nothing is printed to `out`, and the last proxy has a loss.
+/// After a stop, the conflicts of the last step may not be counted.
 pub fn summarize_over<
+    S: Source + Send + Drop + 'static,
+    G: Gatekeeper + ShareKeeper + Send + Sync + Drop + 'static,
+    R: Threads + Wait + Copy + Send + 'static,
+    O: Sink,
+    E: Sink,
+>(
+    rt: &R,
+    alloc: Global,
+    readers: Vec<S>,
+    options: Options,
+    summary: SummaryRequest,
+    gatekeeper: &Arc<G, Global>,
+    out: &mut O,
+    error: &mut E,
+) -> Status
+    requires least_files { 1 ≤ vec_len readers }
+    requires most_files { vec_len readers ≤ MAX_PROXIES }
+    ensures done { result ≡ Status.Done
+        → IsSummarized summary.form summary.top options (map S.remaining readers.items)
+        (O.given out.old) (O.given out.new) }
+    ensures quiet { result ≡ Status.Done → Keeps (E.given error.old) (E.given error.new) }
+
+    // Something failed, and its lines were written, or the writer failed.
+    ensures failed { result ≡ Status.Failed
+        → FailsToSummarize summary.form summary.top options (map S.remaining readers.items)
+        (written (O.given out.old) (O.given out.new) (O.failures out.old) (O.failures out.new))
+        (written (E.given error.old) (E.given error.new) (E.failures error.old)
+        (E.failures error.new)) }
+    ensures ends { result ≢ Status.Usage }
+    ensures same { result ≢ Status.Differs }
+{
+    let form = summary.form;
+    match summary.top {
+        None => summarize_alone(rt, alloc, readers, options, form, gatekeeper, out, error),
+        Some(most) => {
+            let wanted = TopRequest { form, most };
+            summarize_with_top(rt, alloc, readers, options, wanted, gatekeeper, out, error)
+        }
+    }
+}
+
+// Summarizes without ranges.
+fn summarize_alone<
     S: Source + Send + Drop + 'static,
     G: Gatekeeper + ShareKeeper + Send + Sync + Drop + 'static,
     R: Threads + Wait + Copy + Send + 'static,
@@ -40,13 +106,11 @@ pub fn summarize_over<
     requires least_files { 1 ≤ vec_len readers }
     requires most_files { vec_len readers ≤ MAX_PROXIES }
     ensures done { result ≡ Status.Done
-        → IsSummarized form options (map S.remaining readers.items)
+        → IsSummarized form None options (map S.remaining readers.items)
         (O.given out.old) (O.given out.new) }
     ensures quiet { result ≡ Status.Done → Keeps (E.given error.old) (E.given error.new) }
-
-    // Something failed, and its lines were written, or the writer failed.
     ensures failed { result ≡ Status.Failed
-        → FailsToSummarize form options (map S.remaining readers.items)
+        → FailsToSummarize form None options (map S.remaining readers.items)
         (written (O.given out.old) (O.given out.new) (O.failures out.old) (O.failures out.new))
         (written (E.given error.old) (E.given error.new) (E.failures error.old)
         (E.failures error.new)) }
@@ -65,5 +129,100 @@ pub fn summarize_over<
         ..
     } = outcome;
     let ending = Ending::new(account.complete && all_sent, account.stop);
-    print_summary(alloc, out, error, &mut lines, form, &mut failures, ending).status
+    print_summary(
+        alloc,
+        out,
+        error,
+        &mut lines,
+        form,
+        b"",
+        &mut failures,
+        ending,
+    )
+    .status
+}
+
+// Summarizes with the ranges that conflict most.
+fn summarize_with_top<
+    S: Source + Send + Drop + 'static,
+    G: Gatekeeper + ShareKeeper + Send + Sync + Drop + 'static,
+    R: Threads + Wait + Copy + Send + 'static,
+    O: Sink,
+    E: Sink,
+>(
+    rt: &R,
+    alloc: Global,
+    readers: Vec<S>,
+    options: Options,
+    wanted: TopRequest,
+    gatekeeper: &Arc<G, Global>,
+    out: &mut O,
+    error: &mut E,
+) -> Status
+    requires least_files { 1 ≤ vec_len readers }
+    requires most_files { vec_len readers ≤ MAX_PROXIES }
+    ensures done { result ≡ Status.Done
+        → IsSummarized wanted.form (Some wanted.most) options (map S.remaining readers.items)
+        (O.given out.old) (O.given out.new) }
+    ensures quiet { result ≡ Status.Done → Keeps (E.given error.old) (E.given error.new) }
+    ensures failed { result ≡ Status.Failed
+        → FailsToSummarize wanted.form (Some wanted.most) options (map S.remaining readers.items)
+        (written (O.given out.old) (O.given out.new) (O.failures out.old) (O.failures out.new))
+        (written (E.given error.old) (E.given error.new) (E.failures error.old)
+        (E.failures error.new)) }
+    ensures ends { result ≢ Status.Usage }
+    ensures same { result ≢ Status.Differs }
+{
+    serial::laws::answers_tell_verdicts();
+    let mut hot = HotRanges::new(alloc, options.window);
+    let run = run_observed(rt, alloc, readers, options, gatekeeper, &mut hot);
+    let (outcome, account) = match run {
+        Ok(ended) => ended,
+        Err(cause) => return fail_to_start(error, cause),
+    };
+    let Outcome {
+        mut lines,
+        mut failures,
+        all_sent,
+        ..
+    } = outcome;
+    let complete = is_complete(account.complete, all_sent);
+    let ending = Ending::new(complete, account.stop);
+    match text_of_top(alloc, &hot, wanted) {
+        Ok(ranges) => {
+            print_summary(
+                alloc,
+                out,
+                error,
+                &mut lines,
+                wanted.form,
+                &ranges,
+                &mut failures,
+                ending,
+            )
+            .status
+        }
+        Err(_) => report_last_loss(error, &mut failures, ending).status,
+    }
+}
+
+// Returns whether every answer was taken, and every batch that was read was sent.
+fn is_complete(all_taken: bool, all_sent: bool) -> bool
+    ensures complete { result ≡ (all_taken && all_sent) }
+{
+    all_taken && all_sent
+}
+
+// Notes the loss of the last proxy, and prints what failed.
+fn report_last_loss<E: Sink>(error: &mut E, failures: &mut [ProxyFailure], ending: Ending) -> Report
+    requires some { 1 ≤ length failures.old }
+    ensures loss { (proxy : ℕ) → proxy + 1 ≡ length failures.old
+        → failures.new ≡ with_loss proxy failures.old }
+    ensures failure_lines { OnOk result.told (Appends (E.given error.old) (E.given error.new)
+        (failure_lines failures.new ending)) }
+    ensures told { IsErr result.told ↔ (E.failures error.old < E.failures error.new) }
+    ensures status { result.status ≡ Status.Failed }
+{
+    let last = failures.len() - 1;
+    report_loss(error, last, failures, ending)
 }

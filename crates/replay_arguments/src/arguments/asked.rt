@@ -5,6 +5,7 @@ ghost use Rattle.clap.specs.Words.{found_of, rows_of};
 ghost use Rattle.replay_arguments.specs.Asked.{HoldsAsked};
 ghost use Rattle.replay_arguments.specs.Words.{HasNumbers, HoldsNumbers, IsOfNoUse};
 
+use crate::arguments::details::{Details, details_of};
 use crate::arguments::mistake::Mistake;
 use crate::arguments::names::{Names, names_of};
 use crate::arguments::printing::{Printing, printing_of};
@@ -15,6 +16,7 @@ use replay_output::{Options, Style};
 #[derive(Clone, Copy, Debug)]
 pub struct Asked<'m, 'a> {
     pub printing: Printing,
+    pub details: Details,
     pub options: Options,
     pub names: Names<'m, 'a>,
 }
@@ -25,12 +27,14 @@ pub fn asked_of<'m, 'a>(matches: &'m ArgMatches<'a>) -> Result<Asked<'m, 'a>, Mi
     ensures none { OnErr result (IsOfNoUse (rows_of (found_of matches.entry.now))) }
 {
     let printing = printing_of(matches)?;
+    let details = details_of(matches, printing)?;
     let Some(options) = options_of(matches, printing.style) else {
         return Err(Mistake::Number);
     };
     let names = names_of(matches, printing)?;
     Ok(Asked {
         printing,
+        details,
         options,
         names,
     })

@@ -2,12 +2,16 @@
 
 ghost use Rattle.std.specs.Prelude.{◌≡◌, IfOk, false};
 ghost use Rattle.clap.specs.Words.{app_of, rule_of};
-ghost use Rattle.replay_arguments.specs.Command.{capacity_rule, check_rule, explain_rule, file_rule};
-ghost use Rattle.replay_arguments.specs.Command.{frames_rule, json_rule, limit_rule, number_rule};
-ghost use Rattle.replay_arguments.specs.Command.{only_rule, quiet_rule, replay_app, replies_rule};
-ghost use Rattle.replay_arguments.specs.Command.{stream_rule, summary_rule, versions_rule};
-ghost use Rattle.replay_arguments.specs.Command.{window_rule};
+ghost use Rattle.replay_arguments.specs.Command.{capacity_rule, check_rule, explain_rule};
+ghost use Rattle.replay_arguments.specs.Command.{file_rule, frames_rule, json_rule, limit_rule};
+ghost use Rattle.replay_arguments.specs.Command.{number_rule};
+ghost use Rattle.replay_arguments.specs.Command.{only_rule, output_rule, quiet_rule, replay_app};
+ghost use Rattle.replay_arguments.specs.Command.{replies_rule, stream_rule, summary_rule};
+ghost use Rattle.replay_arguments.specs.Command.{summary_to_rule, top_rule};
+ghost use Rattle.replay_arguments.specs.Command.{versions_rule, window_rule};
+ghost use Rattle.replay_arguments.specs.Command.{with_files, with_printing, with_resolving};
 
+use crate::arguments::details::MAX_TOP;
 use clap::builder::ValueParser;
 use clap::{Arg, ArgAction, Command};
 use conflict::MAX_WINDOW;
@@ -29,21 +33,47 @@ pub fn command<'a>(alloc: Global) -> Result<Command<'a>, AllocError>
         .version(VERSION)
         .about("Resolves recorded batches of transactions and prints the verdicts")
         .after_long_help(EXAMPLE);
+    let resolving = add_resolving(alloc, command)?;
+    let printing = add_printing(alloc, resolving)?;
+    let complete = add_files(alloc, printing)?;
+    complete.arg(file(alloc))
+}
+
+// Adds the options that say how batches are resolved.
+fn add_resolving<'a>(alloc: Global, command: Command<'a>) -> Result<Command<'a>, AllocError>
+    ensures app { IfOk result (λ added. app_of added ≡ with_resolving (app_of command.entry)) }
+{
     command
         .arg(capacity(alloc))?
         .arg(window(alloc))?
-        .arg(limit(alloc))?
+        .arg(limit(alloc))
+}
+
+// Adds the options that say what is printed.
+fn add_printing<'a>(alloc: Global, command: Command<'a>) -> Result<Command<'a>, AllocError>
+    ensures app { IfOk result (λ added. app_of added ≡ with_printing (app_of command.entry)) }
+{
+    command
         .arg(frames(alloc))?
         .arg(json(alloc))?
         .arg(quiet(alloc))?
         .arg(only(alloc))?
         .arg(versions(alloc))?
         .arg(explain(alloc))?
-        .arg(summary(alloc))?
+        .arg(summary(alloc))
+}
+
+// Adds the options that name files beside those of batches, and the last ones.
+fn add_files<'a>(alloc: Global, command: Command<'a>) -> Result<Command<'a>, AllocError>
+    ensures app { IfOk result (λ added. app_of added ≡ with_files (app_of command.entry)) }
+{
+    command
         .arg(check(alloc))?
         .arg(stream(alloc))?
         .arg(replies(alloc))?
-        .arg(file(alloc))
+        .arg(output(alloc))?
+        .arg(summary_to(alloc))?
+        .arg(top(alloc))
 }
 
 fn capacity<'a>(alloc: Global) -> Arg<'a>
@@ -145,7 +175,7 @@ fn explain<'a>(alloc: Global) -> Arg<'a>
     Arg::new(alloc, "explain")
         .long("explain")
         .action(ArgAction::SetTrue)
-        .help("Prints under each line why its transactions were rejected")
+        .help("Prints with each line why its transactions were rejected")
 }
 
 fn summary<'a>(alloc: Global) -> Arg<'a>
@@ -188,6 +218,38 @@ fn replies<'a>(alloc: Global) -> Arg<'a>
         .value_name("OUT")
         .action(ArgAction::Append)
         .help("With --stream, writes the records of answers to a file; once a FILE, in order")
+}
+
+fn output<'a>(alloc: Global) -> Arg<'a>
+    ensures rule { rule_of result ≡ output_rule }
+    ensures local { result.global ≡ false }
+{
+    Arg::new(alloc, "output")
+        .short('o')
+        .long("output")
+        .value_name("FILE")
+        .help("Writes the output to a file instead of standard output")
+}
+
+fn summary_to<'a>(alloc: Global) -> Arg<'a>
+    ensures rule { rule_of result ≡ summary_to_rule }
+    ensures local { result.global ≡ false }
+{
+    Arg::new(alloc, "summary-to")
+        .long("summary-to")
+        .value_name("FILE")
+        .help("Writes a summary to a file, beside the answers")
+}
+
+fn top<'a>(alloc: Global) -> Arg<'a>
+    ensures rule { rule_of result ≡ top_rule }
+    ensures local { result.global ≡ false }
+{
+    Arg::new(alloc, "top")
+        .long("top")
+        .value_name("N")
+        .value_parser(ValueParser::unsigned(1, MAX_TOP as u64))
+        .help("With --summary, lists the N ranges that conflict most, from 1 to 1000")
 }
 
 fn file<'a>(alloc: Global) -> Arg<'a>

@@ -1,6 +1,6 @@
 //! Whether the arguments ask that rejections are explained.
 
-ghost use Rattle.std.specs.Prelude.{◌≡◌, ◌↔◌, IfSome, IsTrue, false, true};
+ghost use Rattle.std.specs.Prelude.{◌≡◌, ◌↔◌, ◌⊎◌, IfSome, IsTrue, false, true};
 ghost use Rattle.clap.specs.Words.{found_of, rows_of};
 ghost use Rattle.replay_arguments.specs.Words.{HasExplain, HoldsExplain, HoldsForm, HoldsStream};
 ghost use Rattle.replay_arguments.specs.Words.{HoldsSummary, IsPlain};
@@ -9,8 +9,8 @@ use clap::ArgMatches;
 use replay_output::Form;
 use replay_summary::SummaryForm;
 
-/// Returns whether rejections are to be explained, unless another option asks for something else than
-/// lines of words at the end.
+/// Returns whether rejections are to be explained, unless another option asks for something else
+/// than lines of words or of JSON at the end.
 pub fn explains(
     matches: &ArgMatches,
     form: Form,
@@ -34,10 +34,10 @@ pub fn explains(
     Some(asked)
 }
 
-// Returns whether answers are printed by lines of words at the end.
+// Returns whether answers are printed by lines of words or of JSON at the end.
 fn is_plain(form: Form, is_streamed: bool, summary: Option<SummaryForm>) -> bool
     ensures plain { IsTrue result
-        ↔ ((form ≡ Form.Words) × (is_streamed ≡ false) × (summary ≡ None)) }
+        ↔ (((form ≡ Form.Words) ⊎ (form ≡ Form.Json)) × (is_streamed ≡ false) × (summary ≡ None)) }
 {
-    form == Form::Words && !is_streamed && summary.is_none()
+    matches!(form, Form::Words | Form::Json) && !is_streamed && summary.is_none()
 }

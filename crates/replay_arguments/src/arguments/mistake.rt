@@ -27,6 +27,8 @@ pub enum Mistake {
     Summary,
     /// Explanations are requested without lines of words at the end.
     Explain,
+    /// Ranges are requested without a summary that is printed.
+    Top,
     /// A number is out of its range. `clap` refuses it itself.
     Number,
     /// There are no files, or too many.
@@ -39,6 +41,8 @@ pub enum Mistake {
     RecordsAlone,
     /// The files for records are another number than the files.
     Records,
+    /// A file for the summary is given without answers alone, as words or JSON, at the end.
+    SummaryFile,
 }
 
 impl Mistake {
@@ -64,14 +68,18 @@ impl Mistake {
                 "--summary is wanted without --check, --stream, --frames, --quiet, --only and --versions"
             }
             Mistake::Explain => {
-                "--explain is wanted without --check, --stream, --summary, --frames and --json"
+                "--explain is wanted without --check, --stream, --summary and --frames"
             }
+            Mistake::Top => "--top is wanted with --summary",
             Mistake::Number => "a number is out of its range",
             Mistake::Files => "from 1 to 64 files are wanted",
             Mistake::Input => "standard input (-) can be given only once",
             Mistake::Replies => "--check REPLIES is wanted once a file",
             Mistake::RecordsAlone => "--replies OUT is wanted with --stream",
             Mistake::Records => "--replies OUT is wanted once a file",
+            Mistake::SummaryFile => {
+                "--summary-to is wanted without --check, --stream, --summary, --explain and --frames"
+            }
         }
     }
 }

@@ -1,15 +1,17 @@
 //! The names of files among the arguments.
 
-ghost use Rattle.std.specs.Prelude.{◌≡◌, ◌≤◌, ◌⊎◌, [], IfOk, IfSome, OnErr, Some, codes, is_some};
-ghost use Rattle.std.specs.Prelude.{length, map, true};
+ghost use Rattle.std.specs.Prelude.{◌≡◌, ◌≤◌, ◌⊎◌, [], IfOk, IfSome, OnErr, OnOk, Some, codes};
+ghost use Rattle.std.specs.Prelude.{is_some, length, map, true};
 ghost use Rattle.clap.specs.Words.{all_of, found_of, rows_of};
 ghost use Rattle.replay_arguments.specs.Names.{HoldsNames};
-ghost use Rattle.replay_arguments.specs.Words.{HasFiles, HasRecords, HasReplies, HoldsForm};
-ghost use Rattle.replay_arguments.specs.Words.{HoldsStream, NamesNothing, named};
+ghost use Rattle.replay_arguments.specs.Words.{HasFiles, HasRecords, HasReplies, HoldsExplain};
+ghost use Rattle.replay_arguments.specs.Words.{HoldsForm, HoldsStream, HoldsSummary};
+ghost use Rattle.replay_arguments.specs.Words.{NamesNothing, named};
 
 use crate::arguments::input::has_input_once;
 use crate::arguments::mistake::Mistake;
 use crate::arguments::printing::Printing;
+use crate::arguments::summary_file::{SummaryFile, summary_file};
 use clap::ArgMatches;
 use replay_output::Form;
 use resolver::MAX_PROXIES;
@@ -23,6 +25,10 @@ pub struct Names<'m, 'a> {
     pub replies: &'m [&'a str],
     /// Those for records of answers, one per file if they are requested, and otherwise none.
     pub records: &'m [&'a str],
+    /// That of the file for the output, if it isn't standard output.
+    pub output: Option<&'a str>,
+    /// The file for the summary, if there is one.
+    pub summary: Option<SummaryFile<'a>>,
 }
 
 /// Returns the names, unless they are too few or too many for what is printed.
@@ -30,9 +36,16 @@ pub fn names_of<'m, 'a>(
     matches: &'m ArgMatches<'a>,
     printing: Printing,
 ) -> Result<Names<'m, 'a>, Mistake>
-    ensures names { IfOk result (HoldsNames (rows_of (found_of matches.entry.now)) printing) }
-    ensures none { OnErr result (HoldsForm (rows_of (found_of matches.entry.now)) printing.style.form
+    ensures names { HoldsForm (rows_of (found_of matches.entry.now)) printing.style.form
         → HoldsStream (rows_of (found_of matches.entry.now)) printing.is_streamed
+        → HoldsSummary (rows_of (found_of matches.entry.now)) printing.style.form printing.summary
+        → HoldsExplain (rows_of (found_of matches.entry.now)) printing.explains
+        → IfOk result (HoldsNames (rows_of (found_of matches.entry.now)) printing) }
+    ensures none { OnErr result (
+        HoldsForm (rows_of (found_of matches.entry.now)) printing.style.form
+        → HoldsStream (rows_of (found_of matches.entry.now)) printing.is_streamed
+        → HoldsSummary (rows_of (found_of matches.entry.now)) printing.style.form printing.summary
+        → HoldsExplain (rows_of (found_of matches.entry.now)) printing.explains
         → NamesNothing (rows_of (found_of matches.entry.now))) }
 {
     let Some(files) = files_of(matches) else {
@@ -43,10 +56,15 @@ pub fn names_of<'m, 'a>(
     }
     let replies = replies_of(matches, printing.style.form, files.len())?;
     let records = records_of(matches, printing.is_streamed, files.len())?;
+    let Some(summary) = summary_file(matches, printing) else {
+        return Err(Mistake::SummaryFile);
+    };
     Ok(Names {
         files,
         replies,
         records,
+        output: matches.get_str("output"),
+        summary,
     })
 }
 
@@ -100,7 +118,10 @@ fn records_of<'m, 'a>(
     ensures records { IfOk result (λ records. map (λ name. name.now) records.now
         ≡ named (all_of (codes "replies") (rows_of (found_of matches.entry.now)))) }
     ensures each { IfOk result (λ records. (length records.now ≡ 0)
-        ⊎ ((is_streamed ≡ true) × (length records.now ≡ files))) }
+        ⊎ (length records.now ≡ files)) }
+    ensures streamed { OnOk result (
+        is_some (all_of (codes "replies") (rows_of (found_of matches.entry.now))) ≡ true
+        → is_streamed ≡ true) }
     ensures none { OnErr result (HoldsStream (rows_of (found_of matches.entry.now)) is_streamed
         → (is_some (all_of (codes "replies") (rows_of (found_of matches.entry.now))) ≡ true)
         × ¬ HasRecords files (rows_of (found_of matches.entry.now))) }

@@ -44,8 +44,9 @@ fn asks_for_all(matches: &ArgMatches) -> Option<bool>
     Some(!is_filtered(quiet, name, text))
 }
 
-// Returns the form of the summary in place of lines of this form, if it is alone.
-fn form_alone(form: Form, is_streamed: bool, all: bool) -> Option<SummaryForm>
+/// Returns the form of a summary of lines of this form, unless they come as answers do, or
+/// something else is requested.
+pub fn form_alone(form: Form, is_streamed: bool, all: bool) -> Option<SummaryForm>
     ensures form { IfSome result (λ summary. summary_form form ≡ Some summary) }
     ensures alone { IfSome result (λ _. (is_streamed ≡ false) × IsTrue all) }
     ensures none { result ≡ None → is_streamed ≡ false → IsTrue all

@@ -1,7 +1,8 @@
 //! Text in which a word that recurs takes one byte, and so does a run of one word.
 
 ghost use Rattle.std.specs.Prelude.{◌≡◌, ◌↔◌, ◌<◌, ◌++◌, ℕ, [], take, OnOk, OnErr, IfSome, Some};
-ghost use Rattle.std.specs.Prelude.{IsTrue};
+ghost use Rattle.std.specs.Prelude.{IsTrue, false};
+ghost use Rattle.std.specs.Str.{IsAscii};
 ghost use Rattle.std.specs.Io.{WritesAtMost};
 ghost use Rattle.std.specs.Io.KnownBytes.{Appends, Keeps, WriteAppends};
 ghost use Rattle.replay_output.specs.Packed.{word_text};
@@ -75,6 +76,21 @@ impl PackedText {
             }
         }
         Ok(self.units.push(word.unit())?)
+    }
+
+    /// Removes these letters from the end of the text, which have to be ASCII. Returns whether it
+    /// ends in them, letter by letter. If not, the text is as it was.
+    pub fn remove_end(&mut self, end: &[u8]) -> bool
+        requires ascii { IsAscii end.now }
+        ensures removed { IsTrue result → self.old ≡ self.new ++ end.now }
+        ensures same { result ≡ false → self.new ≡ self.old }
+    {
+        if !self.units.ends_with(end) {
+            return false;
+        }
+        let kept = self.units.len() - end.len();
+        self.units.truncate(kept);
+        true
     }
 
     /// Prints the text. After a failure a prefix of it is printed. Takes no memory.

@@ -9,7 +9,7 @@ ghost use Rattle.replay_output.specs.Failures.{failure_lines, with_loss, Nothing
 ghost use Rattle.replay_output.specs.Line.{AreLines, answers_of};
 ghost use Rattle.replay_output.specs.Lines.{lines_by};
 ghost use Rattle.replay_output.specs.declared.options.style.Style.{Style};
-ghost use Rattle.replay_program.specs.Explained.{TakesToExplain, explained_line};
+ghost use Rattle.replay_program.specs.Explained.{TakesToExplain, explained_line, explanation_form};
 
 use super::notes::explain_lines;
 use replay_explanations::Explainer;
@@ -19,8 +19,8 @@ use replay_output::{
 use std::alloc::Global;
 use wire::Sink;
 
-/// Puts the explanation of each answer under its line, and prints all lines and what failed, as
-/// [`print_report`] does. `received` and `failures` hold those of each proxy at its number.
+/// Puts the explanation of each answer under its line or into it, and prints all lines and what
+/// failed, as [`print_report`] does. `received` and `failures` hold those of each proxy at its number.
 ///
 /// If memory is refused for an explanation, nothing is printed to `out`, and its proxy has a loss
 /// from then on.
@@ -34,7 +34,8 @@ pub fn print_explained<O: Sink, E: Sink>(
     ending: Ending,
 ) -> Report
     requires proxies { length failures.old ≡ length received.old }
-    ensures lines { (style : Style) → AreLines style (map vec_items received.old)
+    ensures lines { (style : Style) → explanation_form style.form ≡ explainer.now.form
+        → AreLines style (map vec_items received.old)
         → OnOk result.printed (Appends (O.given out.old) (O.given out.new)
         (lines_by (explained_line style (text_of explainer.now.texts))
         (map answers_of (map vec_items received.old)))) }
@@ -44,7 +45,8 @@ pub fn print_explained<O: Sink, E: Sink>(
         → TakesToExplain (text_of explainer.now.texts) (map vec_items received.old) proxy }
     ensures nothing { (proxy : ℕ) → result.printed ≡ Err (PrintError.Memory proxy)
         → O.given out.new ≡ O.given out.old }
-    ensures beginning { (style : Style) → AreLines style (map vec_items received.old)
+    ensures beginning { (style : Style) → explanation_form style.form ≡ explainer.now.form
+        → AreLines style (map vec_items received.old)
         → result.printed ≡ Err PrintError.Write → IfSome (O.given out.new) (λ _. (n : ℕ)
         × Appends (O.given out.old) (O.given out.new)
         (take n (lines_by (explained_line style (text_of explainer.now.texts))
@@ -70,8 +72,8 @@ pub fn print_explained<O: Sink, E: Sink>(
     print_report(alloc, out, error, received, failures, ending)
 }
 
-// Notes the loss of a proxy, and prints what failed. The answers aren't printed.
-fn report_loss<E: Sink>(
+/// Notes the loss of a proxy, and prints what failed. The answers aren't printed.
+pub fn report_loss<E: Sink>(
     error: &mut E,
     proxy: usize,
     failures: &mut [ProxyFailure],

@@ -3,7 +3,7 @@
 ghost use Rattle.std.specs.Prelude.{◌≡◌, ◌<◌, ◌⊎◌, ℕ, List};
 ghost use Rattle.std.specs.Io.KnownBytes.{Appends, Keeps};
 ghost use Rattle.replay_program.specs.Program.{HasDifferences, HasNoMemory, HasReadNoText, IsDone};
-ghost use Rattle.replay_program.specs.Program.{IsFailed, Told, not_text};
+ghost use Rattle.replay_program.specs.Program.{IsFailed, Told, named_files, not_text};
 ghost use Rattle.replay_program.specs.Replayed.{written};
 ghost use Rattle.replay_stream.specs.Sinks.{state_by};
 ghost use Rattle.replay_output.specs.Start.{start_line};
@@ -40,12 +40,15 @@ pub fn run_in<R: Threads + Wait + Copy + Send + 'static, V: Env, F: Files, O: Si
     error: &mut E,
 ) -> RunReport<F::Writer>
     ensures done { result.status ≡ Status.Done → (words : List (List ℕ))
-        × IsDone (state_by F.Writer.given F.Writer.failures) (F.contents files.now)
-        (F.begun files.now) words result.recorders.items
+        × IsDone (state_by F.Writer.given F.Writer.failures)
+        (named_files (F.contents files.now) (F.has_opened files.now) (F.cannot_open files.now)
+        (F.begun files.now) (F.has_created files.now) (F.cannot_create files.now)) words result
         (written (O.given out.old) (O.given out.new) (O.failures out.old) (O.failures out.new)) }
     ensures quiet { result.status ≡ Status.Done → Keeps (E.given error.old) (E.given error.new) }
     ensures differs { result.status ≡ Status.Differs → (words : List (List ℕ))
-        × HasDifferences (F.contents files.now) words
+        × HasDifferences (state_by F.Writer.given F.Writer.failures)
+        (named_files (F.contents files.now) (F.has_opened files.now) (F.cannot_open files.now)
+        (F.begun files.now) (F.has_created files.now) (F.cannot_create files.now)) words result
         (written (O.given out.old) (O.given out.new) (O.failures out.old) (O.failures out.new)) }
     ensures quiet_too { result.status ≡ Status.Differs
         → Keeps (E.given error.old) (E.given error.new) }
@@ -53,9 +56,8 @@ pub fn run_in<R: Threads + Wait + Copy + Send + 'static, V: Env, F: Files, O: Si
         (written (O.given out.old) (O.given out.new) (O.failures out.old) (O.failures out.new))
         (written (E.given error.old) (E.given error.new) (E.failures error.old) (E.failures error.new))
         ⊎ ((words : List (List ℕ)) × IsFailed (state_by F.Writer.given F.Writer.failures)
-        (F.has_opened files.now) (F.cannot_open files.now) (F.contents files.now)
-        (F.has_created files.now) (F.cannot_create files.now) (F.begun files.now) words
-        result.recorders.items
+        (named_files (F.contents files.now) (F.has_opened files.now) (F.cannot_open files.now)
+        (F.begun files.now) (F.has_created files.now) (F.cannot_create files.now)) words result
         (written (O.given out.old) (O.given out.new) (O.failures out.old) (O.failures out.new))
         (written (E.given error.old) (E.given error.new) (E.failures error.old)
         (E.failures error.new))) }
@@ -70,7 +72,7 @@ pub fn run_in<R: Threads + Wait + Copy + Send + 'static, V: Env, F: Files, O: Si
 {
     match command_line(alloc, environment) {
         Ok(words) => run(rt, alloc, files, &words, out, error),
-        Err(cause) => RunReport::without_recorders(alloc, fail_to_read(error, cause)),
+        Err(cause) => RunReport::without_files(alloc, fail_to_read(error, cause)),
     }
 }
 

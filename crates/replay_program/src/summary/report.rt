@@ -3,14 +3,15 @@
 ghost use Rattle.std.specs.Prelude.{◌≡◌, ◌≢◌, ◌↔◌, ◌<◌, ◌≤◌, ℕ, map, take, length, vec_items};
 ghost use Rattle.std.specs.Prelude.{All, IfErr, IfOk, IfSome, IsErr, IsOk, OnOk};
 ghost use Rattle.std.specs.Io.KnownBytes.{Appends, Keeps};
-ghost use Rattle.checking.specs.InOrder.{Rise};
+ghost use Rattle.checking.specs.InOrder.{Rise, in_order_by};
 ghost use Rattle.replay_output.specs.Failures.{failure_lines, with_loss, NothingFailed};
 ghost use Rattle.replay_output.specs.Line.{AreLines, answers_of, counted_of_line, version_of_line};
 ghost use Rattle.replay_output.specs.declared.options.style.Style.{Style};
-ghost use Rattle.replay_program.specs.Summarized.{TakesToSummarize, run_summary};
+ghost use Rattle.replay_program.specs.Summarized.{TakesToSummarize, run_summary, with_ranges};
 ghost use Rattle.replay_summary.specs.Summary.{summary_of};
 ghost use Rattle.replay_summary.specs.Text.{text};
 
+use super::ranges::add_ranges;
 use replay_output::{
     Ending, Line, PrintError, ProxyFailure, Report, Status, note_loss, nothing_failed,
     print_failures, sort_lines,
@@ -19,9 +20,10 @@ use replay_summary::{SummaryError, SummaryForm, summarize_all, summary_text};
 use std::alloc::Global;
 use wire::{Failed, Sink, write_and_flush};
 
-/// Prints the summary of the answers to `out`, and flushes it. Then prints what failed to `error`, as
-/// [`print_failures`] does. `received` holds the lines of each proxy at its number, in the order in
-/// which the answers were received, and `failures` what failed of it.
+/// Prints the summary of the answers, with the text of these ranges, to `out`, and flushes it. Then
+/// prints what failed to `error`, as [`print_failures`] does. `received` holds the lines of each proxy
+/// at its number, in the order in which the answers were received, and `failures` what failed of it.
+/// Without ranges their text is empty.
 ///
 /// If memory is refused while the lines of a proxy are sorted, nothing is printed to `out`, and that
 /// proxy has a loss from then on. The last proxy has it if memory is refused for the summary, or if a
@@ -32,6 +34,7 @@ pub fn print_summary<O: Sink, E: Sink>(
     error: &mut E,
     received: &mut [Vec<Line>],
     form: SummaryForm,
+    ranges: &[u8],
     failures: &mut [ProxyFailure],
     ending: Ending,
 ) -> Report
@@ -39,7 +42,8 @@ pub fn print_summary<O: Sink, E: Sink>(
     requires proxies { length failures.old ≡ length received.old }
     ensures lines { (style : Style) → AreLines style (map vec_items received.old)
         → OnOk result.printed (Appends (O.given out.old) (O.given out.new)
-        (run_summary form (map answers_of (map vec_items received.old)))) }
+        (with_ranges form (run_summary form (map answers_of (map vec_items received.old)))
+        ranges.now)) }
     ensures memory { (proxy : ℕ) → result.printed ≡ Err (PrintError.Memory proxy)
         → proxy < length received.old }
     ensures takes { (proxy : ℕ) → result.printed ≡ Err (PrintError.Memory proxy)
@@ -49,7 +53,8 @@ pub fn print_summary<O: Sink, E: Sink>(
     ensures beginning { (style : Style) → AreLines style (map vec_items received.old)
         → result.printed ≡ Err PrintError.Write → IfSome (O.given out.new) (λ _. (n : ℕ)
         × Appends (O.given out.old) (O.given out.new)
-        (take n (run_summary form (map answers_of (map vec_items received.old))))) }
+        (take n (with_ranges form (run_summary form (map answers_of (map vec_items received.old)))
+        ranges.now))) }
     ensures write { (result.printed ≡ Err PrintError.Write)
         ↔ (O.failures out.old < O.failures out.new) }
     ensures failure_lines { OnOk result.told (Appends (E.given error.old) (E.given error.new)
@@ -65,7 +70,7 @@ pub fn print_summary<O: Sink, E: Sink>(
     ensures ends { result.status ≢ Status.Usage }
     ensures same { result.status ≢ Status.Differs }
 {
-    let printed = print_text(alloc, out, received, form);
+    let printed = print_text(alloc, out, received, form, ranges);
     if let Err(PrintError::Memory(proxy)) = printed {
         note_loss(failures, proxy);
     }
@@ -83,11 +88,13 @@ fn print_text<W: Sink>(
     out: &mut W,
     received: &mut [Vec<Line>],
     form: SummaryForm,
+    ranges: &[u8],
 ) -> Result<(), PrintError>
     requires some { 1 ≤ length received.old }
     ensures lines { (style : Style) → AreLines style (map vec_items received.old)
         → OnOk result (Appends (W.given out.old) (W.given out.new)
-        (run_summary form (map answers_of (map vec_items received.old)))) }
+        (with_ranges form (run_summary form (map answers_of (map vec_items received.old)))
+        ranges.now)) }
     ensures memory { (proxy : ℕ) → result ≡ Err (PrintError.Memory proxy)
         → proxy < length received.old }
     ensures takes { (proxy : ℕ) → result ≡ Err (PrintError.Memory proxy)
@@ -97,10 +104,11 @@ fn print_text<W: Sink>(
     ensures beginning { (style : Style) → AreLines style (map vec_items received.old)
         → result ≡ Err PrintError.Write
         → IfSome (W.given out.new) (λ _. (n : ℕ) × Appends (W.given out.old) (W.given out.new)
-        (take n (run_summary form (map answers_of (map vec_items received.old))))) }
+        (take n (with_ranges form (run_summary form (map answers_of (map vec_items received.old)))
+        ranges.now))) }
     ensures write { (result ≡ Err PrintError.Write) ↔ (W.failures out.old < W.failures out.new) }
 {
-    let made = match text_of(alloc, received, form) {
+    let made = match text_of(alloc, received, form, ranges) {
         Ok(made) => made,
         Err(proxy) => return Err(PrintError::Memory(proxy)),
     };
@@ -110,34 +118,48 @@ fn print_text<W: Sink>(
     }
 }
 
-// Sorts the lines, and returns the text of their summaries. An error is the proxy whose lines could
-// not be sorted, or the last one if there is no summary.
-fn text_of(alloc: Global, received: &mut [Vec<Line>], form: SummaryForm) -> Result<Vec<u8>, usize>
+/// Sorts the lines, and returns the text of their summaries with that of these ranges. An error is
+/// the proxy whose lines could not be sorted, or the last one if there is no summary.
+pub fn text_of(
+    alloc: Global,
+    received: &mut [Vec<Line>],
+    form: SummaryForm,
+    ranges: &[u8],
+) -> Result<Vec<u8>, usize>
     requires some { 1 ≤ length received.old }
     ensures text { (style : Style) → AreLines style (map vec_items received.old)
         → IfOk result (λ made. made.items
-        ≡ run_summary form (map answers_of (map vec_items received.old))) }
+        ≡ with_ranges form (run_summary form (map answers_of (map vec_items received.old)))
+        ranges.now) }
+    ensures sorted { OnOk result (map vec_items received.new
+        ≡ map (in_order_by version_of_line) (map vec_items received.old)) }
     ensures proxy { IfErr result (λ proxy. proxy < length received.old) }
     ensures takes { IfErr result (TakesToSummarize (map vec_items received.old)) }
 {
     sort_lines(alloc, received)?;
     let last = received.len() - 1;
-    match text_of_sorted(alloc, received, form) {
+    match text_of_sorted(alloc, received, form, ranges) {
         Ok(made) => Ok(made),
         Err(_) => Err(last),
     }
 }
 
-// Returns the text of the summaries of lines that are sorted.
+// Returns the text of the summaries of lines that are sorted, with that of these ranges.
 fn text_of_sorted(
     alloc: Global,
     sorted: &[Vec<Line>],
     form: SummaryForm,
+    ranges: &[u8],
 ) -> Result<Vec<u8>, SummaryError>
     requires rise { All (Rise version_of_line) (map vec_items sorted.now) }
-    ensures text { IfOk result (λ made. made.items ≡ text form
-        (map (λ lines. summary_of (map counted_of_line lines)) (map vec_items sorted.now))) }
+    ensures text { IfOk result (λ made. made.items ≡ with_ranges form (text form
+        (map (λ lines. summary_of (map counted_of_line lines)) (map vec_items sorted.now)))
+        ranges.now) }
 {
     let summaries = summarize_all(alloc, sorted)?;
-    summary_text(alloc, &summaries, form)
+    let mut made = summary_text(alloc, &summaries, form)?;
+    match add_ranges(&mut made, form, ranges) {
+        Ok(()) => Ok(made),
+        Err(_) => Err(SummaryError::Memory),
+    }
 }

@@ -4,8 +4,7 @@ use Rattle.std.proofs.lemmas.Int.{ints, to_z-of_z}
 use Rattle.std.proofs.lemmas.List.{length-map}
 use Rattle.keyspace.specs.Processed.{Processed}
 use Rattle.keyspace.specs.Run.{run as run_of}
-use Rattle.replay_explanations.specs.Explainer.{HasExplained}
-use Rattle.replay_explanations.specs.Lines.{explanation_at}
+use Rattle.replay_explanations.specs.Explainer.{HasExplained, Setting}
 use Rattle.replay_output.specs.declared.failures.Ending.{Ending}
 use Rattle.replay_output.specs.declared.failures.ProxyFailure.{ProxyFailure}
 use Rattle.replay_output.specs.declared.line.Line.{Line}
@@ -13,7 +12,7 @@ use Rattle.replay_output.specs.Line.{answers_of}
 use Rattle.replay_output.specs.Lines.{lines_by}
 use Rattle.replay_output.specs.Failures.{failure_lines, NothingFailed}
 use Rattle.replay_workers.specs.Run.{IsObservedRun, is_complete}
-use Rattle.replay_program.specs.Explained.{Explained, TakesToExplain, explained_line, explained_lines}
+use Rattle.replay_program.specs.Explained.{Explained, TakesToExplain, explained_line, explained_lines, explanation_form, explanations_of}
 use Rattle.replay_program.specs.Replayed.{written, Took, TookBeginning}
 use Rattle.replay_program.proofs.Explaining.{seen_as, texts_are}
 use Rattle.replay_program.proofs.Replaying.{complete_from, ending_is, held_ok, are_lines, is_replayed_over, ran_as_and_failed}
@@ -61,11 +60,15 @@ returns g c =
     let list = observed.seen.list in
     let kept : to_z w64 (of_z w64 options.window) ≡ options.window =
     first_of (search rules, grind (arith, ints, to_z-of_z)) in
-    let window_is = c.run_observed-run.ensures.setting ∙ c.new-explainer.ensures.window ∙ kept in
-    let texts = texts_are explainer account.stop options.window run.log run.chain observed.seen window_is in
+    let setting_is = c.run_observed-run.ensures.setting in
+    let window_is = ap (λ (s : Setting). s.window) setting_is ∙ c.new-explainer.ensures.window ∙ kept in
+    let form = explanation_form options.style.form in
+    let form_is : explainer.form ≡ form =
+    ap (λ (s : Setting). s.form) setting_is ∙ c.new-explainer.ensures.form ∙ c.explanation_form-form.ensures.form in
+    let texts = texts_are explainer account.stop options.window run.log run.chain observed.seen form form_is window_is in
     let ran : IsObservedRun (λ seen. seen ≡ list) options files received failures complete account.stop = record {
       run = run;
-      seen = seen_as explainer account.stop options.window run.log run.chain observed.seen window_is;
+      seen = seen_as explainer account.stop options.window run.log run.chain observed.seen form form_is window_is;
     } in
     let ending = ending_is complete account.stop c.new-ending.result c.new-ending.ensures.ending in
     let report = c.print_explained.ensures in
@@ -76,7 +79,7 @@ returns g c =
     (g.E.Sink.failures c.args.error.now) (g.E.Sink.failures c.print_explained.new.error) in
     let are = are_lines options files received failures complete account.stop run in
     let lines = subst (λ (explained : Explained). OnOk c.print_explained.result.printed
-    (Took out (lines_by (explained_line options.style explained) (map answers_of received)))) texts (report.lines options.style are) in
+    (Took out (lines_by (explained_line options.style explained) (map answers_of received)))) texts (report.lines options.style (sym form_is) are) in
     record {
       done = λ is.
           let parts = report.done.0 is in
@@ -93,7 +96,7 @@ returns g c =
             explained = list;
             failed = ran_as_and_failed options files received failures complete account.stop run
                 (IsObservedRun (λ seen. seen ≡ list) options files) ran (explained_lines options list)
-                (TakesToExplain (explanation_at options.window list)) out error told
+                (TakesToExplain (explanations_of options list)) out error told
                 c.print_explained.result.printed c.print_explained.result.told lines
                 (λ proxy memory. omega (
                   arith,
@@ -105,7 +108,7 @@ returns g c =
                 report.nothing
                 (λ wrote. subst (λ (explained : Explained).
                 TookBeginning out (lines_by (explained_line options.style explained) (map answers_of received))) texts
-                (report.beginning options.style are wrote))
+                (report.beginning options.style (sym form_is) are wrote))
                 report.write.0
                 (subst (λ (e : Ending). OnOk c.print_explained.result.told (Took error (failure_lines told e))) ending report.failure_lines)
                 report.told.0 report.loss report.no_loss

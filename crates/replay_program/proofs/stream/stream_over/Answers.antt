@@ -13,15 +13,16 @@ use Rattle.replay_program.proofs.stream.stream_over.Goals as goal
 
 pub returns-in-Err : goal.returns-in-Err
 returns-in-Err g c = record {
-  done = λ is. cc (c.fail_to_start.ensures.status, c.without_recorders.ensures.status, is);
-  quiet = λ is. cc (c.fail_to_start.ensures.status, c.without_recorders.ensures.status, is);
+  done = λ is. cc (c.fail_to_start.ensures.status, c.without_files.ensures.status, is);
+  quiet = λ is. cc (c.fail_to_start.ensures.status, c.without_files.ensures.status, is);
   failed = λ is. inl (record {
     cause = c.in-Err.cause;
     nothing_printed = ap (λ (s : SinkState). s.given) c.in-Err.ensures.nothing;
     told = c.fail_to_start.ensures.line;
   });
-  ends = λ is. cc (c.fail_to_start.ensures.status, c.without_recorders.ensures.status, is);
-  same = λ is. cc (c.fail_to_start.ensures.status, c.without_recorders.ensures.status, is);
+  output = c.without_files.ensures.output;
+  ends = λ is. cc (c.fail_to_start.ensures.status, c.without_files.ensures.status, is);
+  same = λ is. cc (c.fail_to_start.ensures.status, c.without_files.ensures.status, is);
 }
 
 pub returns : goal.returns
@@ -78,6 +79,7 @@ returns g c =
           (λ all.
           let done = ends.done.1 (clean.1 all.0, all.1, all.2) in
           cc (done, is)));
+      output = refl;
       ends = ends.ends;
       same = ends.same;
     }

@@ -1,84 +1,46 @@
-use Rattle.std.proofs.Common.{◌≡◌, Bool, ◌&&◌, List, map, refl, ap, sym, subst, inl, inr, ◌∙◌, arith, Vec, Global}
-use Rattle.std.specs.Prelude.{OnOk, vec_items}
-use Rattle.std.proofs.lemmas.List.{length-map}
-use Rattle.replay_output.specs.declared.failures.Ending.{Ending}
-use Rattle.replay_output.specs.declared.failures.ProxyFailure.{ProxyFailure}
-use Rattle.replay_output.specs.declared.line.Line.{Line}
-use Rattle.replay_output.specs.Failures.{failure_lines, NothingFailed}
-use Rattle.replay_workers.specs.Run.{IsRun, is_complete}
-use Rattle.replay_program.specs.Replayed.{written, Took}
-use Rattle.replay_program.specs.Summarized.{TakesToSummarize, run_summary}
-use Rattle.replay_program.proofs.Replaying.{ending_is, held_ok, are_lines, is_replayed, ran_and_failed}
-use Rattle.replay_program.proofs.summary.summarize_over.Goals.{then-account, else-account}
+use Rattle.std.proofs.Common.{ℕ, Option, map, sym, subst}
+use Rattle.replay_program.specs.Replayed.{written}
+use Rattle.replay_program.specs.Summarized.{FailsToSummarize, IsSummarized}
 use Rattle.replay_program.proofs.summary.summarize_over.Goals as goal
 
-pub returns-in-Err : goal.returns-in-Err
-returns-in-Err g c = record {
-  done = λ is. cc (c.fail_to_start.ensures.status, is);
-  quiet = λ is. cc (c.fail_to_start.ensures.status, is);
-  failed = λ is. inl (record {
-    cause = c.in-Err.cause;
-    nothing_printed = refl;
-    told = c.fail_to_start.ensures.line;
-  });
-  ends = λ is. cc (c.fail_to_start.ensures.status, is);
-  same = λ is. cc (c.fail_to_start.ensures.status, is);
-}
-
-pub returns : goal.returns
-returns g c =
-    let outcome = c.in-Ok.ended.0 in
-    let account = c.in-Ok.ended.1 in
-    let options = c.args.options in
+pub returns-in-None : goal.returns-in-None
+returns-in-None g c =
+    let form = c.args.summary.form in
     let files = map g.S.Source.remaining c.args.readers.items in
-    let received = map (vec_items {X = Line} {Z = Global}) c.deref_mut.result.now in
-    let failures = c.deref_mut-2.result.now in
-    let complete = c.if-account.new in
-    let whole : c.if-account.new ≡ is_complete outcome account =
-    elim c.if-account.branch [
-      | then-account w ↦ w.new-is ∙ sym (ap (λ (b : Bool). b && outcome.all_sent) w.if-account.true)
-      | else-account w ↦
-          w.new-is ∙ w.if-account.false ∙ sym (ap (λ (b : Bool). b && outcome.all_sent) w.if-account.false)
-    ] in
-    let of_lines = subst
-    (λ (l : List (Vec Line Global)). IsRun options files (map (vec_items {X = Line} {Z = Global}) l) outcome.failures.items (is_complete outcome account) account.stop)
-    (sym c.deref_mut.ensures.value) c.in-Ok.ensures.run in
-    let of_both = subst (λ (f : List ProxyFailure). IsRun options files received f (is_complete outcome account) account.stop)
-    (sym c.deref_mut-2.ensures.value) of_lines in
-    let run = subst (λ (b : Bool). IsRun options files received failures b account.stop) (sym whole) of_both in
-    let ending = ending_is complete account.stop c.new-ending.result c.new-ending.ensures.ending in
-    let report = c.print_summary.ensures in
-    let told = c.print_summary.new.failures in
-    let out = written (g.O.Sink.given c.args.out.now) (g.O.Sink.given c.print_summary.new.out)
-    (g.O.Sink.failures c.args.out.now) (g.O.Sink.failures c.print_summary.new.out) in
-    let error = written (g.E.Sink.given c.args.error.now) (g.E.Sink.given c.print_summary.new.error)
-    (g.E.Sink.failures c.args.error.now) (g.E.Sink.failures c.print_summary.new.error) in
-    let are = are_lines options files received failures complete account.stop run in
-    let lines = report.lines options.style are in
+    let summarized = c.summarize_alone.ensures in
+    let out = written (g.O.Sink.given c.args.out.now) (g.O.Sink.given c.summarize_alone.new.out)
+    (g.O.Sink.failures c.args.out.now) (g.O.Sink.failures c.summarize_alone.new.out) in
+    let error = written (g.E.Sink.given c.args.error.now) (g.E.Sink.given c.summarize_alone.new.error)
+    (g.E.Sink.failures c.args.error.now) (g.E.Sink.failures c.summarize_alone.new.error) in
     record {
       done = λ is.
-          let parts = report.done.0 is in
-          is_replayed options files received failures complete account.stop run (λ answers. Took out (run_summary c.args.form answers))
-          c.answers_tell_verdicts.ensures.tell
-          (subst (λ (e : Ending). NothingFailed failures e) ending parts.2)
-          (held_ok c.print_summary.result.printed _ lines parts.0);
-      quiet = report.quiet;
+          subst (λ (top : Option ℕ). IsSummarized form top c.args.options files out.before out.after) (sym c.in-None.is)
+          (summarized.done is);
+      quiet = summarized.quiet;
       failed = λ is.
-          inr (ran_and_failed options files received failures complete account.stop run (run_summary c.args.form) TakesToSummarize out error told
-          c.print_summary.result.printed c.print_summary.result.told lines
-          (λ proxy memory. omega (
-            arith,
-            report.memory proxy memory,
-            length-map c.deref_mut.result.now (vec_items {X = Line} {Z = Global}),
-          ))
-          report.takes
-          report.nothing (report.beginning options.style are) report.write.0
-          (subst (λ (e : Ending). OnOk c.print_summary.result.told (Took error (failure_lines told e))) ending report.failure_lines)
-          report.told.0 report.loss report.no_loss
-          (λ all.
-          let done =
-          report.done.1 (all.0, all.1, subst (λ (e : Ending). NothingFailed failures e) (sym ending) all.2) in
-          cc (done, is)));
-      ends = report.ends;
-      same = report.same;
+          subst (λ (top : Option ℕ). FailsToSummarize form top c.args.options files out error) (sym c.in-None.is)
+          (summarized.failed is);
+      ends = summarized.ends;
+      same = summarized.same;
+    }
+
+pub returns-in-Some : goal.returns-in-Some
+returns-in-Some g c =
+    let form = c.args.summary.form in
+    let files = map g.S.Source.remaining c.args.readers.items in
+    let summarized = c.summarize_with_top.ensures in
+    let out = written (g.O.Sink.given c.args.out.now) (g.O.Sink.given c.summarize_with_top.new.out)
+    (g.O.Sink.failures c.args.out.now) (g.O.Sink.failures c.summarize_with_top.new.out) in
+    let error = written (g.E.Sink.given c.args.error.now) (g.E.Sink.given c.summarize_with_top.new.error)
+    (g.E.Sink.failures c.args.error.now) (g.E.Sink.failures c.summarize_with_top.new.error) in
+    record {
+      done = λ is.
+          subst (λ (top : Option ℕ). IsSummarized form top c.args.options files out.before out.after) (sym c.in-Some.is)
+          (summarized.done is);
+      quiet = summarized.quiet;
+      failed = λ is.
+          subst (λ (top : Option ℕ). FailsToSummarize form top c.args.options files out error) (sym c.in-Some.is)
+          (summarized.failed is);
+      ends = summarized.ends;
+      same = summarized.same;
     }

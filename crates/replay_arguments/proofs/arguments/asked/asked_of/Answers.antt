@@ -5,18 +5,26 @@ use Rattle.replay_arguments.proofs.arguments.asked.asked_of.Goals as goal
 pub returns-in_err-printing-clause-none : goal.returns-in_err-printing-clause-none
 returns-in_err-printing-clause-none c = on_err _ (IsOfNoUse.no_printing c.in_err-printing.ensures.none)
 
+pub returns-in_err-details-clause-none : goal.returns-in_err-details-clause-none
+returns-in_err-details-clause-none c =
+    let printing = c.in_ok-printing.ensures.printing in
+    on_err _ (IsOfNoUse.no_details (c.in_err-details.ensures.none printing.summary))
+
 pub returns-in_default-clause-none : goal.returns-in_default-clause-none
 returns-in_default-clause-none c = IsOfNoUse.no_numbers (c.options_of.ensures.none c.in_default.is)
 
 pub returns-in_err-names-clause-none : goal.returns-in_err-names-clause-none
 returns-in_err-names-clause-none c =
     let printing = c.in_ok-printing.ensures.printing in
-    on_err _ (IsOfNoUse.no_names (c.in_err-names.ensures.none printing.form printing.stream))
+    on_err _ (IsOfNoUse.no_names (c.in_err-names.ensures.none printing.form printing.stream printing.summary printing.explain))
 
 pub returns-clause-asked : goal.returns-clause-asked
-returns-clause-asked c = record {
-  printing = c.in_ok-printing.ensures.printing;
-  numbers = c.in-Some.ensures.numbers;
-  style = c.in-Some.ensures.style;
-  names = c.in_ok-names.ensures.names;
-}
+returns-clause-asked c =
+    let printing = c.in_ok-printing.ensures.printing in
+    record {
+      printing = printing;
+      details = c.in_ok-details.ensures.details printing.summary;
+      numbers = c.in-Some.ensures.numbers;
+      style = c.in-Some.ensures.style;
+      names = c.in_ok-names.ensures.names printing.form printing.stream printing.summary printing.explain;
+    }

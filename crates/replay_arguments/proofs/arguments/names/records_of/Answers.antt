@@ -1,5 +1,6 @@
 use Rattle.std.proofs.Common.{◌≡◌, ◌∙◌, ap, sym, codes, map, option_map, rules, subst, Bor, List, ℕ}
 use Rattle.std.specs.Prelude.{false, is_some}
+use Rattle.std.proofs.lemmas.Bool.{false≢true}
 use Rattle.clap.specs.Words.{found_of, rows_of}
 use Rattle.clap.proofs.WalkLemmas.{raw_values-rows}
 use Rattle.replay_arguments.specs.Words.{HoldsStream, named}
@@ -11,6 +12,12 @@ returns-in_default-clause-records c =
     let none = sym (raw_values-rows (found_of c.args.matches.now) (codes "replies")) ∙ sym c.get_strs.ensures
     ∙ ap (option_map (λ s. map (λ v. v.now) s.now)) c.in_default.is in
     ap (map (λ (v : Bor (List ℕ)). v.now)) c.no_names.ensures.none ∙ sym (ap named none)
+
+pub returns-in_default-clause-streamed : goal.returns-in_default-clause-streamed
+returns-in_default-clause-streamed c = λ some.
+    let none = sym (raw_values-rows (found_of c.args.matches.now) (codes "replies")) ∙ sym c.get_strs.ensures
+    ∙ ap (option_map (λ s. map (λ v. v.now) s.now)) c.in_default.is in
+    absurd (false≢true (ap is_some (sym none) ∙ some))
 
 pub returns-then-not-is_streamed-clause-none : goal.returns-then-not-is_streamed-clause-none
 returns-then-not-is_streamed-clause-none c = λ streamed.

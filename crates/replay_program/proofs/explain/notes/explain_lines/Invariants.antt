@@ -8,4 +8,4 @@ use Rattle.replay_program.proofs.explain.notes.explain_lines.Given as goal
 abbrev pub invariant-loop-proxy : goal.invariant-loop-proxy
 invariant-loop-proxy l =
     map vec_items l.lines
-    ≡ changed_from (λ proxy. map (noted (text_of l.fn.explainer.texts) proxy)) 0 l.proxy (map vec_items l.initial.lines)
+    ≡ changed_from (λ proxy. map (noted l.fn.explainer.form (text_of l.fn.explainer.texts) proxy)) 0 l.proxy (map vec_items l.initial.lines)

@@ -6,4 +6,4 @@ use Rattle.replay_program.proofs.explain.notes.explain_proxy.Given as goal
 
 abbrev pub invariant-loop-line : goal.invariant-loop-line
 invariant-loop-line l =
-    l.lines ≡ changed_from (λ _. noted (text_of l.fn.explainer.texts) l.fn.proxy) 0 l.line-index l.initial.lines
+    l.lines ≡ changed_from (λ _. noted l.fn.explainer.form (text_of l.fn.explainer.texts) l.fn.proxy) 0 l.line-index l.initial.lines

@@ -10,32 +10,35 @@ use Rattle.replay_program.proofs.Noting.{noted_answers, noted_lines, same_counts
 use Rattle.replay_program.proofs.explain.report.print_explained.Goals as goal
 
 pub returns-clause-lines : goal.returns-clause-lines
-returns-clause-lines g c = λ style are.
+returns-clause-lines g c = λ style same are.
+    let form = c.args.explainer.now.form in
     let explained = text_of c.args.explainer.now.texts in
     let received = map vec_items c.args.received.now in
     let print = explained_line style explained in
-    let by = subst (AreLinesBy print) (sym c.in_default.ensures.noted) (noted_lines explained style received are) in
+    let by = subst (AreLinesBy print) (sym c.in_default.ensures.noted) (noted_lines form explained style same received are) in
     subst (λ (answers : List (List Answer)). OnOk c.print_report.result.printed
     (Appends (g.O.Sink.given c.args.out.now) (g.O.Sink.given c.print_report.new.out) (lines_by print answers)))
-    (ap (map answers_of) c.in_default.ensures.noted ∙ noted_answers explained received)
+    (ap (map answers_of) c.in_default.ensures.noted ∙ noted_answers form explained received)
     (c.print_report.ensures.lines print by)
 
 pub returns-clause-takes : goal.returns-clause-takes
 returns-clause-takes g c = λ proxy memory.
+    let form = c.args.explainer.now.form in
     let explained = text_of c.args.explainer.now.texts in
     let received = map vec_items c.args.received.now in
     inl (subst (λ (n : ℕ). 20 < n)
     (same_counts (map vec_items c.explain_lines.new.lines) received proxy
-    (ap (map answers_of) c.in_default.ensures.noted ∙ noted_answers explained received))
+    (ap (map answers_of) c.in_default.ensures.noted ∙ noted_answers form explained received))
     (c.print_report.ensures.takes proxy memory))
 
 pub returns-clause-beginning : goal.returns-clause-beginning
-returns-clause-beginning g c = λ style are wrote.
+returns-clause-beginning g c = λ style same are wrote.
+    let form = c.args.explainer.now.form in
     let explained = text_of c.args.explainer.now.texts in
     let received = map vec_items c.args.received.now in
     let print = explained_line style explained in
-    let by = subst (AreLinesBy print) (sym c.in_default.ensures.noted) (noted_lines explained style received are) in
+    let by = subst (AreLinesBy print) (sym c.in_default.ensures.noted) (noted_lines form explained style same received are) in
     subst (λ (answers : List (List Answer)). IfSome (g.O.Sink.given c.print_report.new.out) (λ _. (n : ℕ)
     × Appends (g.O.Sink.given c.args.out.now) (g.O.Sink.given c.print_report.new.out) (take n (lines_by print answers))))
-    (ap (map answers_of) c.in_default.ensures.noted ∙ noted_answers explained received)
+    (ap (map answers_of) c.in_default.ensures.noted ∙ noted_answers form explained received)
     (c.print_report.ensures.beginning print by wrote)

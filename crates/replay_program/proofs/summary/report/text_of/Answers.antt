@@ -1,4 +1,4 @@
-use Rattle.std.proofs.Common.{◌∙◌, List, ap, map, subst, sym, vec_items}
+use Rattle.std.proofs.Common.{◌∙◌, ℕ, List, ap, map, subst, sym, vec_items}
 use Rattle.std.specs.List.{All}
 use Rattle.checking.specs.InOrder.{Rise}
 use Rattle.replay_output.specs.declared.line.Line.{Line}
@@ -6,6 +6,7 @@ use Rattle.replay_output.specs.Line.{counted_of_line, version_of_line}
 use Rattle.replay_output.proofs.callers.Counting.{counted_in_order, lines_rise}
 use Rattle.replay_summary.specs.Summary.{summary_of}
 use Rattle.replay_summary.specs.Text.{text}
+use Rattle.replay_program.specs.Summarized.{with_ranges}
 use Rattle.replay_program.proofs.summary.report.text_of.Goals as goal
 
 pub text_of_sorted-requires : goal.text_of_sorted-requires
@@ -17,6 +18,7 @@ pub returns-in-Ok-clause-text : goal.returns-in-Ok-clause-text
 returns-in-Ok-clause-text c = λ style are.
     let received = map vec_items c.args.received.now in
     c.in-Ok.ensures.text
-    ∙ ap (λ (sorted : List (List Line)). text c.args.form (map (λ lines. summary_of (map counted_of_line lines)) sorted))
+    ∙ ap (λ (summary : List ℕ). with_ranges c.args.form summary c.args.ranges.now)
+    (ap (λ (sorted : List (List Line)). text c.args.form (map (λ lines. summary_of (map counted_of_line lines)) sorted))
     c.in_ok-sort_lines.ensures.ok
-    ∙ ap (text c.args.form) (counted_in_order summary_of style received are)
+    ∙ ap (text c.args.form) (counted_in_order summary_of style received are))

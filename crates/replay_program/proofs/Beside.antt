@@ -1,0 +1,79 @@
+-- What failed, where the answers are printed and their summary is written beside them.
+use Rattle.std.specs.Prelude.{◌≡◌, ◌⊎◌, ℕ, ◌<◌, List, length, map, Result, Ok, Err, OnOk, OnErr, IsOk, IsErr}
+use Rattle.std.proofs.Common.{refl, subst, inl, inr, arith}
+use Rattle.std.proofs.lemmas.Bool.{false≢true}
+use Rattle.replay_output.specs.declared.failures.Ending.{Ending}
+use Rattle.replay_output.specs.declared.failures.ProxyFailure.{ProxyFailure}
+use Rattle.replay_output.specs.declared.line.Line.{Line}
+use Rattle.replay_output.specs.declared.options.style.Style.{Style}
+use Rattle.replay_output.specs.Failures.{failure_lines, with_loss, NothingFailed}
+use Rattle.replay_output.specs.Line.{answers_of}
+use Rattle.replay_output.specs.Lines.{lines}
+use Rattle.replay_summary.specs.declared.text.SummaryForm.{SummaryForm}
+use Rattle.replay_program.specs.Replayed.{HasFailed, Took, TookBeginning, Written}
+use Rattle.replay_program.specs.Summarized.{BothFailed, TakesToSummarize, TookUnlessFailed, run_summary}
+use Rattle.replay_program.proofs.Replaying.{loss_is_no_clean}
+
+-- what holds of a success
+pub held : {T E P : Type 0} (result : Result T E) → OnOk result P → IsOk result → P
+held (Ok x) holds ok = holds
+held (Err e) holds ok = absurd (false≢true ok)
+
+-- a writer was given a text, or failed in it
+took : {T E : Type 0} (result : Result T E) (writer : Written) (text : List ℕ) → OnOk result (Took writer text)
+    → OnErr result (TookBeginning writer text) → OnErr result (HasFailed writer) → TookUnlessFailed writer text
+took (Ok x) writer text whole beginning failed = inl whole
+took (Err e) writer text whole beginning failed = inr (failed, beginning)
+
+pub lines_told : {T E : Type 0} (told : Result T E) (error : Written) (text : List ℕ) → OnOk told (Took error text)
+    → (IsErr told → HasFailed error) → HasFailed error ⊎ Took error text
+lines_told (Ok x) error text whole failed = inr whole
+lines_told (Err e) error text whole failed = inl (failed refl)
+
+module _ (form : SummaryForm) (style : Style) (received : List (List Line)) (failures : List ProxyFailure) (ending : Ending)
+    (out beside error : Written) where
+  -- which of four failed
+  why_failed : {S T U E F G : Type 0} (printed : Result S E) (put : Result T F) (told : Result U G) → OnErr printed (HasFailed out)
+      → OnErr put (HasFailed beside) → (IsErr told → HasFailed error)
+      → ¬ (NothingFailed failures ending × IsOk printed × IsOk put × IsOk told)
+      → HasFailed out ⊎ (HasFailed beside ⊎ (HasFailed error ⊎ ¬ (NothingFailed failures ending)))
+  why_failed (Err e) put told out_failed beside_failed error_failed not_all = inl out_failed
+  why_failed (Ok x) (Err f) told out_failed beside_failed error_failed not_all = inr (inl beside_failed)
+  why_failed (Ok x) (Ok y) (Err g) out_failed beside_failed error_failed not_all = inr (inr (inl (error_failed refl)))
+  why_failed (Ok x) (Ok y) (Ok z) out_failed beside_failed error_failed not_all =
+      inr (inr (inr (λ nothing. not_all (nothing, refl, refl, refl))))
+
+  -- both texts were begun
+  pub both_failed : {S T U E F G : Type 0} (printed : Result S E) (put : Result T F) (told : Result U G)
+      → OnOk printed (Took out (lines style (map answers_of received)))
+      → OnErr printed (TookBeginning out (lines style (map answers_of received))) → OnErr printed (HasFailed out)
+      → OnOk put (Took beside (run_summary form (map answers_of received)))
+      → OnErr put (TookBeginning beside (run_summary form (map answers_of received))) → OnErr put (HasFailed beside)
+      → OnOk told (Took error (failure_lines failures ending)) → (IsErr told → HasFailed error)
+      → ¬ (NothingFailed failures ending × IsOk printed × IsOk put × IsOk told)
+      → BothFailed form style received failures ending out beside error
+  both_failed printed put told whole beginning failed put_whole put_beginning put_failed told_whole told_failed not_all = record {
+    told = failures;
+    texts = inl (
+      refl,
+      took printed out (lines style (map answers_of received)) whole beginning failed,
+      took put beside (run_summary form (map answers_of received)) put_whole put_beginning put_failed,
+    );
+    lines_of_failures = lines_told told error (failure_lines failures ending) told_whole told_failed;
+    why = why_failed printed put told failed put_failed told_failed not_all;
+  }
+
+  -- neither text was begun, since memory was refused
+  pub both_lost : {U G : Type 0} (proxy : ℕ) (after : List ProxyFailure) (told : Result U G) → proxy < length received
+      → length failures ≡ length received → TakesToSummarize received proxy → after ≡ with_loss proxy failures
+      → OnOk told (Took error (failure_lines after ending)) → (IsErr told → HasFailed error) → out.after ≡ out.before
+      → beside.after ≡ beside.before → BothFailed form style received failures ending out beside error
+  both_lost proxy after told inside same takes is told_whole told_failed out_kept beside_kept = record {
+    told = after;
+    texts = inr ((proxy, inside, takes, is), out_kept, beside_kept);
+    lines_of_failures = lines_told told error (failure_lines after ending) told_whole told_failed;
+    why =
+        inr (inr (inr (λ nothing.
+        loss_is_no_clean proxy failures (omega (arith, inside, same))
+        (subst (λ (f : List ProxyFailure). NothingFailed f ending) is nothing).proxies)));
+  }

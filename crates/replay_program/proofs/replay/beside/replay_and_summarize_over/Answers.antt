@@ -1,0 +1,82 @@
+use Rattle.std.proofs.Common.{◌≡◌, Bool, ◌&&◌, List, map, refl, ap, sym, subst, inl, inr, ◌∙◌, Vec, Global}
+use Rattle.std.specs.Prelude.{vec_items}
+use Rattle.replay_output.specs.declared.failures.Ending.{Ending}
+use Rattle.replay_output.specs.declared.failures.ProxyFailure.{ProxyFailure}
+use Rattle.replay_output.specs.declared.line.Line.{Line}
+use Rattle.replay_output.specs.Lines.{lines as lines_of}
+use Rattle.replay_output.specs.Failures.{NothingFailed}
+use Rattle.replay_workers.specs.Run.{IsRun, is_complete}
+use Rattle.replay_program.specs.Replayed.{written, Took}
+use Rattle.replay_program.specs.Summarized.{BothFailed, run_summary}
+use Rattle.replay_program.proofs.Replaying.{ending_is, are_lines, is_replayed}
+use Rattle.replay_program.proofs.replay.beside.replay_and_summarize_over.Goals.{then-account, else-account}
+use Rattle.replay_program.proofs.replay.beside.replay_and_summarize_over.Goals as goal
+
+pub returns-in-Err : goal.returns-in-Err
+returns-in-Err g c = record {
+  done = λ is. cc (c.fail_to_start.ensures.status, is);
+  quiet = λ is. cc (c.fail_to_start.ensures.status, is);
+  failed = λ is. inl (
+    record {
+      cause = c.in-Err.cause;
+      nothing_printed = refl;
+      told = c.fail_to_start.ensures.line;
+    },
+    refl,
+  );
+  ends = λ is. cc (c.fail_to_start.ensures.status, is);
+  same = λ is. cc (c.fail_to_start.ensures.status, is);
+}
+
+pub returns : goal.returns
+returns g c =
+    let outcome = c.in-Ok.ended.0 in
+    let account = c.in-Ok.ended.1 in
+    let options = c.args.options in
+    let form = c.args.summary.now.form in
+    let files = map g.S.Source.remaining c.args.readers.items in
+    let received = map (vec_items {X = Line} {Z = Global}) c.deref_mut.result.now in
+    let failures = c.deref_mut-2.result.now in
+    let complete = c.if-account.new in
+    let whole : c.if-account.new ≡ is_complete outcome account =
+    elim c.if-account.branch [
+      | then-account w ↦ w.new-is ∙ sym (ap (λ (b : Bool). b && outcome.all_sent) w.if-account.true)
+      | else-account w ↦
+          w.new-is ∙ w.if-account.false ∙ sym (ap (λ (b : Bool). b && outcome.all_sent) w.if-account.false)
+    ] in
+    let of_lines = subst
+    (λ (l : List (Vec Line Global)). IsRun options files (map (vec_items {X = Line} {Z = Global}) l) outcome.failures.items (is_complete outcome account) account.stop)
+    (sym c.deref_mut.ensures.value) c.in-Ok.ensures.run in
+    let of_both = subst (λ (f : List ProxyFailure). IsRun options files received f (is_complete outcome account) account.stop)
+    (sym c.deref_mut-2.ensures.value) of_lines in
+    let run = subst (λ (b : Bool). IsRun options files received failures b account.stop) (sym whole) of_both in
+    let ending = ending_is complete account.stop c.new-ending.result c.new-ending.ensures.ending in
+    let report = c.print_with_summary.ensures in
+    let out = written (g.O.Sink.given c.args.out.now) (g.O.Sink.given c.print_with_summary.new.out)
+    (g.O.Sink.failures c.args.out.now) (g.O.Sink.failures c.print_with_summary.new.out) in
+    let beside = written (g.T.Sink.given c.args.summary.now.writer) (g.T.Sink.given c.print_with_summary.new.summary.writer)
+    (g.T.Sink.failures c.args.summary.now.writer) (g.T.Sink.failures c.print_with_summary.new.summary.writer) in
+    let error = written (g.E.Sink.given c.args.error.now) (g.E.Sink.given c.print_with_summary.new.error)
+    (g.E.Sink.failures c.args.error.now) (g.E.Sink.failures c.print_with_summary.new.error) in
+    let are = are_lines options files received failures complete account.stop run in
+    record {
+      done = λ is.
+          is_replayed options files received failures complete account.stop run
+          (λ answers. Took out (lines_of options.style answers) × Took beside (run_summary form answers))
+          c.answers_tell_verdicts.ensures.tell
+          (subst (λ (e : Ending). NothingFailed failures e) ending (report.nothing_failed is))
+          (report.done options.style are is);
+      quiet = report.quiet;
+      failed = λ is.
+          inr (record {
+            received = received;
+            failures = failures;
+            complete = complete;
+            stop = account.stop;
+            run = run;
+            failed = subst (λ (e : Ending). BothFailed form options.style received failures e out beside error) ending
+                (report.failed options.style are is);
+          });
+      ends = report.ends;
+      same = report.same;
+    }

@@ -1,0 +1,94 @@
+use Rattle.std.proofs.Common.{◌≡◌, ℕ, Bool, ◌&&◌, List, [], map, refl, ap, sym, subst, inl, inr, ◌∙◌, arith, Vec, Global}
+use Rattle.std.specs.Prelude.{Err, OnOk, vec_items}
+use Rattle.std.proofs.lemmas.List.{length-map}
+use Rattle.keyspace.specs.declared.answer.Answer.{Answer}
+use Rattle.replay_output.specs.declared.failures.Ending.{Ending}
+use Rattle.replay_output.specs.declared.failures.ProxyFailure.{ProxyFailure}
+use Rattle.replay_output.specs.declared.line.Line.{Line}
+use Rattle.replay_output.specs.declared.report.lines.PrintError.TheVariants as print
+use Rattle.replay_output.specs.Failures.{failure_lines, NothingFailed}
+use Rattle.replay_output.specs.Line.{answers_of}
+use Rattle.replay_workers.specs.Run.{IsRun, is_complete}
+use Rattle.replay_program.specs.Replayed.{written, Took, TookBeginning}
+use Rattle.replay_program.specs.Summarized.{TakesToSummarize, run_summary, with_ranges}
+use Rattle.replay_program.proofs.Ranges.{no_ranges}
+use Rattle.replay_program.proofs.Replaying.{ending_is, held_ok, are_lines, is_replayed, ran_and_failed}
+use Rattle.replay_program.proofs.summary.summarize_alone.Goals.{then-account, else-account}
+use Rattle.replay_program.proofs.summary.summarize_alone.Goals as goal
+
+pub returns-in-Err : goal.returns-in-Err
+returns-in-Err g c = record {
+  done = λ is. cc (c.fail_to_start.ensures.status, is);
+  quiet = λ is. cc (c.fail_to_start.ensures.status, is);
+  failed = λ is. inl (record {
+    cause = c.in-Err.cause;
+    nothing_printed = refl;
+    told = c.fail_to_start.ensures.line;
+  });
+  ends = λ is. cc (c.fail_to_start.ensures.status, is);
+  same = λ is. cc (c.fail_to_start.ensures.status, is);
+}
+
+pub returns : goal.returns
+returns g c =
+    let outcome = c.in-Ok.ended.0 in
+    let account = c.in-Ok.ended.1 in
+    let options = c.args.options in
+    let files = map g.S.Source.remaining c.args.readers.items in
+    let received = map (vec_items {X = Line} {Z = Global}) c.deref_mut.result.now in
+    let failures = c.deref_mut-2.result.now in
+    let complete = c.if-account.new in
+    let whole : c.if-account.new ≡ is_complete outcome account =
+    elim c.if-account.branch [
+      | then-account w ↦ w.new-is ∙ sym (ap (λ (b : Bool). b && outcome.all_sent) w.if-account.true)
+      | else-account w ↦
+          w.new-is ∙ w.if-account.false ∙ sym (ap (λ (b : Bool). b && outcome.all_sent) w.if-account.false)
+    ] in
+    let of_lines = subst
+    (λ (l : List (Vec Line Global)). IsRun options files (map (vec_items {X = Line} {Z = Global}) l) outcome.failures.items (is_complete outcome account) account.stop)
+    (sym c.deref_mut.ensures.value) c.in-Ok.ensures.run in
+    let of_both = subst (λ (f : List ProxyFailure). IsRun options files received f (is_complete outcome account) account.stop)
+    (sym c.deref_mut-2.ensures.value) of_lines in
+    let run = subst (λ (b : Bool). IsRun options files received failures b account.stop) (sym whole) of_both in
+    let ending = ending_is complete account.stop c.new-ending.result c.new-ending.ensures.ending in
+    let report = c.print_summary.ensures in
+    let told = c.print_summary.new.failures in
+    let out = written (g.O.Sink.given c.args.out.now) (g.O.Sink.given c.print_summary.new.out)
+    (g.O.Sink.failures c.args.out.now) (g.O.Sink.failures c.print_summary.new.out) in
+    let error = written (g.E.Sink.given c.args.error.now) (g.E.Sink.given c.print_summary.new.error)
+    (g.E.Sink.failures c.args.error.now) (g.E.Sink.failures c.print_summary.new.error) in
+    let are = are_lines options files received failures complete account.stop run in
+    let form = c.args.form in
+    let alone : (λ (answers : List (List Answer)). with_ranges form (run_summary form answers) []) ≡ run_summary form =
+    λ i answers. no_ranges form (run_summary form answers) [] refl i in
+    let lines = subst (λ (text : List (List Answer) → List ℕ). OnOk c.print_summary.result.printed (Took out (text (map answers_of received))))
+    alone (report.lines options.style are) in
+    let beginning = subst (λ (text : List (List Answer) → List ℕ). c.print_summary.result.printed ≡ Err print.Write
+    → TookBeginning out (text (map answers_of received))) alone (report.beginning options.style are) in
+    record {
+      done = λ is.
+          let parts = report.done.0 is in
+          is_replayed options files received failures complete account.stop run (λ answers. Took out (run_summary form answers))
+          c.answers_tell_verdicts.ensures.tell
+          (subst (λ (e : Ending). NothingFailed failures e) ending parts.2)
+          (held_ok c.print_summary.result.printed _ lines parts.0);
+      quiet = report.quiet;
+      failed = λ is.
+          inr (ran_and_failed options files received failures complete account.stop run (run_summary form) TakesToSummarize out error told
+          c.print_summary.result.printed c.print_summary.result.told lines
+          (λ proxy memory. omega (
+            arith,
+            report.memory proxy memory,
+            length-map c.deref_mut.result.now (vec_items {X = Line} {Z = Global}),
+          ))
+          report.takes
+          report.nothing beginning report.write.0
+          (subst (λ (e : Ending). OnOk c.print_summary.result.told (Took error (failure_lines told e))) ending report.failure_lines)
+          report.told.0 report.loss report.no_loss
+          (λ all.
+          let done =
+          report.done.1 (all.0, all.1, subst (λ (e : Ending). NothingFailed failures e) (sym ending) all.2) in
+          cc (done, is)));
+      ends = report.ends;
+      same = report.same;
+    }

@@ -1,0 +1,204 @@
+use Rattle.std.proofs.Common.{◌≡◌, Bool, List, map, Some, None, refl, sym, subst, inr, inl, ◌∙◌, arith, rules, w64, to_z, of_z, Vec, Global}
+use Rattle.std.specs.Prelude.{Err, ℕ, ◌-◌, ◌≤◌, length, OnOk, vec_items}
+use Rattle.std.proofs.lemmas.Int.{ints, to_z-of_z}
+use Rattle.std.proofs.lemmas.List.{length-map}
+use Rattle.std.proofs.lemmas.Option.{none-some}
+use Rattle.keyspace.specs.declared.answer.Answer.{Answer}
+use Rattle.keyspace.specs.Processed.{Processed}
+use Rattle.keyspace.specs.Run.{run as run_of}
+use Rattle.replay_hot_ranges.specs.declared.hot_range.Top.{Top}
+use Rattle.replay_hot_ranges.specs.HotRanges.{HasSeen}
+use Rattle.replay_hot_ranges.specs.Top.{IsTopOf}
+use Rattle.replay_output.specs.declared.failures.Ending.{Ending}
+use Rattle.replay_output.specs.declared.failures.ProxyFailure.{ProxyFailure}
+use Rattle.replay_output.specs.declared.line.Line.{Line}
+use Rattle.replay_output.specs.declared.report.lines.PrintError.TheVariants as print
+use Rattle.replay_output.specs.Line.{answers_of}
+use Rattle.replay_output.specs.Failures.{failure_lines, NothingFailed}
+use Rattle.replay_workers.specs.Run.{IsObservedRun, is_complete}
+use Rattle.replay_program.specs.Replayed.{written, Took, TookBeginning}
+use Rattle.replay_program.specs.Summarized.{TakesToSummarize, run_summary, summary_and_top, with_ranges}
+use Rattle.replay_program.proofs.Counting.{ran_and_lost, seen_are, seen_chain}
+use Rattle.replay_program.proofs.Replaying.{complete_from, ending_is, held_ok, are_lines, is_replayed_over, ran_as_and_failed}
+use Rattle.replay_program.proofs.summary.summarize_with_top.Goals as goal
+
+pub returns-in-Err : goal.returns-in-Err
+returns-in-Err g c = record {
+  done = λ is. cc (c.fail_to_start.ensures.status, is);
+  quiet = λ is. cc (c.fail_to_start.ensures.status, is);
+  failed = λ is. inl (record {
+    cause = c.in-Err.cause;
+    nothing_printed = refl;
+    told = c.fail_to_start.ensures.line;
+  });
+  ends = λ is. cc (c.fail_to_start.ensures.status, is);
+  same = λ is. cc (c.fail_to_start.ensures.status, is);
+}
+
+pub returns-in-Ok-text_of_top-clause-done : goal.returns-in-Ok-text_of_top-clause-done
+returns-in-Ok-text_of_top-clause-done g c = λ is.
+    let outcome = c.in-Ok.ended.0 in
+    let account = c.in-Ok.ended.1 in
+    let options = c.args.options in
+    let form = c.args.wanted.form in
+    let most = c.args.wanted.most in
+    let files = map g.S.Source.remaining c.args.readers.items in
+    let received = map (vec_items {X = Line} {Z = Global}) c.deref_mut.result.now in
+    let failures = c.deref_mut-in-Ok-text_of_top.result.now in
+    let complete = c.is_complete-complete.result in
+    let hot = c.run_observed-run.new.observer in
+    let Seen = HasSeen hot in
+    let whole : complete ≡ is_complete outcome account = c.is_complete-complete.ensures.complete in
+    let of_lines = subst
+    (λ (l : List (Vec Line Global)). IsObservedRun Seen options files (map (vec_items {X = Line} {Z = Global}) l) outcome.failures.items (is_complete outcome account) account.stop)
+    (sym c.deref_mut.ensures.value) (c.in-Ok.ensures.observed c.new-hot.ensures.none) in
+    let of_both = subst
+    (λ (f : List ProxyFailure). IsObservedRun Seen options files received f (is_complete outcome account) account.stop)
+    (sym c.deref_mut-in-Ok-text_of_top.ensures.value) of_lines in
+    let observed = subst (λ (b : Bool). IsObservedRun Seen options files received failures b account.stop) (sym whole) of_both in
+    let run = observed.run in
+    let list = observed.seen.list in
+    let kept : to_z w64 (of_z w64 options.window) ≡ options.window =
+    first_of (search rules, grind (arith, ints, to_z-of_z)) in
+    let window_is = c.run_observed-run.ensures.setting ∙ c.new-hot.ensures.window ∙ kept in
+    let chain = seen_chain Seen account.stop options.window run.log observed.seen hot.history.window window_is run.chain in
+    let of_top = c.in-Ok-text_of_top.ensures.text list observed.seen.seen chain in
+    let top = of_top.top in
+    let ending = ending_is complete account.stop c.new-ending.result c.new-ending.ensures.ending in
+    let report = c.print_summary.ensures in
+    let printed = c.print_summary.result.printed in
+    let out = written (g.O.Sink.given c.args.out.now) (g.O.Sink.given c.print_summary.new.out)
+    (g.O.Sink.failures c.args.out.now) (g.O.Sink.failures c.print_summary.new.out) in
+    let are = are_lines options files received failures complete account.stop run in
+    let text_is : (λ (answers : List (List Answer)). with_ranges form (run_summary form answers) c.deref.result.now) ≡ summary_and_top form top =
+    λ i answers. with_ranges form (run_summary form answers) ((c.deref.ensures.value ∙ of_top.is_text) i) in
+    let lines = subst (λ (text : List (List Answer) → List ℕ). OnOk printed (Took out (text (map answers_of received)))) text_is
+    (report.lines options.style are) in
+    let parts = report.done.0 is in
+    let nothing = subst (λ (e : Ending). NothingFailed failures e) ending parts.2 in
+    let all = observed.seen.all (run.no_stop (complete_from complete account.stop nothing.complete)) in
+    is_replayed_over options files received failures complete account.stop run
+    (λ log answers. (hottest : Top) × IsTopOf (run_of options.window log).processed most hottest
+    × Took out (summary_and_top form hottest answers))
+    c.answers_tell_verdicts.ensures.tell nothing
+    (top, subst (λ (ps : List Processed). IsTopOf ps most top) all of_top.is_top, held_ok printed _ lines parts.0)
+
+pub returns-in-Ok-text_of_top-clause-failed : goal.returns-in-Ok-text_of_top-clause-failed
+returns-in-Ok-text_of_top-clause-failed g c = λ is.
+    let outcome = c.in-Ok.ended.0 in
+    let account = c.in-Ok.ended.1 in
+    let options = c.args.options in
+    let form = c.args.wanted.form in
+    let most = c.args.wanted.most in
+    let files = map g.S.Source.remaining c.args.readers.items in
+    let received = map (vec_items {X = Line} {Z = Global}) c.deref_mut.result.now in
+    let failures = c.deref_mut-in-Ok-text_of_top.result.now in
+    let complete = c.is_complete-complete.result in
+    let hot = c.run_observed-run.new.observer in
+    let Seen = HasSeen hot in
+    let whole : complete ≡ is_complete outcome account = c.is_complete-complete.ensures.complete in
+    let of_lines = subst
+    (λ (l : List (Vec Line Global)). IsObservedRun Seen options files (map (vec_items {X = Line} {Z = Global}) l) outcome.failures.items (is_complete outcome account) account.stop)
+    (sym c.deref_mut.ensures.value) (c.in-Ok.ensures.observed c.new-hot.ensures.none) in
+    let of_both = subst
+    (λ (f : List ProxyFailure). IsObservedRun Seen options files received f (is_complete outcome account) account.stop)
+    (sym c.deref_mut-in-Ok-text_of_top.ensures.value) of_lines in
+    let observed = subst (λ (b : Bool). IsObservedRun Seen options files received failures b account.stop) (sym whole) of_both in
+    let run = observed.run in
+    let list = observed.seen.list in
+    let kept : to_z w64 (of_z w64 options.window) ≡ options.window =
+    first_of (search rules, grind (arith, ints, to_z-of_z)) in
+    let window_is = c.run_observed-run.ensures.setting ∙ c.new-hot.ensures.window ∙ kept in
+    let chain = seen_chain Seen account.stop options.window run.log observed.seen hot.history.window window_is run.chain in
+    let of_top = c.in-Ok-text_of_top.ensures.text list observed.seen.seen chain in
+    let top = of_top.top in
+    let ran : IsObservedRun (λ seen. seen ≡ list) options files received failures complete account.stop = record {
+      run = run;
+      seen = seen_are Seen account.stop options.window run.log observed.seen;
+    } in
+    let ending = ending_is complete account.stop c.new-ending.result c.new-ending.ensures.ending in
+    let report = c.print_summary.ensures in
+    let printed = c.print_summary.result.printed in
+    let told = c.print_summary.new.failures in
+    let out = written (g.O.Sink.given c.args.out.now) (g.O.Sink.given c.print_summary.new.out)
+    (g.O.Sink.failures c.args.out.now) (g.O.Sink.failures c.print_summary.new.out) in
+    let error = written (g.E.Sink.given c.args.error.now) (g.E.Sink.given c.print_summary.new.error)
+    (g.E.Sink.failures c.args.error.now) (g.E.Sink.failures c.print_summary.new.error) in
+    let are = are_lines options files received failures complete account.stop run in
+    let text_is : (λ (answers : List (List Answer)). with_ranges form (run_summary form answers) c.deref.result.now) ≡ summary_and_top form top =
+    λ i answers. with_ranges form (run_summary form answers) ((c.deref.ensures.value ∙ of_top.is_text) i) in
+    let lines = subst (λ (text : List (List Answer) → List ℕ). OnOk printed (Took out (text (map answers_of received)))) text_is
+    (report.lines options.style are) in
+    let beginning = subst (λ (text : List (List Answer) → List ℕ). printed ≡ Err print.Write
+    → TookBeginning out (text (map answers_of received))) text_is (report.beginning options.style are) in
+    inr (record {
+      counted = list;
+      top = Some top;
+      is_top = of_top.is_top;
+      nothing_without = λ none. absurd (none-some top (sym none));
+      failed = ran_as_and_failed options files received failures complete account.stop run
+          (IsObservedRun (λ seen. seen ≡ list) options files) ran (summary_and_top form top) TakesToSummarize out error told
+          printed c.print_summary.result.told lines
+          (λ proxy memory. omega (
+            arith,
+            report.memory proxy memory,
+            length-map c.deref_mut.result.now (vec_items {X = Line} {Z = Global}),
+          ))
+          report.takes report.nothing beginning report.write.0
+          (subst (λ (e : Ending). OnOk c.print_summary.result.told (Took error (failure_lines told e))) ending report.failure_lines)
+          report.told.0 report.loss report.no_loss
+          (λ all.
+          let done =
+          report.done.1 (all.0, all.1, subst (λ (e : Ending). NothingFailed failures e) (sym ending) all.2) in
+          cc (done, is));
+    })
+
+pub returns-clause-failed : goal.returns-clause-failed
+returns-clause-failed g c = λ is.
+    let outcome = c.in-Ok.ended.0 in
+    let account = c.in-Ok.ended.1 in
+    let options = c.args.options in
+    let files = map g.S.Source.remaining c.args.readers.items in
+    let received = map (vec_items {X = Line} {Z = Global}) outcome.lines.items in
+    let failures = c.deref_mut-in-Err-text_of_top.result.now in
+    let complete = c.is_complete-complete.result in
+    let hot = c.run_observed-run.new.observer in
+    let Seen = HasSeen hot in
+    let whole : complete ≡ is_complete outcome account = c.is_complete-complete.ensures.complete in
+    let of_both = subst
+    (λ (f : List ProxyFailure). IsObservedRun Seen options files received f (is_complete outcome account) account.stop)
+    (sym c.deref_mut-in-Err-text_of_top.ensures.value) (c.in-Ok.ensures.observed c.new-hot.ensures.none) in
+    let observed = subst (λ (b : Bool). IsObservedRun Seen options files received failures b account.stop) (sym whole) of_both in
+    let run = observed.run in
+    let list = observed.seen.list in
+    let ran : IsObservedRun (λ seen. seen ≡ list) options files received failures complete account.stop = record {
+      run = run;
+      seen = seen_are Seen account.stop options.window run.log observed.seen;
+    } in
+    let ending = ending_is complete account.stop c.new-ending.result c.new-ending.ensures.ending in
+    let report = c.report_last_loss.ensures in
+    let told = c.report_last_loss.new.failures in
+    let out = written (g.O.Sink.given c.args.out.now) (g.O.Sink.given c.args.out.now)
+    (g.O.Sink.failures c.args.out.now) (g.O.Sink.failures c.args.out.now) in
+    let error = written (g.E.Sink.given c.args.error.now) (g.E.Sink.given c.report_last_loss.new.error)
+    (g.E.Sink.failures c.args.error.now) (g.E.Sink.failures c.report_last_loss.new.error) in
+    let some : 1 ≤ length failures = omega (
+      arith,
+      run.failures_count,
+      length-map c.args.readers.items g.S.Source.remaining,
+      c.requires.least_files,
+      c.args.readers.ok.0,
+    ) in
+    let last = length failures - 1 in
+    inr (record {
+      counted = list;
+      top = None;
+      is_top = tt;
+      nothing_without = λ none. refl;
+      failed = ran_and_lost options files received failures complete account.stop run
+          (IsObservedRun (λ seen. seen ≡ list) options files) ran (run_summary c.args.wanted.form) TakesToSummarize out error
+          last told c.report_last_loss.result.told (omega (arith, some))
+          (inr (omega (arith, some, run.failures_count, run.received_count))) refl
+          (subst (λ (e : Ending). OnOk c.report_last_loss.result.told (Took error (failure_lines told e))) ending report.failure_lines)
+          report.told.0 (report.loss last (omega (arith, some)));
+    })

@@ -1,0 +1,75 @@
+//! What a command line asks for.
+
+ghost use Rattle.std.specs.Prelude.{◌≡◌, ◌≢◌, ℕ, List};
+ghost use Rattle.std.specs.Io.KnownBytes.{Keeps};
+ghost use Rattle.replay_arguments.specs.Asks.{Asks};
+ghost use Rattle.replay_program.specs.Program.{IsLineDone, LineFails, LineFindsDifferences};
+ghost use Rattle.replay_program.specs.Program.{named_files};
+ghost use Rattle.replay_program.specs.Replayed.{written};
+ghost use Rattle.replay_stream.specs.Sinks.{state_by};
+
+use crate::program::opened::open_batches;
+use crate::program::task::run_task;
+use crate::report::RunReport;
+use replay_arguments::{CommandLine, Files, WrittenFile, fail_to_create_file, fail_to_open};
+use replay_output::Status;
+use std::alloc::Global;
+use std::sync::Wait;
+use std::thread::Threads;
+use wire::Sink;
+
+/// Opens the files of batches, creates the file for the output, if one is named, and does the task.
+/// If a file can't be opened or created, nothing is printed to `out`, and that is reported to
+/// `error`.
+pub fn run_line<R: Threads + Wait + Copy + Send + 'static, F: Files, O: Sink, E: Sink>(
+    rt: &R,
+    alloc: Global,
+    files: &F,
+    line: &CommandLine,
+    out: &mut O,
+    error: &mut E,
+) -> RunReport<F::Writer>
+    requires asked { (words : List (List ℕ)) × Asks words line.now }
+    ensures done { result.status ≡ Status.Done
+        → IsLineDone (state_by F.Writer.given F.Writer.failures)
+        (named_files (F.contents files.now) (F.has_opened files.now) (F.cannot_open files.now)
+        (F.begun files.now) (F.has_created files.now) (F.cannot_create files.now))
+        line.now result
+        (written (O.given out.old) (O.given out.new) (O.failures out.old) (O.failures out.new)) }
+    ensures differs { result.status ≡ Status.Differs
+        → LineFindsDifferences (state_by F.Writer.given F.Writer.failures)
+        (named_files (F.contents files.now) (F.has_opened files.now) (F.cannot_open files.now)
+        (F.begun files.now) (F.has_created files.now) (F.cannot_create files.now))
+        line.now result
+        (written (O.given out.old) (O.given out.new) (O.failures out.old) (O.failures out.new)) }
+    ensures quiet { result.status ≢ Status.Failed → Keeps (E.given error.old) (E.given error.new) }
+    ensures failed { result.status ≡ Status.Failed
+        → LineFails (state_by F.Writer.given F.Writer.failures)
+        (named_files (F.contents files.now) (F.has_opened files.now) (F.cannot_open files.now)
+        (F.begun files.now) (F.has_created files.now) (F.cannot_create files.now))
+        line.now result
+        (written (O.given out.old) (O.given out.new) (O.failures out.old) (O.failures out.new))
+        (written (E.given error.old) (E.given error.new) (E.failures error.old)
+        (E.failures error.new)) }
+    ensures ends { result.status ≢ Status.Usage }
+{
+    let opened = match open_batches(alloc, files, line) {
+        Ok(opened) => opened,
+        Err(cause) => return RunReport::without_files(alloc, fail_to_open(error, cause)),
+    };
+    match line.output {
+        None => run_task(rt, alloc, files, line, opened, out, error),
+        Some(name) => match files.create(name) {
+            Ok(writer) => {
+                let mut writer = writer;
+                let mut report = run_task(rt, alloc, files, line, opened, &mut writer, error);
+                report.output = Some(writer);
+                report
+            }
+            Err(cause) => {
+                let status = fail_to_create_file(error, WrittenFile::Output, cause);
+                RunReport::without_files(alloc, status)
+            }
+        },
+    }
+}

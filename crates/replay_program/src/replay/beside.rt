@@ -1,0 +1,82 @@
+//! All that follows the opening of the files if a summary is written beside the answers.
+
+ghost use Rattle.std.specs.Prelude.{◌≡◌, ◌≤◌, ◌≢◌, map, vec_len};
+ghost use Rattle.std.specs.Io.KnownBytes.{Keeps};
+ghost use Rattle.replay_program.specs.Replayed.{written};
+ghost use Rattle.replay_program.specs.Summarized.{FailsToReplayAndSummarize};
+ghost use Rattle.replay_program.specs.Summarized.{IsReplayedAndSummarized};
+
+use crate::summary::{SummaryWriter, print_with_summary};
+use replay_output::{Ending, Options, Status, fail_to_start};
+use replay_workers::{Gatekeeper, Outcome, ShareKeeper, run};
+use resolver::MAX_PROXIES;
+use std::alloc::Global;
+use std::sync::{Arc, Wait};
+use std::thread::Threads;
+use wire::{Sink, Source};
+
+/// Replays the files of these readers as [`replay_over`](crate::replay_over) does. Prints one line per answer to `out`,
+/// writes the summary of all answers, and prints one line a failure to `error`. A failure of one
+/// writer doesn't keep the text from the other.
+///
+/// If memory is refused to sort the lines or for the summary, neither text is begun.
+pub fn replay_and_summarize_over<
+    S: Source + Send + Drop + 'static,
+    G: Gatekeeper + ShareKeeper + Send + Sync + Drop + 'static,
+    R: Threads + Wait + Copy + Send + 'static,
+    O: Sink,
+    T: Sink,
+    E: Sink,
+>(
+    rt: &R,
+    alloc: Global,
+    readers: Vec<S>,
+    options: Options,
+    gatekeeper: &Arc<G, Global>,
+    out: &mut O,
+    summary: &mut SummaryWriter<T>,
+    error: &mut E,
+) -> Status
+    requires least_files { 1 ≤ vec_len readers }
+    requires most_files { vec_len readers ≤ MAX_PROXIES }
+    // The log is that of the text. The summary is of all answers, whether or not their lines are
+    // shown.
+    ensures done { result ≡ Status.Done
+        → IsReplayedAndSummarized summary.old.form options (map S.remaining readers.items)
+        (O.given out.old) (O.given out.new)
+        (T.given summary.old.writer) (T.given summary.new.writer) }
+    ensures quiet { result ≡ Status.Done → Keeps (E.given error.old) (E.given error.new) }
+
+    // Something failed, and its lines were written, or the writer failed.
+    ensures failed { result ≡ Status.Failed
+        → FailsToReplayAndSummarize summary.old.form options (map S.remaining readers.items)
+        (written (O.given out.old) (O.given out.new) (O.failures out.old) (O.failures out.new))
+        (written (T.given summary.old.writer) (T.given summary.new.writer)
+        (T.failures summary.old.writer) (T.failures summary.new.writer))
+        (written (E.given error.old) (E.given error.new) (E.failures error.old)
+        (E.failures error.new)) }
+    ensures ends { result ≢ Status.Usage }
+    ensures same { result ≢ Status.Differs }
+{
+    serial::laws::answers_tell_verdicts();
+    let (outcome, account) = match run(rt, alloc, readers, options, gatekeeper) {
+        Ok(ended) => ended,
+        Err(cause) => return fail_to_start(error, cause),
+    };
+    let Outcome {
+        mut lines,
+        mut failures,
+        all_sent,
+        ..
+    } = outcome;
+    let ending = Ending::new(account.complete && all_sent, account.stop);
+    print_with_summary(
+        alloc,
+        out,
+        summary,
+        error,
+        &mut lines,
+        &mut failures,
+        ending,
+    )
+}
