@@ -1,9 +1,9 @@
-"""What `--explain` prints under the line of a batch, by a scan of all writes."""
+"""What `--explain` prints with the line of a batch, by a scan of all writes."""
 
 from collections.abc import Iterator, Sequence
 from dataclasses import dataclass, field
 
-from .lines import key_form
+from .lines import key_form, quoted
 from .wire import Batch, Entry, Range, Reply, Txn
 
 
@@ -26,6 +26,26 @@ def write_form(write: Write, version: int) -> str:
     return f"{range_form(write.of)} of proxy {write.proxy}, version {write.version}, txn {write.txn} ({origin})"
 
 
+def pair_json(of: Range) -> str:
+    return f"[{quoted(key_form(of.begin))},{quoted(key_form(of.end))}]"
+
+
+def write_json(write: Write) -> str:
+    return f'{{"range":{pair_json(write.of)},"proxy":{write.proxy},"version":{write.version},"txn":{write.txn}}}'
+
+
+@dataclass(frozen=True)
+class Note:
+    """What explains the rejections in a batch: as lines, and as members of an array of JSON."""
+
+    lines: str = ""
+    objects: tuple[str, ...] = ()
+
+    @property
+    def member(self) -> str:
+        return f',"explanations":[{",".join(self.objects)}]' if self.objects else ""
+
+
 @dataclass
 class Explainer:
     """The batches that were processed, in order."""
@@ -33,25 +53,38 @@ class Explainer:
     window: int
     processed: list[tuple[int, Batch, Reply]] = field(default_factory=list)
 
-    def process(self, proxy: int, batch: Batch, reply: Reply) -> str:
-        """Takes the batch that was processed last, and returns the lines that explain its rejections."""
+    def process(self, proxy: int, batch: Batch, reply: Reply) -> Note:
+        """Takes the batch that was processed last, and returns what explains its rejections."""
         self.processed.append((proxy, batch, reply))
         txns = zip(batch.txns, reply.entries)
-        return "".join(line for index, (txn, entry) in enumerate(txns) for line in self.lines(index, txn, entry, batch.version))
+        pairs = [pair for index, (txn, entry) in enumerate(txns) for pair in self.pairs(index, txn, entry, batch.version)]
+        return Note("".join(line for line, _ in pairs), tuple(one for _, one in pairs))
 
-    def lines(self, index: int, txn: Txn, entry: Entry, version: int) -> Iterator[str]:
+    def pairs(self, index: int, txn: Txn, entry: Entry, version: int) -> Iterator[tuple[str, str]]:
+        """Yields the lines and the objects of JSON that explain why a transaction was rejected."""
         if entry.verdict == "tooold":
             oldest = max(0, version - self.window)
-            yield f"  txn {index} too old: snapshot {txn.snapshot}, oldest readable version {oldest}\n"
+            yield (
+                f"  txn {index} too old: snapshot {txn.snapshot}, oldest readable version {oldest}\n",
+                f'{{"txn":{index},"too_old":{{"snapshot":{txn.snapshot},"oldest":{oldest}}}}}',
+            )
         elif entry.verdict == "conflict":
             for read in entry.indices or range(len(txn.reads)):
                 writes = self.writes(index, txn, txn.reads[read], version)
                 if writes:
-                    yield self.line(index, read, txn.reads[read], writes, version)
+                    of = txn.reads[read]
+                    yield self.line(index, read, of, writes, version), self.object(index, read, of, writes, version)
 
     def line(self, index: int, read: int, of: Range, writes: Sequence[Write], version: int) -> str:
         further = f", and {len(writes) - 1} more" if len(writes) > 1 else ""
         return f"  txn {index} read {read} {range_form(of)} conflicts with write {write_form(writes[-1], version)}{further}\n"
+
+    def object(self, index: int, read: int, of: Range, writes: Sequence[Write], version: int) -> str:
+        is_same_batch = "true" if writes[-1].version == version else "false"
+        return (
+            f'{{"txn":{index},"read":{read},"range":{pair_json(of)},"write":{write_json(writes[-1])},'
+            f'"further":{len(writes) - 1},"same_batch":{is_same_batch}}}'
+        )
 
     def writes(self, index: int, txn: Txn, read: Range, version: int) -> list[Write]:
         """Returns the writes that explain the conflict of a read, in order."""

@@ -9,7 +9,7 @@ from collections.abc import Sequence
 from dataclasses import dataclass, field
 from decimal import ROUND_HALF_UP, Decimal
 
-from .explaining import Explainer
+from .explaining import Explainer, Note
 from .lines import entry_json
 from .wire import Batch, Entry, Range, Reply, Txn, reply_frame
 
@@ -27,8 +27,8 @@ class Answer:
     # `never` or `held` if there is no reply.
     reply: Reply | None
     word: str = ""
-    # The lines that explain the rejections of a reply.
-    note: str = ""
+    # What explains the rejections of a reply.
+    note: Note = Note()
 
 
 @dataclass(frozen=True)
@@ -84,7 +84,7 @@ class Resolver:
     kept: dict[tuple[int, int], Reply] = field(default_factory=dict)
     answers: dict[int, list[Answer]] = field(default_factory=dict)
     explainer: Explainer | None = None
-    notes: dict[tuple[int, int], str] = field(default_factory=dict)
+    notes: dict[tuple[int, int], Note] = field(default_factory=dict)
 
     def admit(self, proxy: int, batch: Batch) -> None:
         """Takes a batch, and each held one that is due after it."""
@@ -123,7 +123,7 @@ class Resolver:
         self.answer(proxy, batch.version, reply)
 
     def answer(self, proxy: int, version: int, reply: Reply | None, word: str = "") -> None:
-        note = "" if reply is None else self.notes.get((proxy, version), "")
+        note = Note() if reply is None else self.notes.get((proxy, version), Note())
         self.answers.setdefault(proxy, []).append(Answer(version, reply, word, note))
 
     def judge(self, batch: Batch) -> Reply:
@@ -177,11 +177,11 @@ def line_of(proxy: int, answer: Answer, form: str) -> str:
         body = f'"answer":"{answer.word}"'
         if answer.reply is not None:
             body = f'"verdicts":[{",".join(entry_json(entry) for entry in answer.reply.entries)}]'
-        return f'{{"proxy":{proxy},"version":{answer.version},{body}}}\n'
+        return f'{{"proxy":{proxy},"version":{answer.version},{body}{answer.note.member}}}\n'
     if answer.reply is None:
         return f"{proxy} {answer.version} {answer.word}\n"
     shown = reply_frame(answer.reply).hex() if form == "frames" else words_of(answer.reply)
-    return f"{proxy} {answer.version} {shown}\n{answer.note}"
+    return f"{proxy} {answer.version} {shown}\n{answer.note.lines}"
 
 
 def lines_of(answers: Sequence[Sequence[Answer]], form: str, shown: Filter = ALL_LINES) -> str:

@@ -72,13 +72,13 @@ def names_of(files: Sequence[bytes]) -> dict[str, bytes]:
 def draw_run(chance: Random, files: Sequence[bytes], window: int | None, is_known: bool = True) -> Run:
     """A run in one of the forms, with what the rules say of it if they are to be asked."""
     form, is_summary = chance.choice(FORMS), chance.random() < 0.1
-    explains = not is_summary and form == "words" and chance.random() < 0.3
+    explains = not is_summary and form != "frames" and chance.random() < 0.3
     if is_summary:
         form = "words" if form == "frames" else form
         chosen, shown = ["--summary"], ALL_LINES
     else:
         chosen, shown = draw_filter(chance)
-    flags = [*chosen, "--explain"] if explains else chosen if form == "words" else [*chosen, f"--{form}"]
+    flags = [*chosen, *(["--explain"] if explains else []), *([] if form == "words" else [f"--{form}"])]
     options, names = draw_options(chance, window), list(names_of(files))
     args = chance.choice(([*flags, *options, *names], [*options, *names, *flags], [*names, *flags, *options]))
     expected = None

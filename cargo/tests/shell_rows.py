@@ -301,6 +301,27 @@ REJECTED = (
     '  txn 3 read 0 ["k","k\\x00") conflicts with write ["k","k\\x00") of proxy 0, version 200, txn 2 (same batch)\n'
     '  txn 4 read 0 ["a","z") conflicts with write ["k","k\\x00") of proxy 0, version 200, txn 2 (same batch), and 2 more\n'
 )
+SECOND_MEMBER = (
+    '"explanations":[{"txn":0,"read":0,"range":["a","b"],'
+    '"write":{"range":["a","b"],"proxy":0,"version":100,"txn":0},"further":0,"same_batch":false}]'
+)
+FIRST_JSON = '{"proxy":0,"version":0,"verdicts":[]}\n{"proxy":0,"version":100,"verdicts":["committed"]}\n'
+SECOND_JSON = '{"proxy":1,"version":200,"verdicts":["conflict"],' + SECOND_MEMBER + "}\n"
+TOO_OLD_JSON = (
+    '{"proxy":0,"version":101,"verdicts":["tooold","committed"],'
+    '"explanations":[{"txn":0,"too_old":{"snapshot":99,"oldest":100}}]}\n'
+)
+REJECTED_JSON = (
+    '{"proxy":0,"version":200,"verdicts":[{"conflict":[1]},"conflict","committed","conflict","conflict"],"explanations":['
+    '{"txn":0,"read":1,"range":["k","k\\\\x00"],'
+    '"write":{"range":["j","l"],"proxy":0,"version":100,"txn":1},"further":1,"same_batch":false},'
+    '{"txn":1,"read":0,"range":["\\\\x01\\"","\\\\x01\\"\\\\x00"],'
+    '"write":{"range":["\\\\x01\\"","\\\\x01\\"\\\\x00"],"proxy":0,"version":100,"txn":2},"further":0,"same_batch":false},'
+    '{"txn":3,"read":0,"range":["k","k\\\\x00"],'
+    '"write":{"range":["k","k\\\\x00"],"proxy":0,"version":200,"txn":2},"further":0,"same_batch":true},'
+    '{"txn":4,"read":0,"range":["a","z"],'
+    '"write":{"range":["k","k\\\\x00"],"proxy":0,"version":200,"txn":2},"further":2,"same_batch":true}]}\n'
+)
 THREE = "0 100 committed committed committed\n"
 EXPLAINS = (
     ShellRow(("--explain", "first"), FIRST),
@@ -313,6 +334,15 @@ EXPLAINS = (
     ShellRow(("--explain", "overtaken"), "0 0 empty\n0 100 empty\n0 200 committed\n0 300 never\n"),
     ShellRow(("--explain", "second", "third"), "0 200 held\n1 300 held\n"),
     ShellRow(("--explain", "empty"), ""),
+    # In a line of JSON they are a member.
+    ShellRow(("--explain", "--json", "first"), FIRST_JSON),
+    ShellRow(("--json", "first", "second", "--explain"), FIRST_JSON + SECOND_JSON),
+    ShellRow(("--explain", "--json", "--window", "1", "--versions", "101..", "conflict"), TOO_OLD_JSON),
+    ShellRow(("--explain", "--json", "--versions", "200..", "rejected"), 2 * REJECTED_JSON),
+    ShellRow(("--explain", "--json", "third"), '{"proxy":0,"version":300,"answer":"held"}\n'),
+    ShellRow(("--explain", "--json", "--only", "committed", "second", "first"), '{"proxy":1,"version":100,"verdicts":["committed"]}\n'),
+    ShellRow(("--explain", "--json", "--quiet", "first", "second"), ""),
+    ShellRow(("--explain", "--json", "cut"), '{"proxy":0,"version":0,"verdicts":[]}\n', SHORT, 1),
     # What isn't shown isn't explained.
     ShellRow(("--explain", "--only", "committed", "first", "second"), "0 100 committed\n"),
     ShellRow(("--explain", "--only", "conflict", "first", "second"), "1 200 conflict\n" + SECOND_EXPLAINED),
@@ -324,7 +354,81 @@ EXPLAINS = (
     ShellRow(("--explain", "first", "none"), "", "replay: proxy 1: cannot open\n", 1),
 )
 
-ROWS = ANSWERS + FAILURES + CHECKS + STREAMS + RECORDS + FILTERS + ARGUMENTS + SUMMARIES + EXPLAINS
+# With a file for the output it gets the same bytes, and standard output stays empty. The lines of failures come after them.
+OUTPUTS = tuple(
+    ShellRow(("-o", "/dev/stderr", *row.args), "", row.out + row.err, row.status, row.stdin)
+    for row in ANSWERS + FAILURES + CHECKS + STREAMS + FILTERS[:8] + SUMMARIES + EXPLAINS
+) + (
+    ShellRow(("first", "--output=/dev/stderr"), "", FIRST),
+    ShellRow(("first", "-o/dev/stderr", "--json"), "", FIRST_JSON),
+    ShellRow(("-o", "out", "first"), ""),
+    ShellRow(("-o", "out", "first", "--check", "others"), "", "", 3),
+    ShellRow(("-o", "out", "--stream", "third", "--replies", "/dev/stderr"), "", HELD_RECORD),
+    ShellRow(("-o", "/dev/stderr", "--stream", "--replies", "out", "first"), "", FIRST),
+    # A write that fails has no line.
+    ShellRow(("-o", "/dev/full", "first"), "", "", 1),
+    ShellRow(("-o", "/dev/full", "--explain", "first"), "", "", 1),
+    ShellRow(("-o", "/dev/full", "--summary", "first"), "", "", 1),
+    ShellRow(("-o", "/dev/full", "--stream", "first"), "", "", 1),
+    ShellRow(("-o", "/dev/full", "--check", "same", "first"), "", "", 1),
+    ShellRow(("-o", "/dev/full", "cut"), "", SHORT, 1),
+    ShellRow(("-o", "/dev/full", "empty"), ""),
+    # It is created after the files of batches were opened, and before anything else is done.
+    ShellRow(("-o", "no/such/out", "first"), "", "replay: create output\n", 1),
+    ShellRow(("-o", ".", "first", "--json"), "", "replay: create output\n", 1),
+    ShellRow(("-o", "", "--stream", "first"), "", "replay: create output\n", 1),
+    ShellRow(("-o", "no/such/out", "first", "none"), "", "replay: proxy 1: cannot open\n", 1),
+    ShellRow(("-o", "no/such/out", "first", "--check", "nowhere"), "", "replay: create output\n", 1),
+    ShellRow(("-o", "no/such/out", "first", "--stream", "--replies", "no/such/out"), "", "replay: create output\n", 1),
+)
+
+
+def hot(reads: tuple[str, ...], writes: tuple[str, ...]) -> str:
+    """The lines of ranges that conflict most."""
+    lines = ["read ranges in conflict, most first", *reads, "written ranges in conflict, most first", *writes]
+    return "".join(f"{line}\n" for line in lines)
+
+
+# Summaries with the ranges that conflict most.
+ONE_HOT = ('  1 ["a","b")',)
+TOPS = (
+    ShellRow(("--summary", "--top", "5", "first"), alone(2, 1, 1, 0, 0, 0, 0, 0, versions="0 to 100") + hot((), ())),
+    ShellRow(("--top", "1", "first", "--summary", "second"), TWO_COUNTED + hot(ONE_HOT, ONE_HOT)),
+    ShellRow(
+        ("--json", "--summary", "--top", "1", "conflict"),
+        '{"proxies":[{"proxy":0,"batches":3,"transactions":3,"committed":2,"conflict":1,"tooold":0,"conflict_percent":33.3,"repeats":0,'
+        '"never":0,"held":0,"versions":{"first":0,"last":101}}],"batches":3,"transactions":3,"committed":2,"conflict":1,"tooold":0,'
+        '"conflict_percent":33.3,"repeats":0,"never":0,"held":0,"versions":{"first":0,"last":101},'
+        '"hot_reads":[{"begin":"a","end":"b","conflicts":1}],"hot_writes":[{"begin":"a","end":"b","conflicts":1}]}\n',
+    ),
+    ShellRow(("--summary", "--top", "9", "conflict", "--window=1"), alone(3, 3, 2, 0, 1, 0, 0, 0, versions="0 to 101") + hot((), ())),
+    ShellRow(("--summary", "--top", "9", "cut"), alone(1, 0, 0, 0, 0, 0, 0, 0, versions="0 to 0") + hot((), ()), SHORT, 1),
+    ShellRow(("--summary", "--top", "9", "first", "none"), "", "replay: proxy 1: cannot open\n", 1),
+    ShellRow(("-o", "/dev/full", "--summary", "--top", "9", "first"), "", "", 1),
+)
+
+# A summary beside the answers.
+FIRST_COUNTED = alone(2, 1, 1, 0, 0, 0, 0, 0, versions="0 to 100")
+BESIDES = (
+    ShellRow(("first", "--summary-to", "/dev/stderr"), FIRST, FIRST_COUNTED),
+    ShellRow(("--summary-to=/dev/stderr", "first", "second"), FIRST + "1 200 conflict\n", TWO_COUNTED),
+    # The summary is of all answers.
+    ShellRow(("--summary-to", "/dev/stderr", "first", "--quiet"), "", FIRST_COUNTED),
+    ShellRow(("--summary-to", "/dev/stderr", "first", "--versions", "100.."), "0 100 committed\n", FIRST_COUNTED),
+    ShellRow(("--summary-to", "/dev/stderr", "cut"), "0 0 empty\n", alone(1, 0, 0, 0, 0, 0, 0, 0, versions="0 to 0") + SHORT, 1),
+    ShellRow(("--summary-to", "out", "first"), FIRST),
+    ShellRow(("--summary-to", "out", "-o", "/dev/stderr", "first"), "", FIRST),
+    ShellRow(("--summary-to", "/dev/stderr", "-o", "out", "first"), "", FIRST_COUNTED),
+    # The other text is complete if one can't be written.
+    ShellRow(("--summary-to", "/dev/full", "first"), FIRST, "", 1),
+    ShellRow(("--summary-to", "/dev/stderr", "-o", "/dev/full", "first"), "", FIRST_COUNTED, 1),
+    # It is created after the files were opened and the output was created.
+    ShellRow(("--summary-to", "no/such/out", "first"), "", "replay: create summary\n", 1),
+    ShellRow(("--summary-to", "no/such/out", "-o", "no/such/out", "first"), "", "replay: create output\n", 1),
+    ShellRow(("--summary-to", "no/such/out", "none"), "", "replay: proxy 0: cannot open\n", 1),
+)
+
+ROWS = ANSWERS + FAILURES + CHECKS + STREAMS + RECORDS + FILTERS + ARGUMENTS + SUMMARIES + EXPLAINS + OUTPUTS + TOPS + BESIDES
 
 # Refused with status 2 and a text of `clap` on standard error. Nothing is on standard output.
 REFUSED: tuple[tuple[str | bytes, ...], ...] = (
@@ -419,7 +523,10 @@ REFUSED: tuple[tuple[str | bytes, ...], ...] = (
     ("--explain", "--stream", "--replies", "out", "first"),
     ("--explain", "--replies", "out", "first"),
     ("--explain", "--frames", "first"),
-    ("--explain", "--json", "first"),
+    ("--explain", "--json", "--check", "same", "first"),
+    ("--explain", "--json", "--stream", "first"),
+    ("--explain", "--json", "--frames", "first"),
+    ("--explain", "--json", "--summary", "first"),
     ("--explain", "--summary", "first"),
     ("--summary",),
     ("--summary", "--summary", "first"),
@@ -433,6 +540,35 @@ REFUSED: tuple[tuple[str | bytes, ...], ...] = (
     ("--summary", "--quiet", "first"),
     ("--summary", "--only", "committed", "first"),
     ("--summary", "--versions", "..", "first"),
+    ("-o", "out"),
+    ("first", "-o"),
+    ("first", "--output"),
+    ("-o", "out", "-o", "out", "first"),
+    ("-o", "out", "--output", "out", "first"),
+    ("--summary-to", "to"),
+    ("first", "--summary-to"),
+    ("--summary-to", "to", "--summary-to", "to", "first"),
+    ("--summary-to", "to", "--summary", "first"),
+    ("--summary-to", "to", "--check", "same", "first"),
+    ("--summary-to", "to", "--stream", "first"),
+    ("--summary-to", "to", "--stream", "--replies", "out", "first"),
+    ("--summary-to", "to", "--replies", "out", "first"),
+    ("--summary-to", "to", "--frames", "first"),
+    ("--summary-to", "to", "--explain", "first"),
+    ("--summary-to", "to", "--explain", "--json", "first"),
+    ("--top", "5", "first"),
+    ("--top", "5", "--json", "first"),
+    ("--top", "5", "--stream", "first"),
+    ("--top", "5", "--check", "same", "first"),
+    ("--top", "5", "--explain", "first"),
+    ("--top", "5", "--summary-to", "to", "first"),
+    ("--top", "0", "--summary", "first"),
+    ("--top", "1001", "--summary", "first"),
+    ("--top", "-1", "--summary", "first"),
+    ("--top", "five", "--summary", "first"),
+    ("--top", "", "--summary", "first"),
+    ("--top", "5", "--top", "5", "--summary", "first"),
+    ("--summary", "first", "--top"),
     (b"\xff",),
     ("first", b"sec\xc3ond"),
     ("--help", b"\xff"),
@@ -451,9 +587,19 @@ REASONS: tuple[tuple[tuple[str | bytes, ...], str], ...] = (
         "error: --summary is wanted without --check, --stream, --frames, --quiet, --only and --versions\n",
     ),
     (
-        ("--explain", "--json", "first"),
-        "error: --explain is wanted without --check, --stream, --summary, --frames and --json\n",
+        ("--explain", "--frames", "first"),
+        "error: --explain is wanted without --check, --stream, --summary and --frames\n",
     ),
+    (
+        ("--summary-to", "to", "--stream", "first"),
+        "error: --summary-to is wanted without --check, --stream, --summary, --explain and --frames\n",
+    ),
+    (
+        ("--summary-to", "to", "--explain", "first"),
+        "error: --summary-to is wanted without --check, --stream, --summary, --explain and --frames\n",
+    ),
+    (("--top", "5", "first"), "error: --top is wanted with --summary\n"),
+    (("--top", "5", "--summary-to", "to", "first"), "error: --top is wanted with --summary\n"),
     (("--replies", "out", "first"), "error: --replies OUT is wanted with --stream\n"),
     (("--stream", "--replies", "out", "first", "second"), "error: --replies OUT is wanted once a file\n"),
     (("-", "first", "-"), "error: standard input (-) can be given only once\n"),

@@ -21,7 +21,7 @@ const BATCHES: [(&str, &[&str], &[u8]); 4] = [
 /// The files of replies that the rows name.
 const REPLIES: [(&str, &[&str]); 2] = [("same", &["100 committed", "0 empty"]), ("others", &["50 empty", "0 tooold", "100 tooold"])];
 
-/// Files in memory. Any file can be written.
+/// Files in memory. Any file can be written but one whose name is `sealed`.
 struct Shelf;
 
 impl Files for Shelf {
@@ -38,8 +38,11 @@ impl Files for Shelf {
         }
     }
 
-    fn create(&self, _name: &str) -> Result<StdSink<Vec<u8>>, FileError> {
-        Ok(StdSink::new(Vec::new()))
+    fn create(&self, name: &str) -> Result<StdSink<Vec<u8>>, FileError> {
+        match name {
+            "sealed" => Err(FileError::CannotOpen),
+            _ => Ok(StdSink::new(Vec::new())),
+        }
     }
 }
 

@@ -3,7 +3,7 @@
 use keyspace::Verdict;
 use rattle_std::alloc::Global;
 use rattle_std::string::String as KitString;
-use replay_program::{CommandLine, Filter, Form, Options, Refusal, Style, read_words};
+use replay_program::{CommandLine, Filter, Form, Options, Refusal, Style, Task, read_words};
 use tests::failing::Failing;
 use tests::printing::ended;
 use wire::StdSink;
@@ -26,13 +26,31 @@ fn options_text(line: &CommandLine) -> String {
         Form::Words => "",
         Form::Frames => " frames",
         Form::Json => " json",
-        Form::Kept => " check",
+        Form::Kept => " kept",
     };
-    let streamed = if line.is_streamed { " stream" } else { "" };
-    let summary = line.summary.map_or(String::new(), |form| format!(" summary {form:?}"));
-    let names = line.replies.iter().chain(line.records.iter());
-    let names: String = names.map(|name| format!(" {name}")).collect();
-    format!(" {capacity} {window} {limit}{form}{}{streamed}{summary}{names}", filter_text(&style.filter))
+    let (task, details) = (task_text(&line.task), details_text(line));
+    format!(" {capacity} {window} {limit}{form}{}{task}{details}", filter_text(&style.filter))
+}
+
+fn task_text(task: &Task) -> String {
+    match task {
+        Task::Print => String::new(),
+        Task::Explain => " explain".to_owned(),
+        Task::Summarize(form, None) => format!(" summary {form:?}"),
+        Task::Summarize(form, Some(top)) => format!(" summary {form:?} top {top}"),
+        Task::Stream(records) => format!(" stream{}", names_text(records)),
+        Task::Check(replies) => format!(" check{}", names_text(replies)),
+    }
+}
+
+fn names_text(names: &[&str]) -> String {
+    names.iter().map(|name| format!(" {name}")).collect()
+}
+
+fn details_text(line: &CommandLine) -> String {
+    let output = line.output.map(|name| format!(" to {name}"));
+    let summary = line.summary_to.map(|file| format!(" summary {:?} to {}", file.form, file.name));
+    [output, summary].into_iter().flatten().collect()
 }
 
 fn filter_text(filter: &Filter) -> String {
@@ -120,6 +138,27 @@ fn refused_words() {
         "--summary --quiet f",
         "--summary --only tooold f",
         "--summary --versions .. f",
+        "-o r",
+        "f -o",
+        "-o r --output s f",
+        "--summary-to r",
+        "--summary-to r --summary-to s f",
+        "--summary-to r --summary f",
+        "--summary-to r --check s f",
+        "--summary-to r --stream f",
+        "--summary-to r --frames f",
+        "--summary-to r --explain f",
+        "--summary-to r --json --explain f",
+        "--top 5 f",
+        "--top 5 --stream f",
+        "--top 5 --explain f",
+        "--top 5 --check r f",
+        "--top 5 --summary-to r f",
+        "--top 0 --summary f",
+        "--top 1001 --summary f",
+        "--top -1 --summary f",
+        "--top many --summary f",
+        "--top 5 --top 5 --summary f",
     ] {
         refuses(given);
     }
@@ -140,6 +179,16 @@ fn reasons_of_refusals() {
             "--summary --quiet f",
             "error: --summary is wanted without --check, --stream, --frames, --quiet, --only and --versions\n",
         ),
+        (
+            "--summary-to r --stream f",
+            "error: --summary-to is wanted without --check, --stream, --summary, --explain and --frames\n",
+        ),
+        (
+            "--summary-to r --explain f",
+            "error: --summary-to is wanted without --check, --stream, --summary, --explain and --frames\n",
+        ),
+        ("--top 5 f", "error: --top is wanted with --summary\n"),
+        ("--top 5 --summary-to r f", "error: --top is wanted with --summary\n"),
         ("--replies r f", "error: --replies OUT is wanted with --stream\n"),
         ("--stream --replies r f g", "error: --replies OUT is wanted once a file\n"),
         ("- f -", "error: standard input (-) can be given only once\n"),
@@ -158,11 +207,11 @@ fn words_and_options() {
         ("-- --frames", "--frames | 16 5000000 1000000"),
         ("a - b", "a - b | 16 5000000 1000000"),
         ("-- -", "- | 16 5000000 1000000"),
-        ("--check - a", "a | 16 5000000 1000000 check -"),
+        ("--check - a", "a | 16 5000000 1000000 kept check -"),
         ("- ./- --json", "- ./- | 16 5000000 1000000 json"),
         ("--capacity 1 --window=1 a --frames b --limit 1", "a b | 1 1 1 frames"),
         ("--json a", "a | 16 5000000 1000000 json"),
-        ("--check r a b --check=s", "a b | 16 5000000 1000000 check r s"),
+        ("--check r a b --check=s", "a b | 16 5000000 1000000 kept check r s"),
         ("a --stream b", "a b | 16 5000000 1000000 stream"),
         ("--quiet a", "a | 16 5000000 1000000 quiet"),
         ("--only committed a --stream", "a | 16 5000000 1000000 only Committed stream"),
@@ -175,6 +224,21 @@ fn words_and_options() {
         ("--replies r a --stream --json", "a | 16 5000000 1000000 json stream r"),
         ("--stream --replies - a --replies=s b", "a b | 16 5000000 1000000 stream - s"),
         ("--capacity=1024 --window 1099511627776 --limit 16777216 a", "a | 1024 1099511627776 16777216"),
+        ("-o r a", "a | 16 5000000 1000000 to r"),
+        ("a --output=r --frames", "a | 16 5000000 1000000 frames to r"),
+        ("-or a --check s", "a | 16 5000000 1000000 kept check s to r"),
+        ("--stream a --output - --replies s", "a | 16 5000000 1000000 stream s to -"),
+        ("--summary -o r a", "a | 16 5000000 1000000 summary Words to r"),
+        ("--explain --output r a", "a | 16 5000000 1000000 explain to r"),
+        ("--summary-to r a", "a | 16 5000000 1000000 summary Words to r"),
+        ("a --json --summary-to=r", "a | 16 5000000 1000000 json summary Json to r"),
+        ("--summary-to r --quiet --only tooold a", "a | 16 5000000 1000000 quiet only TooOld summary Words to r"),
+        ("--summary-to r -o s a", "a | 16 5000000 1000000 to s summary Words to r"),
+        ("--explain a --json", "a | 16 5000000 1000000 json explain"),
+        ("--explain --only conflict a", "a | 16 5000000 1000000 only Conflict explain"),
+        ("--top 1 --summary a", "a | 16 5000000 1000000 summary Words top 1"),
+        ("--summary --json --top=+01000 a", "a | 16 5000000 1000000 json summary Json top 1000"),
+        ("--top 20 --summary -o r a", "a | 16 5000000 1000000 summary Words top 20 to r"),
     ] {
         assert_eq!(read(given), expected);
     }

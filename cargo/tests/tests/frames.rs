@@ -294,12 +294,17 @@ fn frames_of_readers_that_cut_and_fail() {
         let fails = random.one_in(3);
         let stream = Stream::drawn(random, fails);
         let mut frames = read_frames(Global, stream.reader(fails, random));
+        let ordered = random.one_in(2);
+        let mut next = || match ordered {
+            true => frames.next(),
+            false => Ok(frames.next_unordered()?.map(|batch| batch.order(Global).expect("memory is ample"))),
+        };
         for batch in &stream.whole {
-            let found = frames.next().expect("the frame is whole").expect("the frame is there");
+            let found = next().expect("the frame is whole").expect("the frame is there");
             assert_eq!(PlainBatch::of(&found), *batch);
         }
         for _ in 0..3 {
-            match (frames.next(), stream.fault) {
+            match (next(), stream.fault) {
                 (Ok(None), None) => {}
                 (Err(fault), Some(expected)) => assert_eq!(fault, expected),
                 (found, expected) => panic!("{found:?} and not {expected:?}"),

@@ -131,3 +131,50 @@ fn records_of_each_proxy() {
         ]
     );
 }
+
+/// A file for the output gets what standard output gets otherwise, and standard output stays empty.
+#[test]
+fn output_in_a_file() {
+    let rows: [&[&str]; 9] = [
+        &["replay", "first", "second"],
+        &["replay", "first", "second", "--explain"],
+        &["replay", "first", "second", "--explain", "--json"],
+        &["replay", "--summary", "first"],
+        &["replay", "--frames", "first"],
+        &["replay", "cut"],
+        &["replay", "--stream", "--replies", "a", "first"],
+        &["replay", "first", "--check", "same"],
+        &["replay", "first", "--check", "others"],
+    ];
+    for words in rows {
+        let (mut out, mut error) = (StdSink::new(Vec::new()), StdSink::new(Vec::new()));
+        let report = shell_into(&[words, &["--output", "out"]].concat(), &mut out, &mut error);
+        let written = report.output.expect("a file for the output").into_inner();
+        assert_eq!(ended(report.status, &written, &error.into_inner()), shell(words));
+        assert_eq!(out.into_inner(), b"");
+    }
+}
+
+/// A file that isn't named isn't created, and neither is one for the output once a file of batches can't be opened.
+#[test]
+fn no_output_in_a_file() {
+    for words in [&["replay", "first"][..], &["replay", "-o", "out", "none"], &["replay", "-o", "out", "--help"]] {
+        let (mut out, mut error) = (StdSink::new(Vec::new()), StdSink::new(Vec::new()));
+        let report = shell_into(words, &mut out, &mut error);
+        assert!(report.output.is_none() && report.summary.is_none(), "{words:?}");
+    }
+}
+
+/// A file that can't be created is a line of its own, and nothing is printed.
+#[test]
+fn file_that_cannot_be_created() {
+    let rows: [(&[&str], &str); 4] = [
+        (&["replay", "-o", "sealed", "first"], "failed: replay: create output\n"),
+        (&["replay", "-o", "sealed", "none"], "failed: replay: proxy 0: cannot open\n"),
+        (&["replay", "--summary-to", "sealed", "first"], "failed: replay: create summary\n"),
+        (&["replay", "--summary-to", "sealed", "-o", "sealed", "first"], "failed: replay: create output\n"),
+    ];
+    for (words, expected) in rows {
+        assert_eq!(shell(words), expected, "{words:?}");
+    }
+}

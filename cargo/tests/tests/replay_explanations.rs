@@ -4,7 +4,7 @@ use conflict::ConflictSet;
 use keyspace::Verdict;
 use observer::Observer;
 use rattle_std::alloc::Global;
-use replay_explanations::Explainer;
+use replay_explanations::{Explainer, ExplanationForm};
 use std::collections::BTreeMap;
 use std::env;
 use std::sync::atomic::{AtomicU64, Ordering};
@@ -14,16 +14,37 @@ use tests::drawn::KeySpace;
 use tests::plain::{PlainBatch, PlainRange, PlainReply, PlainTxn};
 use tests::random::Random;
 
+/// Returns a key in its printed form.
+fn printed(key: &[u8]) -> String {
+    key.iter().fold(String::new(), |text, byte| match byte {
+        b'\\' => text + "\\\\",
+        32..=126 => text + &char::from(*byte).to_string(),
+        _ => text + &format!("\\x{byte:02x}"),
+    })
+}
+
 /// Returns a range with the keys in their printed form.
 fn shown(range: &PlainRange) -> String {
-    let key = |bytes: &[u8]| {
-        bytes.iter().fold(String::new(), |text, byte| match byte {
-            b'\\' => text + "\\\\",
-            32..=126 => text + &char::from(*byte).to_string(),
-            _ => text + &format!("\\x{byte:02x}"),
-        })
-    };
-    format!("[\"{}\",\"{}\")", key(&range.begin), key(&range.end))
+    format!("[\"{}\",\"{}\")", printed(&range.begin), printed(&range.end))
+}
+
+/// Returns a range as JSON.
+fn as_json(range: &PlainRange) -> String {
+    let key = |key: &[u8]| printed(key).replace('\\', "\\\\").replace('"', "\\\"");
+    format!("[\"{}\",\"{}\"]", key(&range.begin), key(&range.end))
+}
+
+/// The explanations of a batch, in both forms.
+#[derive(Default)]
+struct Texts {
+    words: String,
+    objects: Vec<String>,
+}
+
+impl Texts {
+    fn member(&self) -> String {
+        if self.objects.is_empty() { String::new() } else { format!("\"explanations\":[{}]", self.objects.join(",")) }
+    }
 }
 
 /// A write range of a committed transaction, with its origin.
@@ -45,9 +66,9 @@ impl Scan {
         Scan { window, writes: Vec::new() }
     }
 
-    /// Adds a batch, and returns its lines.
-    fn add(&mut self, proxy: usize, batch: &PlainBatch, reply: &PlainReply) -> String {
-        let mut text = String::new();
+    /// Adds a batch, and returns its explanations.
+    fn add(&mut self, proxy: usize, batch: &PlainBatch, reply: &PlainReply) -> Texts {
+        let mut texts = Texts::default();
         for (txn, (judged, entry)) in batch.txns.iter().zip(&reply.entries).enumerate() {
             match entry.verdict {
                 Verdict::Committed => self.writes.extend(judged.writes.iter().cloned().map(|range| PlainWrite {
@@ -58,7 +79,8 @@ impl Scan {
                 })),
                 Verdict::TooOld => {
                     let (snapshot, oldest) = (judged.snapshot, (batch.version - self.window).max(0));
-                    text += &format!("  txn {txn} too old: snapshot {snapshot}, oldest readable version {oldest}\n");
+                    texts.words += &format!("  txn {txn} too old: snapshot {snapshot}, oldest readable version {oldest}\n");
+                    texts.objects.push(format!(r#"{{"txn":{txn},"too_old":{{"snapshot":{snapshot},"oldest":{oldest}}}}}"#));
                 }
                 Verdict::Conflict => {
                     let reported = entry.places.iter().map(|place| usize::from(*place));
@@ -67,59 +89,75 @@ impl Scan {
                         asked = (0..judged.reads.len()).collect();
                     }
                     for read in asked {
-                        text += &self.line(batch.version, txn, judged, read);
+                        if let Some((line, object)) = self.explain(batch.version, txn, judged, read) {
+                            texts.words += &line;
+                            texts.objects.push(object);
+                        }
                     }
                 }
             }
         }
-        text
+        texts
     }
 
-    /// Returns the line of a read range, whose batch was the last to add a write, or none if it meets no write.
-    fn line(&self, version: i64, txn: usize, judged: &PlainTxn, read: usize) -> String {
+    /// Returns the line and the object of a read range, whose batch was the last to add a write, or none if it meets no write.
+    fn explain(&self, version: i64, txn: usize, judged: &PlainTxn, read: usize) -> Option<(String, String)> {
         let range = &judged.reads[read];
         let met = |write: &&PlainWrite| {
             let is_own = write.version == version;
             write.range.meets(range) && (is_own || judged.snapshot < write.version)
         };
         let writes: Vec<_> = self.writes.iter().filter(met).collect();
-        let Some((newest, others)) = writes.split_last() else {
-            return String::new();
-        };
+        let (newest, others) = writes.split_last()?;
         let PlainWrite { proxy, version: written, txn: writer, range: write } = newest;
         let origin = if *written == version { "same batch" } else { "history" };
         let further = if others.is_empty() { String::new() } else { format!(", and {} more", others.len()) };
-        format!(
+        let line = format!(
             "  txn {txn} read {read} {} conflicts with write {} of proxy {proxy}, version {written}, txn {writer} ({origin}){further}\n",
             shown(range),
             shown(write),
-        )
+        );
+        let object = format!(
+            r#"{{"txn":{txn},"read":{read},"range":{},"write":{{"range":{},"proxy":{proxy},"version":{written},"txn":{writer}}},"further":{},"same_batch":{}}}"#,
+            as_json(range),
+            as_json(write),
+            others.len(),
+            *written == version,
+        );
+        Some((line, object))
     }
 }
 
-/// Resolves batches, and shows them to an explainer.
+/// Resolves batches, and shows them to an explainer of each form.
 struct Explained {
     set: ConflictSet,
-    explainer: Explainer,
+    words: Explainer,
+    json: Explainer,
 }
 
 impl Explained {
     fn new(window: i64) -> Self {
         Explained {
             set: ConflictSet::new(Global, window, MAX_LIMIT).expect("memory is ample"),
-            explainer: Explainer::new(Global, window),
+            words: Explainer::new(Global, window, ExplanationForm::Words),
+            json: Explainer::new(Global, window, ExplanationForm::Json),
         }
     }
 
     fn process(&mut self, proxy: usize, plain: &PlainBatch) -> PlainReply {
         let batch = plain.batch();
         let reply = self.set.resolve(&batch).expect("the limit is ample");
-        self.explainer.see(proxy, batch, &reply).expect("memory is ample");
+        self.words.see(proxy, batch, &reply).expect("memory is ample");
+        self.json.see(proxy, plain.batch(), &reply).expect("memory is ample");
         PlainReply::of(&reply)
     }
 
     fn explanation(&self, proxy: usize, version: i64) -> &str {
-        str::from_utf8(self.explainer.explanation(proxy, version)).expect("the lines are ASCII")
+        str::from_utf8(self.words.explanation(proxy, version)).expect("the lines are ASCII")
+    }
+
+    fn member(&self, proxy: usize, version: i64) -> &str {
+        str::from_utf8(self.json.explanation(proxy, version)).expect("the member is ASCII")
     }
 }
 
@@ -165,18 +203,20 @@ fn lines_are_those_of_a_scan() {
         for _ in 0..1 + random.below(40) {
             let (proxy, batch) = (random.index(3), drawn_batch(random, &space, previous, window));
             let reply = explained.process(proxy, &batch);
-            let text = scan.add(proxy, &batch, &reply);
+            let texts = scan.add(proxy, &batch, &reply);
+            let text = &texts.words;
             for (txn, entry) in reply.entries.iter().enumerate() {
                 let begin = format!("  txn {txn} ");
                 let is_explained = text.lines().any(|line| line.starts_with(&begin));
                 assert_eq!(is_explained, entry.verdict != Verdict::Committed, "txn {txn} of {batch:?}");
             }
-            kinds.add(&text);
-            expected.insert((proxy, batch.version), text);
+            kinds.add(text);
+            expected.insert((proxy, batch.version), texts);
             (previous, txns) = (batch.version, txns + batch.txns.len() as u64);
         }
-        for ((proxy, version), text) in &expected {
-            assert_eq!(explained.explanation(*proxy, *version), text);
+        for ((proxy, version), texts) in &expected {
+            assert_eq!(explained.explanation(*proxy, *version), texts.words);
+            assert_eq!(explained.member(*proxy, *version), texts.member());
             assert_eq!(explained.explanation(*proxy + 1, *version), "");
         }
         txns
@@ -306,4 +346,23 @@ fn lines_stay() {
     assert_eq!(explained.explanation(1, 10), "");
     assert_eq!(explained.explanation(0, 20), "");
     assert_eq!(explained.explanation(7, 7), "");
+}
+
+#[test]
+fn members_by_hand() {
+    let (ab, quoted): ((&[u8], &[u8]), (&[u8], &[u8])) = ((b"a", b"b"), (b"\"\\\xff", b"\"\\\xff\0"));
+    let mut explained = Explained::new(100);
+    explained.process(2, &PlainBatch { previous: -1, version: 150, received: -1, txns: vec![txn(0, &[], &[ab, quoted])] });
+    let txns = vec![txn(0, &[], &[ab]), txn(149, &[ab], &[]), txn(99, &[ab], &[]), txn(149, &[quoted], &[])];
+    explained.process(0, &PlainBatch { previous: 150, version: 200, received: -1, txns });
+    assert_eq!(explained.member(2, 150), "");
+    assert_eq!(
+        explained.member(0, 200),
+        concat!(
+            r#""explanations":[{"txn":1,"read":0,"range":["a","b"],"write":{"range":["a","b"],"proxy":0,"version":200,"txn":0},"#,
+            r#""further":1,"same_batch":true},{"txn":2,"too_old":{"snapshot":99,"oldest":100}},"#,
+            r#"{"txn":3,"read":0,"range":["\"\\\\\\xff","\"\\\\\\xff\\x00"],"#,
+            r#""write":{"range":["\"\\\\\\xff","\"\\\\\\xff\\x00"],"proxy":2,"version":150,"txn":0},"further":0,"same_batch":false}]"#,
+        )
+    );
 }
