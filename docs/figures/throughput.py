@@ -65,7 +65,7 @@ def picture() -> Picture:
     p = Picture(680, bottom + 78, 'Throughput',
                 f'Million read and write ranges per second, complete processes. {said}')
     x = 10.0
-    for name, kind, step in zip(('radix tree, C++', f'replay, {results.edition}', 'skip list, C++'), KINDS, (170, 210, 0)):
+    for name, kind, step in zip(('radix tree, C++', f'replay, {results.edition}', 'skip list, C++'), KINDS, (170, 170, 0)):
         p.rect(x, 12, 14, 14, kind, 2)
         p.text(x + 20, 24, name, 'ink', 15)
         x += step
@@ -79,7 +79,7 @@ def picture() -> Picture:
         for bar, (rate, kind) in enumerate(zip(row.rates, KINDS)):
             p.rect(LEFT, y + bar * BAR, across(rate) - LEFT, BAR - 2, kind, 0)
             end = max(rate, row.most if bar == 1 else rate)
-            p.text(across(end) + 4, y + bar * BAR + BAR - 3, f'{rate:.1f}', 'soft', 14)
+            p.text(across(end) + 6, y + bar * BAR + BAR - 3, f'{rate:.1f}', 'soft', 14)
         if row.most > row.least:
             middle = y + 1.5 * BAR - 1
             p.line(across(row.least), middle, across(row.most), middle, 'ink-line', 1.5)
