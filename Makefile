@@ -181,9 +181,11 @@ figures-test:
 manual-page:
 	.ci/manual-page
 
-# After `make test` or `make replay`, runs the program on words that it refuses, on paths that have no frames, and for its help.
+# After `make test` or `make replay`, runs the program on words that it refuses, on paths that have no frames, for its help, and on a
+# terminal.
 program-runs:
 	.ci/program-runs
+	.ci/progress-test
 
 # Tries wrong bodies on a copy of each crate, and lists those that its contracts let through.
 plant:

@@ -46,8 +46,8 @@ ATTRIBUTES = "inline|repr|unsafe|default|must_use|cold|non_exhaustive|derive|err
 MACROS = "assert|assert_eq|assert_ne|debug_assert|matches|unreachable|write|writeln"
 KEYWORDS = "if|while|match|return|in|else|break"
 STD = (
-    "alloc|array|cmp|collections|convert|env|error|fmt|fs|hash|io|iter|marker|mem|num|ops|process"
-    "|rt|slice|snapshot|str|sync|thread|time"
+    "alloc|array|cell|cmp|collections|convert|env|error|fmt|fs|hash|io|iter|marker|mem|num|ops"
+    "|process|rt|slice|snapshot|str|sync|thread|time"
 )
 
 # What is refused: the groups of these patterns, once the rules above are applied.

@@ -55,7 +55,7 @@ impl HostRuntime {
         Output::over(io::stdout())
     }
 
-    pub fn stderr(&self) -> Output {
+    pub fn stderr(&self) -> Stderr {
         Output::over(io::stderr())
     }
 }
@@ -78,6 +78,9 @@ impl Read for Stdin {
         io::stdin().read(buffer)
     }
 }
+
+/// The standard error of the process.
+pub type Stderr = Output;
 
 /// A stream of the process without a buffer. Each failed write is reported.
 #[derive(Debug)]

@@ -2,25 +2,31 @@
 
 ghost use Rattle.std.specs.Prelude.{None, ⊤};
 
+use crate::progress::{LONG_FILE, Progress};
 use replay_program::{FileError, Files, STANDARD_INPUT};
+use std::cell::Cell;
 use std::fs::File;
 use std::io::{BufReader, BufWriter, Read};
-use std::rt::Stdin;
+use std::rt::{Stderr, Stdin};
 use std::{fs, io};
 use wire::{StdSink, StdSource};
 
-/// The files that the process can open, and its standard input. `std` tells neither which file it
-/// opened nor what a file holds, so no clause does.
+/// The files that the process can open, and its standard input. `std` reports neither which file it
+/// opened nor what a file contains, so no clause does.
 #[derive(Drop)]
 pub struct Disk<'a, R> {
     pub rt: &'a R,
     pub input: Stdin,
+    /// Standard error, if it is a terminal. The first long file that is opened shows there how much
+    /// of it was read. All files of a run are parts of one chain, so the others get as far.
+    pub terminal: Cell<Option<Stderr>>,
 }
 
 /// A file that was opened, or standard input.
 #[derive(Drop)]
 pub enum Input {
     File(File),
+    Shown(File, Progress),
     Standard(Stdin),
 }
 
@@ -28,6 +34,11 @@ impl Read for Input {
     fn read(&mut self, buf: &mut [u8]) -> io::Result<usize> {
         match self {
             Input::File(file) => file.read(buf),
+            Input::Shown(file, progress) => {
+                let count = file.read(buf)?;
+                progress.advance(count);
+                Ok(count)
+            }
             Input::Standard(input) => input.read(buf),
         }
     }
@@ -40,8 +51,21 @@ impl<R: fs::Files<File = File> + AllocGlobal> Disk<'_, R> {
             return Ok(Input::Standard(self.input));
         }
         match File::open(self.rt, name) {
-            Ok(file) => Ok(Input::File(file)),
+            Ok(file) => Ok(self.shown_if_long(file)),
             Err(_) => Err(FileError::CannotOpen),
+        }
+    }
+
+    fn shown_if_long(&self, file: File) -> Input {
+        let Some(length) = length_if_long(&file) else {
+            return Input::File(file);
+        };
+        match self.terminal.take() {
+            Some(terminal) => {
+                let progress = Progress::new(self.rt.alloc(), terminal, length);
+                Input::Shown(file, progress)
+            }
+            None => Input::File(file),
         }
     }
 }
@@ -78,5 +102,15 @@ impl<R: fs::Files<File = File> + AllocGlobal> Files for Disk<'_, R> {
         };
         let writer = BufWriter::new(self.rt.alloc(), file).map_err(|_| FileError::Memory)?;
         Ok(StdSink::new(writer))
+    }
+}
+
+// Returns the number of bytes of a file if its progress is shown.
+fn length_if_long(file: &File) -> Option<u64> {
+    let length = file.metadata().ok()?.len();
+    if length > LONG_FILE {
+        Some(length)
+    } else {
+        None
     }
 }

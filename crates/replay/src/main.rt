@@ -10,29 +10,43 @@ ghost use Rattle.std.specs.Io.KnownBytes.{Appends, Keeps};
 ghost use Rattle.replay_output.specs.Start.{start_line};
 
 mod disk;
+mod progress;
 
 use disk::Disk;
 use replay_program::{StartError, Status, fail_to_start, run_in};
+use std::cell::Cell;
 use std::fs::{File, Files};
 use std::io;
-use std::io::{BufWriter, Write};
-use std::rt::{Env, Stdin};
+use std::io::{BufWriter, IsTerminal, Write};
+use std::rt::{Env, Stderr, Stdin};
 use std::sync::Wait;
 use std::thread::Threads;
 use wire::{Sink, StdSink};
 
 fn main(rt: HostRuntime) -> Status {
     let out = BufWriter::new(rt.alloc(), rt.stdout());
-    start(&rt, rt.stdin(), out, &mut StdSink::new(rt.stderr()))
+    let terminal = terminal(rt.stderr());
+    start(&rt, rt.stdin(), terminal, out, &mut StdSink::new(rt.stderr()))
 }
 
-// Runs the program on the words and the files of the process. Without a buffer for standard output,
-// it can't start.
+fn terminal(error: Stderr) -> Option<Stderr> {
+    if error.is_terminal() { Some(error) } else { None }
+}
+
+// Runs the program on the words and the files of the process. On a terminal, the progress through a
+// long file is shown beside what goes to `error`. Without a buffer for standard output, the program
+// can't start.
 fn start<
     R: Files<File = File> + Env + AllocGlobal + Threads + Wait + Copy + Send + 'static,
     O: Write + Drop,
     E: Sink,
->(rt: &R, input: Stdin, out: io::Result<BufWriter<O>>, error: &mut E) -> Status
+>(
+    rt: &R,
+    input: Stdin,
+    terminal: Option<Stderr>,
+    out: io::Result<BufWriter<O>>,
+    error: &mut E,
+) -> Status
     ensures quiet { result ≡ Status.Done → Keeps (E.given error.old) (E.given error.new) }
     ensures no_buffer { IsErr out → (result ≡ Status.Failed)
         × ((E.failures error.old < E.failures error.new)
@@ -41,7 +55,11 @@ fn start<
     let Ok(out) = out else {
         return fail_to_start(error, StartError::Memory);
     };
-    let files = Disk { rt, input };
+    let files = Disk {
+        rt,
+        input,
+        terminal: Cell::new(terminal),
+    };
     let report = run_in(rt, rt.alloc(), rt, &files, &mut StdSink::new(out), error);
     report.status
 }
