@@ -603,6 +603,10 @@ REASONS: tuple[tuple[tuple[str | bytes, ...], str], ...] = (
     (("--replies", "out", "first"), "error: --replies OUT is wanted with --stream\n"),
     (("--stream", "--replies", "out", "first", "second"), "error: --replies OUT is wanted once a file\n"),
     (("-", "first", "-"), "error: standard input (-) can be given only once\n"),
+    (
+        ("first", "second", "--output", "first"),
+        "error: --output, --summary-to and --replies are wanted with files that aren't read\n",
+    ),
     (65 * ("first",), "error: from 1 to 64 files are wanted\n"),
     (
         ("first", b"\xff"),

@@ -165,6 +165,9 @@ fn refused_words() {
     refuses(&"f ".repeat(65));
 }
 
+const WRITTEN_INPUT: &str =
+    "error: --output, --summary-to and --replies are wanted with files that aren't read\n";
+
 /// The program's own refusals say why.
 #[test]
 fn reasons_of_refusals() {
@@ -192,6 +195,10 @@ fn reasons_of_refusals() {
         ("--replies r f", "error: --replies OUT is wanted with --stream\n"),
         ("--stream --replies r f g", "error: --replies OUT is wanted once a file\n"),
         ("- f -", "error: standard input (-) can be given only once\n"),
+        ("f g -o g", WRITTEN_INPUT),
+        ("--check r f -o r", WRITTEN_INPUT),
+        ("f --summary-to=f", WRITTEN_INPUT),
+        ("--stream f g --replies r --replies f", WRITTEN_INPUT),
         (&"f ".repeat(65), "error: from 1 to 64 files are wanted\n"),
     ] {
         let end = end_of(given);
@@ -225,6 +232,8 @@ fn words_and_options() {
         ("--stream --replies - a --replies=s b", "a b | 16 5000000 1000000 stream - s"),
         ("--capacity=1024 --window 1099511627776 --limit 16777216 a", "a | 1024 1099511627776 16777216"),
         ("-o r a", "a | 16 5000000 1000000 to r"),
+        ("-o - - a", "- a | 16 5000000 1000000 to -"),
+        ("-o ./a a", "a | 16 5000000 1000000 to ./a"),
         ("a --output=r --frames", "a | 16 5000000 1000000 frames to r"),
         ("-or a --check s", "a | 16 5000000 1000000 kept check s to r"),
         ("--stream a --output - --replies s", "a | 16 5000000 1000000 stream s to -"),

@@ -160,6 +160,7 @@ module _ (words : List (List ℕ)) (asked : Asked) (line : CommandLine) (holds :
     least = subst (λ (n : ℕ). 1 ≤ n) count holds.names.least;
     most = subst (λ (n : ℕ). n ≤ MAX_PROXIES) count holds.names.most;
     input = holds.names.input;
+    kept = holds.names.kept;
     task = task;
     recorded = λ some. streamed (rows_of_words words) asked holds true (holds.names.recorded some);
     output = holds.names.output ∙ ap (option_map (λ (name : Bor (List ℕ)). name.now)) (sym is.output);

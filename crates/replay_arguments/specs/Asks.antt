@@ -19,6 +19,7 @@ use Rattle.replay_arguments.specs.Words.{
   IsBeside,
   IsPlain,
   IsTaken,
+  KeepsInputs,
   named,
   rows_of_words,
 }
@@ -84,6 +85,7 @@ pub record Asks (words : List (List ℕ)) (line : CommandLine) : Type 0 where
   pub least : 1 ≤ vec_len line.files
   pub most : vec_len line.files ≤ MAX_PROXIES
   pub input : HasInputOnce (rows_of_words words)
+  pub kept : KeepsInputs (rows_of_words words)
   pub task : HoldsTask (rows_of_words words) (vec_len line.files) line.options.style.form line.task
   pub recorded : is_some (all_of (codes "replies") (rows_of_words words)) ≡ true → HoldsStream (rows_of_words words) true
   pub output : first_of (codes "output") (rows_of_words words) ≡ option_map (λ name. name.now) line.output

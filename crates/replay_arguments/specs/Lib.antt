@@ -1,6 +1,7 @@
 -- In reading order.
 pub mod Opening
 pub mod Command
+pub mod KeptInputs
 pub mod Words
 pub mod Printing
 pub mod Details

@@ -4,7 +4,7 @@ use Rattle.std.specs.Borrow.{Bor}
 use Rattle.clap.specs.Words.{Row, all_of, first_of}
 use Rattle.resolver.specs.declared.resolver_core.TheConstants.{MAX_PROXIES}
 use Rattle.replay_output.specs.declared.options.form.Form.TheVariants.{Kept}
-use Rattle.replay_arguments.specs.Words.{HasInputOnce, HoldsSummaryFile, IsBeside, named}
+use Rattle.replay_arguments.specs.Words.{HasInputOnce, HoldsSummaryFile, IsBeside, KeepsInputs, named}
 use Rattle.replay_arguments.specs.declared.arguments.names.Names.{Names}
 use Rattle.replay_arguments.specs.declared.arguments.printing.Printing.{Printing}
 
@@ -19,6 +19,7 @@ pub record HoldsNames (rows : List Row) (printing : Printing) (names : Names) : 
   pub least : 1 ≤ length names.files.now
   pub most : length names.files.now ≤ MAX_PROXIES
   pub input : HasInputOnce rows
+  pub kept : KeepsInputs rows
   pub replies : printing.style.form ≡ Kept → all_of (codes "check") rows ≡ Some (texts names.replies)
   pub as_many : printing.style.form ≡ Kept → length names.replies.now ≡ length names.files.now
   pub records : texts names.records ≡ named (all_of (codes "replies") rows)

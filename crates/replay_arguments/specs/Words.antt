@@ -21,6 +21,7 @@ use Rattle.replay_output.specs.declared.options.Options.{Options}
 use Rattle.replay_summary.specs.declared.text.SummaryForm.{SummaryForm}
 use Rattle.replay_summary.specs.declared.text.SummaryForm.TheVariants as summaries
 use Rattle.replay_arguments.specs.Command.{replay_app}
+pub use Rattle.replay_arguments.specs.KeptInputs.{KeepsInputs, named, standard_input}
 use Rattle.replay_arguments.specs.declared.arguments.details.TheConstants.{MAX_TOP}
 use Rattle.replay_arguments.specs.declared.arguments.summary_file.SummaryFile.{SummaryFile}
 use Rattle.replay_arguments.specs.declared.arguments.refusal.Refusal.{Refusal}
@@ -175,10 +176,6 @@ abbrev pub HasRepliesEach : List Row → Type 0
 HasRepliesEach rows = is_some (all_of (codes "check") rows) ≡ true
     → IfSome (all_of (codes "FILE") rows) (λ names. HasReplies (length names) rows)
 
--- the name of standard input, which is read instead of a file
-abbrev pub standard_input : List ℕ
-standard_input = codes "-"
-
 -- how many of these names are that of standard input
 abbrev pub count_inputs : List (List ℕ) → ℕ
 count_inputs [] = 0
@@ -197,11 +194,6 @@ HasInputOnce rows = inputs_of (all_of (codes "FILE") rows) + inputs_of (all_of (
 -- whether answers are printed as they come
 abbrev pub HoldsStream : List Row → Bool → Type 0
 HoldsStream rows is_streamed = one_of (codes "stream") rows ≡ Some (bool_text is_streamed)
-
--- the names that are given, or none
-abbrev pub named : Option (List (List ℕ)) → List (List ℕ)
-named None = []
-named (Some names) = names
 
 -- answers that are to be compared aren't printed as they come
 abbrev pub HasStream : List Row → Type 0
@@ -308,11 +300,13 @@ pub data PrintsNothing (rows : List Row) : Type 0 where
   no_summary : ¬ (HasSummary rows) → PrintsNothing rows
   no_explanations : ¬ (HasExplain rows) → PrintsNothing rows
 
--- The names that are found are of no use: no files or too many, standard input twice, other than one file of replies a file, or other
--- than one file for records a file, or a file for the summary without answers alone, as words or JSON, at the end.
+-- The names that are found are of no use: no files or too many, standard input twice, a file to be written that is also read,
+-- other than one file of replies per file, or other than one file for records per file, or a file for the summary without answers alone,
+-- as words or JSON, at the end.
 pub data NamesNothing (rows : List Row) : Type 0 where
   no_files : ¬ (HasFiles rows) → NamesNothing rows
   no_input : ¬ (HasInputOnce rows) → NamesNothing rows
+  not_kept : ¬ (KeepsInputs rows) → NamesNothing rows
   no_replies : ¬ (HasRepliesEach rows) → NamesNothing rows
   no_records : ¬ (HasRecordsEach rows) → NamesNothing rows
   no_summary_file : ¬ (HasSummaryFile rows) → NamesNothing rows

@@ -19,6 +19,7 @@ mod details;
 mod explaining;
 mod filtering;
 mod input;
+mod kept_inputs;
 mod mistake;
 mod names;
 mod printing;

@@ -35,6 +35,8 @@ pub enum Mistake {
     Files,
     /// Standard input is named twice.
     Input,
+    /// A file that is written is also read.
+    SharedFile,
     /// The files of replies are another number than the files.
     Replies,
     /// Files for records are given without a stream.
@@ -74,6 +76,9 @@ impl Mistake {
             Mistake::Number => "a number is out of its range",
             Mistake::Files => "from 1 to 64 files are wanted",
             Mistake::Input => "standard input (-) can be given only once",
+            Mistake::SharedFile => {
+                "--output, --summary-to and --replies OUT are wanted with files that are named once"
+            }
             Mistake::Replies => "--check REPLIES is wanted once a file",
             Mistake::RecordsAlone => "--replies OUT is wanted with --stream",
             Mistake::Records => "--replies OUT is wanted once a file",

@@ -11,6 +11,7 @@ ghost use Rattle.replay_arguments.specs.Words.{NamesNothing, named};
 use crate::arguments::input::has_input_once;
 use crate::arguments::mistake::Mistake;
 use crate::arguments::printing::Printing;
+use crate::arguments::kept_inputs::keeps_inputs;
 use crate::arguments::summary_file::{SummaryFile, summary_file};
 use clap::ArgMatches;
 use replay_output::Form;
@@ -53,6 +54,9 @@ pub fn names_of<'m, 'a>(
     };
     if !has_input_once(matches) {
         return Err(Mistake::Input);
+    }
+    if !keeps_inputs(matches) {
+        return Err(Mistake::WrittenInput);
     }
     let replies = replies_of(matches, printing.style.form, files.len())?;
     let records = records_of(matches, printing.is_streamed, files.len())?;

@@ -2,7 +2,7 @@ use Rattle.std.proofs.Common.{◌≡◌, ◌∙◌, ap, sym, subst, codes, rules
 use Rattle.std.proofs.lemmas.List.{length-map}
 use Rattle.clap.specs.Words.{found_of, rows_of}
 use Rattle.clap.proofs.WalkLemmas.{first_value-rows}
-use Rattle.replay_arguments.specs.Words.{HasInputOnce, HasRecords, HasReplies, HoldsExplain, HoldsForm, HoldsStream, HoldsSummary, NamesNothing, is_kept}
+use Rattle.replay_arguments.specs.Words.{HasInputOnce, HasRecords, HasReplies, KeepsInputs, HoldsExplain, HoldsForm, HoldsStream, HoldsSummary, NamesNothing, is_kept}
 use Rattle.replay_arguments.proofs.Refusals.{no_records_each, not_each, on_err}
 use Rattle.replay_arguments.proofs.arguments.names.names_of.Goals as goal
 
@@ -13,6 +13,11 @@ pub returns-then-not-has_input_once-clause-none : goal.returns-then-not-has_inpu
 returns-then-not-has_input_once-clause-none c = λ form stream summed explained.
     let none : ¬ (HasInputOnce (rows_of (found_of c.args.matches.now))) = search rules in
     NamesNothing.no_input none
+
+pub returns-then-not-keeps_inputs-clause-none : goal.returns-then-not-keeps_inputs-clause-none
+returns-then-not-keeps_inputs-clause-none c = λ form stream summed explained.
+    let none : ¬ (KeepsInputs (rows_of (found_of c.args.matches.now))) = search rules in
+    NamesNothing.not_kept none
 
 pub returns-in_err-replies-clause-none : goal.returns-in_err-replies-clause-none
 returns-in_err-replies-clause-none c =
@@ -53,6 +58,7 @@ returns-clause-names c = λ form stream summed explained. record {
   least = c.in-Some.ensures.least;
   most = c.in-Some.ensures.most;
   input = search rules;
+  kept = search rules;
   replies = c.in_ok-replies.ensures.replies;
   as_many = c.in_ok-replies.ensures.as_many;
   records = c.in_ok-records.ensures.records;
