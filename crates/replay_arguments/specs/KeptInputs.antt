@@ -1,6 +1,6 @@
 -- That no file is both read and written, by the matches of a command line.
-use Rattle.std.specs.Prelude.{◌≡◌, ◌≢◌, ℕ, ◌+◌, if◌then◌else◌, List, [], ◌∷◌, codes, IfSome, Option, None, Some}
-use Rattle.std.specs.List.{All}
+use Rattle.std.specs.Prelude.{◌≡◌, ℕ, Bool, false, not, ◌&&◌, ◌||◌, List, [], codes, Option, None, Some}
+use Rattle.std.specs.List.{list_any}
 use Rattle.std.specs.Str.{bytes_eq}
 use Rattle.clap.specs.Words.{Row, all_of, first_of}
 
@@ -13,19 +13,26 @@ abbrev pub named : Option (List (List ℕ)) → List (List ℕ)
 named None = []
 named (Some names) = names
 
--- how many of these names are this one
-abbrev pub count_of : List ℕ → List (List ℕ) → ℕ
-count_of name [] = 0
-count_of name (other ∷ names) = (if bytes_eq other name then 1 else 0) + count_of name names
+-- whether this is one of the names
+abbrev pub is_among : List ℕ → List (List ℕ) → Bool
+is_among name names = list_any (λ other. bytes_eq other name) names
 
--- No file of this name is found to be read. That of standard input names no file there.
-abbrev pub IsUnread : List Row → List ℕ → Type 0
-IsUnread rows name =
-    name ≢ standard_input
-    → (count_of name (named (all_of (codes "FILE") rows)) ≡ 0) × (count_of name (named (all_of (codes "check") rows)) ≡ 0)
+-- whether a file of this name is read, as one of these files of batches or of replies. That of standard input names no file there.
+abbrev pub is_read : List (List ℕ) → List (List ℕ) → List ℕ → Bool
+is_read files replies name = not (bytes_eq name standard_input) && (is_among name files || is_among name replies)
 
--- no file that is found to be written is read: that of the output, of the summary, or of records
-pub record KeepsInputs (rows : List Row) : Type 0 where
-  pub output : IfSome (first_of (codes "output") rows) (IsUnread rows)
-  pub summary : IfSome (first_of (codes "summary-to") rows) (IsUnread rows)
-  pub records : All (IsUnread rows) (named (all_of (codes "replies") rows))
+-- the same of a name that may not be given
+abbrev pub is_read_if_any : List (List ℕ) → List (List ℕ) → Option (List ℕ) → Bool
+is_read_if_any files replies None = false
+is_read_if_any files replies (Some name) = is_read files replies name
+
+-- whether a file of batches or of replies is also the file for the output or for the summary, or one for records
+abbrev pub writes_input : List (List ℕ) → List (List ℕ) → Option (List ℕ) → Option (List ℕ) → List (List ℕ) → Bool
+writes_input files replies output summary records =
+    is_read_if_any files replies output || (is_read_if_any files replies summary || list_any (is_read files replies) records)
+
+-- no file that is found to be written is one that is read
+abbrev pub KeepsInputs : List Row → Type 0
+KeepsInputs rows =
+    writes_input (named (all_of (codes "FILE") rows)) (named (all_of (codes "check") rows)) (first_of (codes "output") rows)
+    (first_of (codes "summary-to") rows) (named (all_of (codes "replies") rows)) ≡ false

@@ -1,9 +1,11 @@
 //! That no file is both read and written.
 
-ghost use Rattle.std.specs.Prelude.{◌≡◌, ◌↔◌, IfSome, IsTrue, codes, map, option_map};
-ghost use Rattle.std.specs.List.{All};
-ghost use Rattle.clap.specs.Words.{all_of, found_of, rows_of};
-ghost use Rattle.replay_arguments.specs.KeptInputs.{IsUnread, KeepsInputs, count_of, named};
+ghost use Rattle.std.specs.Prelude.{◌≡◌, ◌↔◌, IsTrue, map, option_map};
+ghost use Rattle.std.specs.List.{list_any};
+ghost use Rattle.clap.specs.Words.{found_of, rows_of};
+ghost use Rattle.replay_arguments.specs.KeptInputs.{KeepsInputs, is_among, is_read};
+ghost use Rattle.replay_arguments.specs.KeptInputs.{is_read_if_any, named};
+ghost use Rattle.replay_arguments.specs.Names.{texts};
 
 use crate::opening::STANDARD_INPUT;
 use clap::ArgMatches;
@@ -13,72 +15,73 @@ use clap::ArgMatches;
 pub fn keeps_inputs(matches: &ArgMatches) -> bool
     ensures keeps { IsTrue result ↔ KeepsInputs (rows_of (found_of matches.now)) }
 {
-    is_unread_if_any(matches, matches.get_str("output"))
-        && is_unread_if_any(matches, matches.get_str("summary-to"))
-        && are_unread_records(matches)
+    let inputs = Inputs {
+        files: given(matches.get_strs("FILE")),
+        replies: given(matches.get_strs("check")),
+    };
+    let writes_input = inputs.have_if_any(matches.get_str("output"))
+        || inputs.have_if_any(matches.get_str("summary-to"))
+        || inputs.have_one_of(given(matches.get_strs("replies")));
+    !writes_input
 }
 
-fn is_unread_if_any(matches: &ArgMatches, name: Option<&str>) -> bool
-    ensures unread { IsTrue result ↔ IfSome (option_map (λ name. name.now) name)
-        (IsUnread (rows_of (found_of matches.now))) }
-{
-    match name {
-        Some(name) => is_unread(matches, name),
-        None => true,
+// The names of the files that are read.
+#[derive(Clone, Copy)]
+struct Inputs<'m, 'a> {
+    files: &'m [&'a str],
+    replies: &'m [&'a str],
+}
+
+impl Inputs<'_, '_> {
+    // Returns whether a file of one of these names is read.
+    fn have_one_of(self, names: &[&str]) -> bool
+        ensures one { result
+            ≡ list_any (is_read (texts self.files) (texts self.replies)) (texts names) }
+    {
+        for name in names {
+            if self.have(name) {
+                return true;
+            }
+        }
+        false
     }
-}
 
-// Returns whether no file for records is one of those that are read.
-fn are_unread_records(matches: &ArgMatches) -> bool
-    ensures unread { IsTrue result ↔ All (IsUnread (rows_of (found_of matches.now)))
-        (named (all_of (codes "replies") (rows_of (found_of matches.now)))) }
-{
-    match matches.get_strs("replies") {
-        Some(names) => are_unread(matches, names),
-        None => true,
-    }
-}
-
-fn are_unread(matches: &ArgMatches, names: &[&str]) -> bool
-    ensures unread { IsTrue result ↔ All (IsUnread (rows_of (found_of matches.now)))
-        (map (λ name. name.now) names.now) }
-{
-    for name in names {
-        if !is_unread(matches, name) {
-            return false;
+    // Returns whether a file of this name is read, if a name is given.
+    fn have_if_any(self, name: Option<&str>) -> bool
+        ensures any { result ≡ is_read_if_any (texts self.files) (texts self.replies)
+            (option_map (λ name. name.now) name) }
+    {
+        match name {
+            Some(name) => self.have(name),
+            None => false,
         }
     }
-    true
-}
 
-// Returns whether no file of this name is read.
-fn is_unread(matches: &ArgMatches, name: &str) -> bool
-    ensures unread { IsTrue result ↔ IsUnread (rows_of (found_of matches.now)) name.now }
-{
-    name == STANDARD_INPUT
-        || (count_in(matches.get_strs("FILE"), name) == 0
-            && count_in(matches.get_strs("check"), name) == 0)
-}
-
-// Returns how many of these names are this one, or 0 if there are no names.
-fn count_in(names: Option<&[&str]>, name: &str) -> usize
-    ensures count { result
-        ≡ count_of name.now (named (option_map (λ s. map (λ v. v.now) s.now) names.entry)) }
-{
-    match names {
-        Some(names) => count_of(names, name),
-        None => 0,
+    fn have(self, name: &str) -> bool
+        ensures read { result ≡ is_read (texts self.files) (texts self.replies) name.now }
+    {
+        name != STANDARD_INPUT && (is_among(name, self.files) || is_among(name, self.replies))
     }
 }
 
-fn count_of(names: &[&str], name: &str) -> usize
-    ensures count { result ≡ count_of name.now (map (λ name. name.now) names.now) }
+fn is_among(name: &str, names: &[&str]) -> bool
+    ensures among { result ≡ is_among name.now (texts names) }
 {
-    let mut count = 0;
     for other in names {
         if *other == name {
-            count += 1;
+            return true;
         }
     }
-    count
+    false
+}
+
+// Returns the names, or none if none are given.
+fn given<'m, 'a>(names: Option<&'m [&'a str]>) -> &'m [&'a str]
+    ensures names { texts result
+        ≡ named (option_map (λ s. map (λ v. v.now) s.now) names.entry) }
+{
+    match names {
+        Some(names) => names,
+        None => &[],
+    }
 }
