@@ -31,8 +31,12 @@ abbrev pub writes_input : List (List ℕ) → List (List ℕ) → Option (List �
 writes_input files replies output summary records =
     is_read_if_any files replies output || (is_read_if_any files replies summary || list_any (is_read files replies) records)
 
+-- whether the same is found
+abbrev pub has_written_input : List Row → Bool
+has_written_input rows =
+    writes_input (named (all_of (codes "FILE") rows)) (named (all_of (codes "check") rows)) (first_of (codes "output") rows)
+    (first_of (codes "summary-to") rows) (named (all_of (codes "replies") rows))
+
 -- no file that is found to be written is one that is read
 abbrev pub KeepsInputs : List Row → Type 0
-KeepsInputs rows =
-    writes_input (named (all_of (codes "FILE") rows)) (named (all_of (codes "check") rows)) (first_of (codes "output") rows)
-    (first_of (codes "summary-to") rows) (named (all_of (codes "replies") rows)) ≡ false
+KeepsInputs rows = has_written_input rows ≡ false

@@ -1,28 +1,28 @@
 //! That no file is both read and written.
 
-ghost use Rattle.std.specs.Prelude.{◌≡◌, ◌↔◌, IsTrue, map, option_map};
+ghost use Rattle.std.specs.Prelude.{◌≡◌, map, option_map};
 ghost use Rattle.std.specs.List.{list_any};
 ghost use Rattle.clap.specs.Words.{found_of, rows_of};
-ghost use Rattle.replay_arguments.specs.KeptInputs.{KeepsInputs, is_among, is_read};
+ghost use Rattle.replay_arguments.specs.KeptInputs.{has_written_input, is_among, is_read};
 ghost use Rattle.replay_arguments.specs.KeptInputs.{is_read_if_any, named};
 ghost use Rattle.replay_arguments.specs.Names.{texts};
 
 use crate::opening::STANDARD_INPUT;
 use clap::ArgMatches;
 
-/// Returns whether no file that is written is one of those that are read. Names are compared as
+/// Returns whether a file that is written is one of those that are read. Names are compared as
 /// texts.
-pub fn keeps_inputs(matches: &ArgMatches) -> bool
-    ensures keeps { IsTrue result ↔ KeepsInputs (rows_of (found_of matches.now)) }
+pub fn writes_input(matches: &ArgMatches) -> bool
+    ensures writes { result ≡ has_written_input (rows_of (found_of matches.now)) }
 {
-    let inputs = Inputs {
-        files: given(matches.get_strs("FILE")),
-        replies: given(matches.get_strs("check")),
-    };
-    let writes_input = inputs.have_if_any(matches.get_str("output"))
-        || inputs.have_if_any(matches.get_str("summary-to"))
-        || inputs.have_one_of(given(matches.get_strs("replies")));
-    !writes_input
+    let files = given(matches.get_strs("FILE"));
+    let replies = given(matches.get_strs("check"));
+    let records = given(matches.get_strs("replies"));
+    let inputs = Inputs { files, replies };
+    let has_output = inputs.have_if_any(matches.get_str("output"));
+    let has_summary = inputs.have_if_any(matches.get_str("summary-to"));
+    let has_record = inputs.have_one_of(records);
+    has_output || has_summary || has_record
 }
 
 // The names of the files that are read.
@@ -35,8 +35,8 @@ struct Inputs<'m, 'a> {
 impl Inputs<'_, '_> {
     // Returns whether a file of one of these names is read.
     fn have_one_of(self, names: &[&str]) -> bool
-        ensures one { result
-            ≡ list_any (is_read (texts self.files) (texts self.replies)) (texts names) }
+        ensures one { result ≡ list_any
+            (is_read (texts self.entry.files) (texts self.entry.replies)) (texts names.entry) }
     {
         for name in names {
             if self.have(name) {
@@ -48,8 +48,8 @@ impl Inputs<'_, '_> {
 
     // Returns whether a file of this name is read, if a name is given.
     fn have_if_any(self, name: Option<&str>) -> bool
-        ensures any { result ≡ is_read_if_any (texts self.files) (texts self.replies)
-            (option_map (λ name. name.now) name) }
+        ensures any { result ≡ is_read_if_any (texts self.entry.files) (texts self.entry.replies)
+            (option_map (λ name. name.now) name.entry) }
     {
         match name {
             Some(name) => self.have(name),
@@ -58,14 +58,15 @@ impl Inputs<'_, '_> {
     }
 
     fn have(self, name: &str) -> bool
-        ensures read { result ≡ is_read (texts self.files) (texts self.replies) name.now }
+        ensures read { result
+            ≡ is_read (texts self.entry.files) (texts self.entry.replies) name.now }
     {
         name != STANDARD_INPUT && (is_among(name, self.files) || is_among(name, self.replies))
     }
 }
 
 fn is_among(name: &str, names: &[&str]) -> bool
-    ensures among { result ≡ is_among name.now (texts names) }
+    ensures among { result ≡ is_among name.now (texts names.entry) }
 {
     for other in names {
         if *other == name {

@@ -36,7 +36,7 @@ pub enum Mistake {
     /// Standard input is named twice.
     Input,
     /// A file that is written is also read.
-    SharedFile,
+    WrittenInput,
     /// The files of replies are another number than the files.
     Replies,
     /// Files for records are given without a stream.
@@ -76,8 +76,8 @@ impl Mistake {
             Mistake::Number => "a number is out of its range",
             Mistake::Files => "from 1 to 64 files are wanted",
             Mistake::Input => "standard input (-) can be given only once",
-            Mistake::SharedFile => {
-                "--output, --summary-to and --replies OUT are wanted with files that are named once"
+            Mistake::WrittenInput => {
+                "--output, --summary-to and --replies are wanted with files that aren't read"
             }
             Mistake::Replies => "--check REPLIES is wanted once a file",
             Mistake::RecordsAlone => "--replies OUT is wanted with --stream",

@@ -11,7 +11,7 @@ ghost use Rattle.replay_arguments.specs.Words.{NamesNothing, named};
 use crate::arguments::input::has_input_once;
 use crate::arguments::mistake::Mistake;
 use crate::arguments::printing::Printing;
-use crate::arguments::kept_inputs::keeps_inputs;
+use crate::arguments::kept_inputs::writes_input;
 use crate::arguments::summary_file::{SummaryFile, summary_file};
 use clap::ArgMatches;
 use replay_output::Form;
@@ -55,7 +55,7 @@ pub fn names_of<'m, 'a>(
     if !has_input_once(matches) {
         return Err(Mistake::Input);
     }
-    if !keeps_inputs(matches) {
+    if writes_input(matches) {
         return Err(Mistake::WrittenInput);
     }
     let replies = replies_of(matches, printing.style.form, files.len())?;

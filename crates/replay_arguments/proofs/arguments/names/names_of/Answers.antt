@@ -14,8 +14,8 @@ returns-then-not-has_input_once-clause-none c = λ form stream summed explained.
     let none : ¬ (HasInputOnce (rows_of (found_of c.args.matches.now))) = search rules in
     NamesNothing.no_input none
 
-pub returns-then-not-keeps_inputs-clause-none : goal.returns-then-not-keeps_inputs-clause-none
-returns-then-not-keeps_inputs-clause-none c = λ form stream summed explained.
+pub returns-then-writes_input-clause-none : goal.returns-then-writes_input-clause-none
+returns-then-writes_input-clause-none c = λ form stream summed explained.
     let none : ¬ (KeepsInputs (rows_of (found_of c.args.matches.now))) = search rules in
     NamesNothing.not_kept none
 
