@@ -1,6 +1,6 @@
 //! That no file is both read and written.
 
-ghost use Rattle.std.specs.Prelude.{◌≡◌, map, option_map};
+ghost use Rattle.std.specs.Prelude.{◌≡◌, ◌||◌, map, option_map};
 ghost use Rattle.std.specs.List.{list_any};
 ghost use Rattle.clap.specs.Words.{found_of, rows_of};
 ghost use Rattle.replay_arguments.specs.KeptInputs.{has_written_input, is_among, is_read};
@@ -22,7 +22,13 @@ pub fn writes_input(matches: &ArgMatches) -> bool
     let has_output = inputs.have_if_any(matches.get_str("output"));
     let has_summary = inputs.have_if_any(matches.get_str("summary-to"));
     let has_record = inputs.have_one_of(records);
-    has_output || has_summary || has_record
+    is_any_true(has_output, has_summary, has_record)
+}
+
+fn is_any_true(one: bool, two: bool, three: bool) -> bool
+    ensures any { result ≡ one || (two || three) }
+{
+    one || two || three
 }
 
 // The names of the files that are read.
