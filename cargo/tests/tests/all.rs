@@ -31,5 +31,6 @@ mod step_map;
 mod summaries;
 mod texts;
 mod trimming;
+mod verbose;
 mod workers;
 mod workload;
