@@ -1,7 +1,6 @@
 //! What a run met, and how the program ends after it.
 
 ghost use Rattle.std.specs.Prelude.{◌≡◌, None, false, true};
-ghost use Rattle.replay_output.specs.declared.report.lines.PrintError.TheVariants as print;
 
 use replay_output::{PrintError, Status};
 use resolver::Stop;
@@ -45,7 +44,7 @@ impl Ended {
 
 /// Returns whether the text was not printed since its writer has failed.
 pub fn is_unwritten<T>(printed: &Result<T, PrintError>) -> bool
-    ensures write { result ≡ true → printed.now ≡ Err print.Write }
+    ensures write { result ≡ true → printed.now ≡ Err PrintError.Write }
 {
     matches!(printed, Err(PrintError::Write))
 }

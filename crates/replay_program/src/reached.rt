@@ -1,7 +1,6 @@
 //! The version that a run has reached.
 
 ghost use Rattle.std.specs.Prelude.{◌≡◌, negsuc, Some};
-ghost use Rattle.replay_program.specs.Met.{HasReached};
 
 use keyspace::{Batch, Reply};
 use observer::Observer;

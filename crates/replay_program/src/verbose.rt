@@ -1,7 +1,7 @@
 //! What is said of a failure beside its fixed lines: one line that names what was found and says
 //! what to do.
 
-ghost use Rattle.std.specs.Prelude.{◌≡◌, ◌⊎◌, ℕ, IfSome, List};
+ghost use Rattle.std.specs.Prelude.{◌≡◌, ◌⊎◌, ℕ, IfSome, List, Some};
 ghost use Rattle.keyspace.specs.declared.batch.Batch.{Batch as BatchValue};
 ghost use Rattle.replay_diagnosis.specs.Following.{HasLeast};
 ghost use Rattle.replay_diagnosis.specs.Remedy.{remedy_line, run_remedy_line};

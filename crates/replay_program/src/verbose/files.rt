@@ -36,7 +36,7 @@ pub fn examine_files<'a, F: Files>(
             Ok(own) => batches.join(&own),
             Err(finding) => {
                 return Err(FileFinding {
-                    name: names[proxy],
+                    name: *name,
                     finding,
                 });
             }

@@ -4,8 +4,8 @@ use Rattle.replay_program.specs.Verbose.{AreExamined}
 use Rattle.replay_program.proofs.Saying.{examined_more, get_of, none_examined, take_whole}
 use Rattle.replay_program.proofs.verbose.files.examine_files.Goals as goal
 
-pub loop-proxy-start : goal.loop-proxy-start
-loop-proxy-start g c = record {
+pub loop-proxy-init : goal.loop-proxy-init
+loop-proxy-init g c = record {
   examined = none_examined (g.F.Files.contents c.args.files.now) c.args.names.now c.none-batches.result.least_previous
       c.none-batches.ensures.none;
 }
