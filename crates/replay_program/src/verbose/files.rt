@@ -31,7 +31,7 @@ pub fn examine_files<'a, F: Files>(
         (F.cannot_open files.now) (texts names.now) found.name.now found.finding) }
 {
     let mut batches = Batches::none();
-    for (proxy, name) in names.iter().enumerate() {
+    for name in names {
         match examine_file(alloc, files, name) {
             Ok(own) => batches.join(&own),
             Err(finding) => {
