@@ -23,12 +23,12 @@ met_nothing limit window files met none =
 
 -- what is false is not true
 pub not_failed : {P : Type 0} (failed : Bool) → failed ≡ false → failed ≡ true → P
-not_failed failed no yes = absurd (false≢true (sym no ∙ yes))
+not_failed failed off on = absurd (false≢true (sym off ∙ on))
 
 -- what holds of an error
 pub failed_if : {T E P : Type 0} (result : Result T E) (failed : Bool) → failed ≡ is_err result → OnErr result P → failed ≡ true → P
-failed_if (Ok x) failed is holds yes = absurd (false≢true (sym is ∙ yes))
-failed_if (Err e) failed is holds yes = holds
+failed_if (Ok x) failed is holds on = absurd (false≢true (sym is ∙ on))
+failed_if (Err e) failed is holds on = holds
 
 reached_of : (version : Option ℤ) (stop : Option Stop) (window : ℤ) (log : List Step)
     → HasSeen (λ seen. version ≡ Some (version_of seen)) stop window log

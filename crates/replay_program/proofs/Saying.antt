@@ -1,7 +1,7 @@
 -- What is said of a failure: what was found in files, and the line about it.
-use Rattle.std.specs.Prelude.{◌≡◌, ◌≢◌, ◌⊎◌, ℕ, zero, suc, ◌+◌, ◌<◌, ◌≤◌, ℤ, List, [], ◌∷◌, ◌++◌, length, map, take, Option, None, Some, IfErr, IfSome, OnOk, Result, Ok, Err, slice_get}
+use Rattle.std.specs.Prelude.{◌≡◌, ◌≢◌, ◌⊎◌, ℕ, zero, suc, ◌+◌, ◌<◌, ◌≤◌, ℤ, List, [], ◌∷◌, ◌++◌, length, map, take, Option, None, Some, IfErr, IfSome, OnOk, Result, Ok, Err, slice_get, slice_index_or}
 use Rattle.std.specs.Borrow.{Bor}
-use Rattle.std.proofs.Common.{refl, sym, ap, subst, ◌∙◌, append-nil, append_assoc, get_or, inl, inr, arith}
+use Rattle.std.proofs.Common.{refl, sym, ap, subst, ◌∙◌, append-nil, append_assoc, inl, inr, arith}
 use Rattle.keyspace.specs.declared.batch.Batch.{Batch}
 use Rattle.resolver.specs.declared.stop.Stop.TheVariants as stop
 use Rattle.wire.specs.declared.error.WireError.{WireError}
@@ -64,23 +64,23 @@ found_as contents cannot_open name (found.Truncated at missing) is = is
 found_as contents cannot_open name (found.NotAFrame at fault) is = is
 
 -- the item at an index, of mapped ones
-pub get_of : {X Y : Type 0} (f : X → Y) (xs : List X) (n : ℕ) (x : X) → n < length xs → x ≡ get_or xs n x
-    → slice_get (map f xs) n ≡ Some (f x)
-get_of f [] n x inside is = absurd (omega (arith, inside))
-get_of {X} f (y ∷ xs) zero x inside is = ap (λ (z : X). Some (f z)) (sym is)
-get_of f (y ∷ xs) (suc n) x inside is = get_of f xs n x (omega (arith, inside)) is
+pub get_of : {X Y : Type 0} (f : X → Y) (xs : List X) (n : ℕ) (d : X) → n < length xs
+    → slice_get (map f xs) n ≡ Some (f (slice_index_or xs n d))
+get_of f [] n d inside = absurd (omega (arith, inside))
+get_of f (x ∷ xs) zero d inside = refl
+get_of f (x ∷ xs) (suc n) d inside = get_of f xs n d (omega (arith, inside))
 
-take_suc : {X Y : Type 0} (f : X → Y) (xs : List X) (n : ℕ) (x : X) → n < length xs → x ≡ get_or xs n x
-    → take (suc n) (map f xs) ≡ take n (map f xs) ++ f x ∷ []
-take_suc f [] n x inside is = absurd (omega (arith, inside))
-take_suc {X} f (y ∷ xs) zero x inside is = ap (λ (z : X). f z ∷ []) (sym is)
-take_suc f (y ∷ xs) (suc n) x inside is = ap (λ l. f y ∷ l) (take_suc f xs n x (omega (arith, inside)) is)
+take_suc : {X Y : Type 0} (f : X → Y) (xs : List X) (n : ℕ) (d : X) → n < length xs
+    → take (suc n) (map f xs) ≡ take n (map f xs) ++ f (slice_index_or xs n d) ∷ []
+take_suc f [] n d inside = absurd (omega (arith, inside))
+take_suc f (x ∷ xs) zero d inside = refl
+take_suc f (x ∷ xs) (suc n) d inside = ap (λ l. f x ∷ l) (take_suc f xs n d (omega (arith, inside)))
 
-take_more : {X Y : Type 0} (f : X → Y) (xs : List X) (n : ℕ) (x : X) → n < length xs → x ≡ get_or xs n x
-    → take (n + 1) (map f xs) ≡ take n (map f xs) ++ f x ∷ []
-take_more f xs n x inside is =
+take_more : {X Y : Type 0} (f : X → Y) (xs : List X) (n : ℕ) (d : X) → n < length xs
+    → take (n + 1) (map f xs) ≡ take n (map f xs) ++ f (slice_index_or xs n d) ∷ []
+take_more f xs n d inside =
     let next : n + 1 ≡ suc n = omega arith in
-    ap (λ (k : ℕ). take k (map f xs)) next ∙ take_suc f xs n x inside is
+    ap (λ (k : ℕ). take k (map f xs)) next ∙ take_suc f xs n d inside
 
 pub take_whole : {X Y : Type 0} (f : X → Y) (xs : List X) (n : ℕ) → length xs ≤ n → take n (map f xs) ≡ map f xs
 take_whole f [] zero all = refl
@@ -112,14 +112,14 @@ module _ (contents : List ℕ → Option (List ℕ)) where
     pub none_examined : (least : Option ℤ) → HasLeast [] least → AreExamined contents (take 0 texts) least
     none_examined least none = ([], refl, none)
 
-    pub examined_more : (proxy : ℕ) (name : Bor (List ℕ)) (old new more : Option ℤ) → proxy < length names → name ≡ get_or names proxy name
+    pub examined_more : (proxy : ℕ) (d : Bor (List ℕ)) (old new more : Option ℤ) → proxy < length names
         → ((batches others : List Batch) → HasLeast batches old → HasLeast others more → HasLeast (batches ++ others) new)
-        → ((own : List Batch) × AreBatches (contents name.now) own × HasLeast own more)
+        → ((own : List Batch) × AreBatches (contents (slice_index_or names proxy d).now) own × HasLeast own more)
         → AreExamined contents (take proxy texts) old → AreExamined contents (take (proxy + 1) texts) new
-    examined_more proxy name old new more inside is joined own before = (
+    examined_more proxy d old new more inside joined own before = (
       before.0 ++ own.0,
       subst (λ (l : List (List ℕ)). HaveBatches contents l (before.0 ++ own.0))
-          (sym (take_more (λ (name : Bor (List ℕ)). name.now) names proxy name inside is))
-          (have_more (take proxy texts) before.0 name.now own.0 before.1 own.1),
+          (sym (take_more (λ (name : Bor (List ℕ)). name.now) names proxy d inside))
+          (have_more (take proxy texts) before.0 (slice_index_or names proxy d).now own.0 before.1 own.1),
       joined before.0 own.0 before.2 own.2,
     )

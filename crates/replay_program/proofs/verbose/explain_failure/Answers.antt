@@ -7,8 +7,8 @@ use Rattle.replay_program.specs.Verbose.{AreExamined, IsFirstFound}
 use Rattle.replay_program.proofs.Saying.{explained_by}
 use Rattle.replay_program.proofs.verbose.explain_failure.Goals as goal
 
-pub returns-in-Err-clause-explained : goal.returns-in-Err-clause-explained
-returns-in-Err-clause-explained g c =
+pub returns-in-Err : goal.returns-in-Err
+returns-in-Err g c =
     let f = c.args.files.now in
     let contents = g.F.Files.contents f in
     let cannot_open = g.F.Files.cannot_open f in
@@ -19,15 +19,17 @@ returns-in-Err-clause-explained g c =
     let error = written (g.E.Sink.given old) (g.E.Sink.given new) (g.E.Sink.failures old) (g.E.Sink.failures new) in
     let first = subst (λ (names : List (Bor (List ℕ))). IsFirstFound contents cannot_open (texts names) found.name.now found.finding)
     c.deref.ensures.value c.in-Err.ensures.found in
-    explained_by contents cannot_open (texts line.files.items) line.options.limit c.args.met error
-    (remedy_line found.name.now found.finding)
-    (inl (record { name = found.name.now; finding = found.finding; first = first; text_is = refl })) c.say_of_file.ensures.said
+    record {
+      explained = explained_by contents cannot_open (texts line.files.items) line.options.limit c.args.met error
+          (remedy_line found.name.now found.finding)
+          (inl (record { name = found.name.now; finding = found.finding; first = first; text_is = refl })) c.say_of_file.ensures.said;
+    }
 
-pub returns-in_default-clause-explained : goal.returns-in_default-clause-explained
-returns-in_default-clause-explained g c = inl refl
+pub returns-in_default : goal.returns-in_default
+returns-in_default g c = record { explained = inl refl }
 
-pub returns-clause-explained : goal.returns-clause-explained
-returns-clause-explained g c =
+pub returns : goal.returns
+returns g c =
     let f = c.args.files.now in
     let contents = g.F.Files.contents f in
     let cannot_open = g.F.Files.cannot_open f in
@@ -38,11 +40,13 @@ returns-clause-explained g c =
     let error = written (g.E.Sink.given old) (g.E.Sink.given new) (g.E.Sink.failures old) (g.E.Sink.failures new) in
     let examined = subst (λ (names : List (Bor (List ℕ))). AreExamined contents (texts names) c.in-Ok.batches.least_previous)
     c.deref.ensures.value c.in-Ok.ensures.batches in
-    explained_by contents cannot_open (texts line.files.items) line.options.limit c.args.met error (run_remedy_line finding)
-    (inr (record {
-      batches = examined.0;
-      have = examined.1;
-      finding = finding;
-      found = c.in-Some.ensures.found examined.0 examined.2;
-      text_is = refl;
-    })) c.say_of_run.ensures.said
+    record {
+      explained = explained_by contents cannot_open (texts line.files.items) line.options.limit c.args.met error (run_remedy_line finding)
+          (inr (record {
+            batches = examined.0;
+            have = examined.1;
+            finding = finding;
+            found = c.in-Some.ensures.found examined.0 examined.2;
+            text_is = refl;
+          })) c.say_of_run.ensures.said;
+    }

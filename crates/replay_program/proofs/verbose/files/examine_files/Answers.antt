@@ -11,16 +11,15 @@ loop-name-init g c = record {
 
 pub loop-name-preserved : goal.loop-name-preserved
 loop-name-preserved g c = record {
-  examined = examined_more (g.F.Files.contents c.args.files.now) c.args.names.now c.loop-name.name-index c.name-item.result
-      c.loop-name.batches.least_previous c.join.new.self.least_previous c.in-Ok.own.least_previous (omega arith) c.name-item.is
+  examined = examined_more (g.F.Files.contents c.args.files.now) c.args.names.now c.loop-name.name-index _
+      c.loop-name.batches.least_previous c.join.new.self.least_previous c.in-Ok.own.least_previous c.loop-name-test.true
       c.join.ensures.joined c.in-Ok.ensures.batches c.loop-name.invariant.examined;
 }
 
 pub returns-in-Err-clause-found : goal.returns-in-Err-clause-found
 returns-in-Err-clause-found g c = record {
   proxy = c.loop-name.name-index;
-  named = get_of (λ (name : Bor (List ℕ)). name.now) c.args.names.now c.loop-name.name-index c.name-item.result (omega arith)
-      c.name-item.is;
+  named = get_of (λ (name : Bor (List ℕ)). name.now) c.args.names.now c.loop-name.name-index _ c.loop-name-test.true;
   before = (c.loop-name.invariant.examined.0, c.loop-name.invariant.examined.1);
   found = c.in-Err.ensures.found;
 }
