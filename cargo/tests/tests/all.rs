@@ -5,6 +5,7 @@ mod answers;
 mod arena;
 mod command_line;
 mod conflict_set;
+mod diagnosis;
 mod explanations;
 mod filter;
 mod flow;

@@ -1,0 +1,5 @@
+pub mod Following
+pub mod FramesRead
+pub mod FrontLengths
+pub mod Settled
+pub mod Lines
