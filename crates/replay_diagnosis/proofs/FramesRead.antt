@@ -48,17 +48,18 @@ no_frames left found least = record {
   least = least;
 }
 
-pub one_frame_more : (left now next : Option (List ℕ)) (number offset len : ℕ) (found more : Batches) (part : List ℕ) (batch : Batch)
+pub one_frame_more : (left now next : Option (List ℕ)) (number offset len after : ℕ) (found more : Batches) (part : List ℕ) (batch : Batch)
     → FramesSoFar left now number offset found → Consumes now next part → IsFrameOf part batch → len ≡ length part
+    → after ≡ offset + len
     → ((batches : List Batch) → HasLeast batches found.least_previous → HasLeast (batches ++ batch ∷ []) more.least_previous)
-    → FramesSoFar left next (number + 1) (offset + len) more
-one_frame_more left now next number offset len found more part batch so_far read is len_is added = record {
+    → FramesSoFar left next (number + 1) after more
+one_frame_more left now next number offset len after found more part batch so_far read is len_is after_is added = record {
   bytes = so_far.bytes ++ part;
   batches = so_far.batches ++ batch ∷ [];
   frames = frames_last so_far.bytes part so_far.batches batch so_far.frames is;
   read = consumes_then left now next so_far.bytes part so_far.read read;
   number_is = omega (arith, so_far.number_is, length-append so_far.batches (batch ∷ []));
-  offset_is = omega (arith, so_far.offset_is, length-append so_far.bytes part, len_is);
+  offset_is = omega (arith, so_far.offset_is, length-append so_far.bytes part, len_is, after_is);
   least = added so_far.batches so_far.least;
 }
 

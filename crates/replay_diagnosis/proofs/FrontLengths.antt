@@ -1,13 +1,11 @@
 -- How many bytes settle what a frame says, and how many of them are missing.
-use Rattle.std.proofs.Common.{◌≡◌, ◌≢◌, ℕ, ◌+◌, ◌-◌, ◌<◌, ◌≤◌, List, [], ◌++◌, length, take, drop, take-append-drop, inl, inr, Option, Some, refl, sym, ap, ◌∙◌, arith}
+use Rattle.std.proofs.Common.{◌≡◌, ◌≢◌, ℕ, ◌+◌, ◌-◌, ◌<◌, ◌≤◌, List, [], ◌++◌, length, take, inl, inr, Option, Some, refl, sym, ap, ◌∙◌, arith}
 use Rattle.std.proofs.lemmas.Bool.{cases_lt, lt-ltb, le-ltb}
 use Rattle.std.proofs.lemmas.List.{length-append, take-append-le, take_all}
 use Rattle.byteorder.specs.Endian.{big_number}
 use Rattle.byteorder.specs.Numbers.{big_from-take}
-use Rattle.keyspace.specs.declared.reply.Reply.{Reply}
 use Rattle.wire.specs.declared.error.WireError.{WireError}
-use Rattle.wire.specs.Spelling.{SpellsReply}
-use Rattle.replay_diagnosis.specs.Content.{BeginsWithReply, EndsInFrame}
+use Rattle.replay_diagnosis.specs.Content.{EndsInFrame}
 use Rattle.wire.specs.declared.error.WireError.TheVariants.{Short}
 use Rattle.wire.specs.FrameLength.{frame_length}
 use Rattle.wire.specs.Reading.{◌>>=◌, batch_at, all_of, body_at, batch_fault, read_batch}
@@ -65,8 +63,3 @@ ends_early front settled exact some lt = record {
   some = omega (arith, lt);
   missing_is = omega (arith, lt, exact);
 }
-
--- the frame of a reply at the front
-pub reply_in_front : (front : List ℕ) (reply : Reply) (used : ℕ) → SpellsReply (take used front) reply → BeginsWithReply front
-reply_in_front front reply used spelled =
-    (reply, take used front, drop used front, sym (take-append-drop used front), spelled)

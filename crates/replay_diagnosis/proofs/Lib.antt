@@ -1,5 +1,6 @@
 pub mod Following
 pub mod FramesRead
 pub mod FrontLengths
+pub mod Classified
 pub mod Settled
 pub mod Lines

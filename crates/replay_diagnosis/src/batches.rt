@@ -8,6 +8,9 @@ ghost use Rattle.replay_diagnosis.specs.Following.{NoneFollowsBelow};
 
 use keyspace::Batch;
 
+// The version that the first batch of a chain follows.
+const BEGINNING: i64 = -1;
+
 /// Which versions some batches follow.
 #[derive(Clone, Copy, Debug, PartialEq, Eq)]
 pub struct Batches {
@@ -55,7 +58,7 @@ impl Batches {
             → (batches ≡ []) ⊎ Follows (negsuc 0) batches) }
     {
         match self.least_previous {
-            Some(previous) if previous > -1 => Some(previous),
+            Some(previous) if previous > BEGINNING => Some(previous),
             _ => None,
         }
     }

@@ -1,6 +1,6 @@
-//! Where a frame is in its file.
+//! The position of a frame in its file.
 
-/// Where a frame is in its file.
+/// The position of a frame in its file.
 #[derive(Clone, Copy, Debug, PartialEq, Eq)]
 pub struct Position {
     /// The number of the frame, counted from 1 as `batches` counts them.

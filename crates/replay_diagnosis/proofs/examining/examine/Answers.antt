@@ -1,4 +1,4 @@
-use Rattle.std.proofs.Common.{◌≡◌, ℕ, List, length, Option, refl, subst, ◌∙◌, rules}
+use Rattle.std.proofs.Common.{◌≡◌, ℕ, ◌+◌, List, length, Option, refl, subst, ◌∙◌, rules}
 use Rattle.std.specs.Prelude.{IfSome}
 use Rattle.std.specs.Io.KnownBytes.{Consumes}
 use Rattle.std.proofs.lemmas.Result.{err_from_is_err_and}
@@ -27,8 +27,10 @@ loop-number-preserved g c =
     let batch = c.in-Some.batch in
     let taken = subst (λ (found : Option Batch). IfSome found (λ b. Consumes now next frame × IsFrameOf frame b)) c.in-Some.is
     c.in_ok-batch.ensures.taken in
-    let len : c.len.result ≡ length frame = search rules in (
-      one_frame_more left now next c.loop-number.number c.loop-number.offset c.len.result c.loop-number.batches c.add.new.self
-          frame batch c.loop-number.invariant.0 taken.0 taken.1 len c.add.ensures.added,
+    let len : c.len.result ≡ length frame = search rules in
+    let after : c.in-Some-checked_add.after ≡ c.loop-number.offset + c.len.result = search rules in (
+      one_frame_more left now next c.loop-number.number c.loop-number.offset c.len.result c.in-Some-checked_add.after
+          c.loop-number.batches c.add.new.self frame batch c.loop-number.invariant.0 taken.0 taken.1 len after
+          c.add.ensures.added,
       c.in_ok-batch.ensures.ok ∙ c.loop-number.invariant.1,
     )

@@ -8,7 +8,7 @@ pub returns-in-Some-clause-held : goal.returns-in-Some-clause-held
 returns-in-Some-clause-held c batches has =
     let previous = c.in-Some.previous in
     let same : to_z w64 (of_z w64 previous) ≡ previous = to_z-of_z w64 previous (search rules) in
-    let later : negsuc 0 <ℤ previous = grind (arith, ints, c.if-previous-gtminus1.true, same) in
+    let later : negsuc 0 <ℤ previous = grind (arith, ints, c.if-previous-gt-BEGINNING.true, same) in
     let is : HasLeast batches (Some previous) = subst (HasLeast batches) c.in-Some.is has in
     subst (λ (v : ℤ). NoneBegins batches × Follows v batches × NoneFollowsBelow v batches) (sym same)
     (none_begins previous batches later is.0, is.1, is.0)
@@ -17,6 +17,6 @@ pub returns-in_default-clause-begun : goal.returns-in_default-clause-begun
 returns-in_default-clause-begun c batches has =
     let previous = c.in-Some.previous in
     let same : to_z w64 (of_z w64 previous) ≡ previous = to_z-of_z w64 previous (search rules) in
-    let low : previous ≤ℤ negsuc 0 = grind (arith, ints, c.if-previous-gtminus1.false, same) in
+    let low : previous ≤ℤ negsuc 0 = grind (arith, ints, c.if-previous-gt-BEGINNING.false, same) in
     let is : HasLeast batches (Some previous) = subst (HasLeast batches) c.in-Some.is has in
     inr (follows_beginning previous batches low is.1)
