@@ -76,4 +76,4 @@ returns-clause-failed g c = λ style are is.
 
 pub returns-clause-output_failed : goal.returns-clause-output_failed
 returns-clause-output_failed g c =
-    failed_if c.print_and_flush-printed.result c.is_err-output_failed.result c.is_err-output_failed.ensures c.print_and_flush-printed.ensures.failed
+    failed_if c.print_and_flush-printed.result c.is_err-output_failed.result c.is_err-output_failed.ensures.value c.print_and_flush-printed.ensures.failed
