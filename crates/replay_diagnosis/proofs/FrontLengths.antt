@@ -1,14 +1,13 @@
 -- How many bytes settle what a frame says, and how many of them are missing.
-use Rattle.std.proofs.Common.{◌≡◌, ◌≢◌, ℕ, ◌+◌, ◌-◌, ◌<◌, ◌≤◌, List, [], ◌++◌, length, take, inl, inr, Option, Some, refl, sym, ap, ◌∙◌, arith}
+use Rattle.std.proofs.Common.{◌≡◌, ℕ, ◌+◌, ◌-◌, ◌<◌, ◌≤◌, List, ◌++◌, length, take, inl, inr, Some, refl, sym, ap, ◌∙◌, arith}
 use Rattle.std.proofs.lemmas.Bool.{cases_lt, lt-ltb, le-ltb}
 use Rattle.std.proofs.lemmas.List.{length-append, take-append-le, take_all}
 use Rattle.byteorder.specs.Endian.{big_number}
 use Rattle.byteorder.specs.Numbers.{big_from-take}
-use Rattle.wire.specs.declared.error.WireError.{WireError}
 use Rattle.replay_diagnosis.specs.Content.{EndsInFrame}
 use Rattle.wire.specs.declared.error.WireError.TheVariants.{Short}
 use Rattle.wire.specs.FrameLength.{frame_length}
-use Rattle.wire.specs.Reading.{◌>>=◌, batch_at, all_of, body_at, batch_fault, read_batch}
+use Rattle.wire.specs.Reading.{body_at, batch_fault, read_batch}
 
 -- four bytes settle it
 pub same_frame_length : (front rest : List ℕ) → 4 ≤ length front → frame_length (front ++ rest) ≡ frame_length front

@@ -4,3 +4,4 @@ pub mod FrontLengths
 pub mod Classified
 pub mod Settled
 pub mod Lines
+pub mod Appending

@@ -44,10 +44,10 @@ begins_in_front (byte ∷ front) rest some begins =
 
 no_json : (position : Position) (left now : Option (List ℕ)) (front : List ℕ) → Consumes left now front → front ≢ []
     → IsNoJson position front → IfSome left (IsNoJson position)
-no_json position None now front taken some no = tt
-no_json position (Some xs) None front taken some no = absurd taken
-no_json position (Some xs) (Some ys) front taken some no =
-    λ start begins. no start (begins_in_front front ys some (subst BeginsAsJson taken begins))
+no_json position None now front taken some none = tt
+no_json position (Some xs) None front taken some none = absurd taken
+no_json position (Some xs) (Some ys) front taken some none =
+    λ start begins. none start (begins_in_front front ys some (subst BeginsAsJson taken begins))
 
 ends : (missing : ℕ) (left now : Option (List ℕ)) (front : List ℕ) → Consumes left now front
     → (length front < frame_length front → IsAtEnd now) → EndsInFrame missing front → IfSome left (EndsInFrame missing)

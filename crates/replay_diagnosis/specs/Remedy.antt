@@ -1,5 +1,5 @@
 -- The lines that say what was found and what to do. This project's own.
-use Rattle.std.specs.Prelude.{ℕ, ◌==◌, ◌||◌, nat_lt, if◌then◌else◌, Bool, List, [], ◌++◌, codes, map}
+use Rattle.std.specs.Prelude.{ℕ, ◌==◌, ◌||◌, nat_lt, if◌then◌else◌, Bool, List, ◌++◌, codes, map}
 use Rattle.std.specs.Fmt.{decimal, signed_decimal}
 use Rattle.replay_diagnosis.specs.declared.position.Position.{Position}
 use Rattle.replay_diagnosis.specs.declared.finding.Finding.{Finding}

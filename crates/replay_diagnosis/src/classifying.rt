@@ -1,8 +1,11 @@
 //! What is next in a file, if it is no frame of a batch.
 
-ghost use Rattle.std.specs.Prelude.{◌≡◌, ◌≢◌, ◌<◌, ◌≤◌, Some, length, IsTrue, not};
+ghost use Rattle.std.specs.Prelude.{◌≡◌, ◌≢◌, ◌<◌, ◌≤◌, Some, length, take, IfErr, IfOk, IsTrue};
+ghost use Rattle.std.specs.Prelude.{not};
+ghost use Rattle.keyspace.specs.declared.reply.Reply.{Reply as ReplyValue};
 ghost use Rattle.wire.specs.FrameLength.{frame_length};
-ghost use Rattle.wire.specs.Reading.{batch_fault};
+ghost use Rattle.wire.specs.Reading.{batch_fault, reply_fault};
+ghost use Rattle.wire.specs.Spelling.{SpellsReply};
 ghost use Rattle.replay_diagnosis.specs.Content.{BeginsAsJson, IsFindingAt, IsNoJson, IsUnreadable};
 
 use crate::finding::Finding;
@@ -11,8 +14,8 @@ use byteorder::{BigEndian, ByteOrder};
 use std::alloc::Global;
 use wire::{MAX_BODY_LENGTH, WireError, decode_reply};
 
-/// Returns what is at a position of a file where no batch was decoded, with this fault. The front is
-/// as much of the bytes from there on as settles what the frame says, or all of them.
+/// Returns what is at a position of a file, if decoding a batch there had this fault. The front is as
+/// much of the bytes from there on as settles what the frame says, or all of them.
 pub fn classify(alloc: Global, position: Position, front: &[u8], fault: WireError) -> Finding
     requires some { 0 < length front.now }
     requires fault { fault ≢ WireError.Memory → batch_fault front.now ≡ Some fault }
@@ -79,9 +82,19 @@ fn without_batch(alloc: Global, position: Position, front: &[u8], fault: WireErr
     ensures finding { IsFindingAt position (Some front.now) result }
     ensures readable { ¬ IsUnreadable result }
 {
-    match decode_reply(alloc, front) {
+    match reply_length(alloc, front) {
         Ok(_) => Finding::Reply(position),
         Err(WireError::Memory) => Finding::Memory,
         Err(_) => Finding::NotAFrame(position, fault),
     }
+}
+
+// Returns how many bytes the frame of a reply at the front has, or its fault.
+fn reply_length(alloc: Global, front: &[u8]) -> Result<usize, WireError>
+    ensures reply { IfOk result (λ length. (reply : ReplyValue)
+        × SpellsReply (take length front.now) reply) }
+    ensures fault { IfErr result (λ e. e ≢ WireError.Memory → reply_fault front.now ≡ Some e) }
+{
+    let (_, length) = decode_reply(alloc, front)?;
+    Ok(length)
 }

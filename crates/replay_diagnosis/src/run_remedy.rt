@@ -1,6 +1,8 @@
 //! The line about a run.
 
 ghost use Rattle.std.specs.Prelude.{◌≡◌, ◌⊎◌, ◌<◌, ◌++◌, ℕ, take, IfErr, IfOk, IfSome, OnOk};
+ghost use Rattle.std.specs.Prelude.{codes, decimal};
+ghost use Rattle.std.specs.Fmt.{signed_decimal};
 ghost use Rattle.std.specs.Io.KnownBytes.{Appends};
 ghost use Rattle.replay_diagnosis.specs.Remedy.{run_finding_text, run_remedy_line};
 
@@ -79,7 +81,22 @@ fn put_arena_full(out: &mut Vec<u8>, version: i64, limit: usize) -> io::Result<(
     ensures text { OnOk result (out.new.items ≡ out.old.items
         ++ run_finding_text (RunFinding.ArenaFull version limit)) }
 {
-    write!(out, "version {version}")?;
+    put_version(out, version)?;
+    put_limit(out, limit)
+}
+
+fn put_version(out: &mut Vec<u8>, version: i64) -> io::Result<()>
+    ensures text { OnOk result
+        (out.new.items ≡ out.old.items ++ (codes "version " ++ signed_decimal version)) }
+{
+    write!(out, "version {version}")
+}
+
+fn put_limit(out: &mut Vec<u8>, limit: usize) -> io::Result<()>
+    ensures text { OnOk result (out.new.items ≡ out.old.items
+        ++ (codes " was reached with a limit of " ++ decimal limit
+        ++ codes " boundaries: raise `--limit`, or use a smaller `--window`")) }
+{
     write!(
         out,
         " was reached with a limit of {limit} boundaries: raise `--limit`, or use a smaller \

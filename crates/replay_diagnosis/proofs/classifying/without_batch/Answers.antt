@@ -4,8 +4,8 @@ use Rattle.replay_diagnosis.proofs.classifying.without_batch.Goals as goal
 
 pub returns-in-Ok-clause-finding : goal.returns-in-Ok-clause-finding
 returns-in-Ok-clause-finding c =
-    is_reply c.args.position c.args.front.now c.in-Ok.field-0.0 c.in-Ok.field-0.1 c.args.fault c.requires.some c.requires.fault
-    c.in-Ok.ensures.spelled
+    is_reply c.args.position c.args.front.now c.in-Ok.ensures.reply.0 c.in-Ok.field-0 c.args.fault c.requires.some
+    c.requires.fault c.in-Ok.ensures.reply.1
 
 pub returns-in-Err-clause-finding : goal.returns-in-Err-clause-finding
 returns-in-Err-clause-finding c =

@@ -1,4 +1,4 @@
-use Rattle.std.proofs.Common.{◌≡◌, ℕ, ◌+◌, List, length, Option, refl, subst, ◌∙◌, rules}
+use Rattle.std.proofs.Common.{◌≡◌, ◌+◌, length, Option, refl, subst, ◌∙◌, rules}
 use Rattle.std.specs.Prelude.{IfSome}
 use Rattle.std.specs.Io.KnownBytes.{Consumes}
 use Rattle.std.proofs.lemmas.Result.{err_from_is_err_and}
@@ -9,7 +9,7 @@ use Rattle.replay_diagnosis.proofs.examining.examine.Goals as goal
 
 pub loop-number-init : goal.loop-number-init
 loop-number-init g c =
-    (no_frames (g.R.Source.remaining c.args.reader.now) c.none.result c.none.ensures.none, refl)
+    (no_frames (g.R.Source.remaining c.args.reader.now) c.none-batches.result c.none-batches.ensures.none, refl)
 
 pub returns-in_err-batch-clause-finding : goal.returns-in_err-batch-clause-finding
 returns-in_err-batch-clause-finding g c =
