@@ -96,8 +96,7 @@ module _ (contents : List ℕ → Option (List ℕ)) where
       (own, [], are, refl, ap (λ (l : List Batch). l ++ own) none ∙ sym (append-nil own))
   have_more (n ∷ names) batches name own have are =
       let first = have.0 in
-      let rest = have.1 in
-      (
+      let rest = have.1 in (
         first,
         rest ++ own,
         have.2,
