@@ -18,6 +18,8 @@ BATCHES: dict[str, Parts] = {
     "cut": ("-1>0", b"\0"),
     "late": (*(f"{version - 1}>{version}" for version in range(20, 36)), "-1>0"),
     "empty": (),
+    "json": (b'{"previous":-1,"version":0}\n',),
+    "held": tuple(f"{version - 1}>{version}" for version in range(11, 1_200)),
     "overtaken": ("-1>0", "150>300", "100>200: W[a,b)", "0>100"),
     "rejected": (
         "-1>0",
@@ -407,6 +409,72 @@ TOPS = (
     ShellRow(("-o", "/dev/full", "--summary", "--top", "9", "first"), "", "", 1),
 )
 
+# Failures with one more line.
+VERBOSE = (
+    ShellRow(("--verbose", "first"), FIRST),
+    ShellRow(("--verbose", "second", "third"), "0 200 held\n1 300 held\n"),
+    ShellRow(
+        ("cut", "--verbose"),
+        "0 0 empty\n",
+        SHORT
+        + "  cut ends inside frame 2 at byte 31, 3 bytes too early: "
+        + "record it again, or keep the frames before it with `head -c 31`\n",
+        1,
+    ),
+    ShellRow(
+        ("first", "none", "--verbose"),
+        "",
+        "replay: proxy 1: cannot open\n  none can't be opened: check the name and the permissions\n",
+        1,
+    ),
+    ShellRow(
+        ("--verbose", "same"),
+        "",
+        "replay: proxy 0: wire 3 Kind\n  same contains replies, not batches, from frame 1 at byte 0 on: give them to `--check`\n",
+        1,
+    ),
+    ShellRow(
+        ("--verbose", "json"),
+        "",
+        "replay: proxy 0: wire 2 Long\n  json is JSON: run `batches encode`, and replay its output\n",
+        1,
+    ),
+    ShellRow(
+        ("--verbose", "."),
+        "",
+        "replay: proxy 0: wire 12 Read\n  . can't be read: it is a directory, or its device fails\n",
+        1,
+    ),
+    ShellRow(
+        ("--verbose", "-"),
+        "0 0 empty\n",
+        SHORT + "  - is standard input, which can't be read again: record it to a file, and replay that\n",
+        1,
+        stdin="cut",
+    ),
+    ShellRow(
+        ("--verbose", "writes", "--limit", "3"),
+        FIRST,
+        "replay: stop 3 ArenaFull\n"
+        "  version 100 was reached with a limit of 3 boundaries: raise `--limit`, or use a smaller `--window`\n",
+        1,
+    ),
+    ShellRow(
+        ("--verbose", "held"),
+        "",
+        "replay: stop 2 GateFull\n"
+        "  no batch follows version -1, so all are held: begin the chain with `batches opening --version 10`\n",
+        1,
+    ),
+    ShellRow(
+        ("--verbose", "-o", "/dev/full", "first"),
+        "",
+        "  standard output can't be written: free its disk, or read it to its end\n",
+        1,
+    ),
+    ShellRow(("--verbose", "first", "--check", "short"), "", "replay: replies 0: wire 1 Short\n", 1),
+)
+
 # A summary beside the answers.
 FIRST_COUNTED = alone(2, 1, 1, 0, 0, 0, 0, 0, versions="0 to 100")
 BESIDES = (
@@ -428,7 +496,7 @@ BESIDES = (
     ShellRow(("--summary-to", "no/such/out", "none"), "", "replay: proxy 0: cannot open\n", 1),
 )
 
-ROWS = ANSWERS + FAILURES + CHECKS + STREAMS + RECORDS + FILTERS + ARGUMENTS + SUMMARIES + EXPLAINS + OUTPUTS + TOPS + BESIDES
+ROWS = ANSWERS + FAILURES + CHECKS + STREAMS + RECORDS + FILTERS + ARGUMENTS + SUMMARIES + EXPLAINS + OUTPUTS + TOPS + BESIDES + VERBOSE
 
 # Refused with status 2 and a text of `clap` on standard error. Nothing is on standard output.
 REFUSED: tuple[tuple[str | bytes, ...], ...] = (
@@ -569,6 +637,9 @@ REFUSED: tuple[tuple[str | bytes, ...], ...] = (
     ("--top", "", "--summary", "first"),
     ("--top", "5", "--top", "5", "--summary", "first"),
     ("--summary", "first", "--top"),
+    ("--verbose",),
+    ("--verbose", "--verbose", "first"),
+    ("--verbose=yes", "first"),
     (b"\xff",),
     ("first", b"sec\xc3ond"),
     ("--help", b"\xff"),

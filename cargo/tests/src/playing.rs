@@ -37,6 +37,6 @@ where
     G: Gatekeeper + ShareKeeper + Send + Sync + 'static,
 {
     let (mut out, mut error) = (StdSink::new(Vec::new()), StdSink::new(Vec::new()));
-    let status = replay_over(&HostRuntime::new(), Global, readers.into(), Options::default(), gatekeeper, &mut out, &mut error);
-    ended(status, &out.into_inner(), &error.into_inner())
+    let run = replay_over(&HostRuntime::new(), Global, readers.into(), Options::default(), gatekeeper, &mut out, &mut error);
+    ended(run.status, &out.into_inner(), &error.into_inner())
 }

@@ -60,8 +60,17 @@ pub fn shell_into<W>(words: &[W], out: &mut impl Sink, error: &mut impl Sink) ->
 where
     W: Clone + Into<OsString>,
 {
+    shell_over(&Shelf, words, out, error)
+}
+
+/// The same, over these files.
+pub fn shell_over<F, W>(files: &F, words: &[W], out: &mut impl Sink, error: &mut impl Sink) -> RunReport<F::Writer>
+where
+    F: Files,
+    W: Clone + Into<OsString>,
+{
     let words = Words(words.iter().cloned().map(Into::into).collect());
-    run_in(&HostRuntime::new(), Global, &words, &Shelf, out, error)
+    run_in(&HostRuntime::new(), Global, &words, files, out, error)
 }
 
 /// Runs the program on these words, and puts what comes of it into words.

@@ -50,7 +50,8 @@ fn names_text(names: &[&str]) -> String {
 fn details_text(line: &CommandLine) -> String {
     let output = line.output.map(|name| format!(" to {name}"));
     let summary = line.summary_to.map(|file| format!(" summary {:?} to {}", file.form, file.name));
-    [output, summary].into_iter().flatten().collect()
+    let verbose = line.verbose.then(|| " verbose".to_owned());
+    [output, summary, verbose].into_iter().flatten().collect()
 }
 
 fn filter_text(filter: &Filter) -> String {
@@ -159,6 +160,9 @@ fn refused_words() {
         "--top -1 --summary f",
         "--top many --summary f",
         "--top 5 --top 5 --summary f",
+        "--verbose",
+        "--verbose --verbose f",
+        "--verbose=yes f",
     ] {
         refuses(given);
     }
@@ -248,6 +252,12 @@ fn words_and_options() {
         ("--top 1 --summary a", "a | 16 5000000 1000000 summary Words top 1"),
         ("--summary --json --top=+01000 a", "a | 16 5000000 1000000 json summary Json top 1000"),
         ("--top 20 --summary -o r a", "a | 16 5000000 1000000 summary Words top 20 to r"),
+        ("--verbose a", "a | 16 5000000 1000000 verbose"),
+        ("--summary-to r --verbose a", "a | 16 5000000 1000000 summary Words to r verbose"),
+        ("a --check s --verbose", "a | 16 5000000 1000000 kept check s verbose"),
+        ("--stream --verbose -o r a", "a | 16 5000000 1000000 stream to r verbose"),
+        ("--summary --verbose --top 2 a", "a | 16 5000000 1000000 summary Words top 2 verbose"),
+        ("--verbose --explain --json a", "a | 16 5000000 1000000 json explain verbose"),
     ] {
         assert_eq!(read(given), expected);
     }

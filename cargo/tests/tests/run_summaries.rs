@@ -46,8 +46,8 @@ fn gatekeeper() -> Arc<Unshared<AlwaysOpen>, Global> {
 fn summarized(files: &[(&[&str], &[u8])], options: Options, form: SummaryForm, top: Option<usize>) -> String {
     let (mut out, mut error) = (StdSink::new(Vec::new()), StdSink::new(Vec::new()));
     let summary = SummaryRequest { form, top };
-    let status = summarize_over(&HostRuntime::new(), Global, readers(files), options, summary, &gatekeeper(), &mut out, &mut error);
-    ended(status, &out.into_inner(), &error.into_inner())
+    let run = summarize_over(&HostRuntime::new(), Global, readers(files), options, summary, &gatekeeper(), &mut out, &mut error);
+    ended(run.status, &out.into_inner(), &error.into_inner())
 }
 
 #[test]
@@ -123,8 +123,8 @@ fn ranges_for_a_writer_that_fails() {
         let (mut out, mut error) = (StdSink::new(Failing::after(room)), StdSink::new(Vec::new()));
         let summary = SummaryRequest { form: SummaryForm::Words, top: Some(3) };
         let files = readers(&[(CONFLICTS, b"")]);
-        let status = summarize_over(&HostRuntime::new(), Global, files, options(), summary, &gatekeeper(), &mut out, &mut error);
-        assert_eq!(ended(status, b"", &error.into_inner()), "failed: ");
+        let run = summarize_over(&HostRuntime::new(), Global, files, options(), summary, &gatekeeper(), &mut out, &mut error);
+        assert_eq!(ended(run.status, b"", &error.into_inner()), "failed: ");
     }
 }
 
@@ -132,7 +132,7 @@ fn ranges_for_a_writer_that_fails() {
 fn replayed<O: Write, T: Write>(files: &[(&[&str], &[u8])], options: Options, form: SummaryForm, out: O, to: T) -> (O, T, String) {
     let (mut out, mut error) = (StdSink::new(out), StdSink::new(Vec::new()));
     let mut summary = SummaryWriter { form, writer: StdSink::new(to) };
-    let status = replay_and_summarize_over(
+    let run = replay_and_summarize_over(
         &HostRuntime::new(),
         Global,
         readers(files),
@@ -142,7 +142,7 @@ fn replayed<O: Write, T: Write>(files: &[(&[&str], &[u8])], options: Options, fo
         &mut summary,
         &mut error,
     );
-    (out.into_inner(), summary.writer.into_inner(), ended(status, b"", &error.into_inner()))
+    (out.into_inner(), summary.writer.into_inner(), ended(run.status, b"", &error.into_inner()))
 }
 
 /// The answers are those without a summary, and the summary is that without answers.
@@ -154,8 +154,8 @@ fn both_texts() {
         for files in [vec![(CONFLICTS, &b""[..])], vec![(CONFLICTS, &b"\0"[..]), held], vec![held, (CONFLICTS, &b""[..])]] {
             let mut out = StdSink::new(Vec::new());
             let mut error = StdSink::new(Vec::new());
-            let status = replay_over(&HostRuntime::new(), Global, readers(&files), options, &gatekeeper(), &mut out, &mut error);
-            let answers = (out.into_inner(), ended(status, b"", &error.into_inner()));
+            let run = replay_over(&HostRuntime::new(), Global, readers(&files), options, &gatekeeper(), &mut out, &mut error);
+            let answers = (out.into_inner(), ended(run.status, b"", &error.into_inner()));
             for form in [SummaryForm::Words, SummaryForm::Json] {
                 let (out, to, end) = replayed(&files, options, form, Vec::new(), Vec::new());
                 assert_eq!((out, end.clone()), answers);

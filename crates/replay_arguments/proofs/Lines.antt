@@ -26,6 +26,7 @@ use Rattle.replay_arguments.specs.Words.{
   HoldsSummary,
   HoldsSummaryFile,
   HoldsTop,
+  HoldsVerbose,
   IsTaken,
   rows_of_words,
 }
@@ -167,4 +168,5 @@ module _ (words : List (List ℕ)) (asked : Asked) (line : CommandLine) (holds :
     summary_file = summary_file;
     beside = λ some. holds.names.beside (ap is_some (sym is.summary_to) ∙ some);
     top = (task_holds (rows_of_words words) asked holds line.task is.task).1;
+    verbose = subst (HoldsVerbose (rows_of_words words)) (sym is.verbose) holds.details.verbose;
   }

@@ -39,4 +39,5 @@ pub record IsLineOf (asked : Asked) (line : CommandLine) : Type 0 where
   pub task : IsTaskOf asked line.task
   pub output : line.output ≡ asked.names.output
   pub summary_to : line.summary_to ≡ asked.names.summary
+  pub verbose : line.verbose ≡ asked.details.verbose
   pub options : line.options ≡ asked.options

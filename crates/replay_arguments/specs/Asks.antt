@@ -15,6 +15,7 @@ use Rattle.replay_arguments.specs.Words.{
   HoldsSummary,
   HoldsSummaryFile,
   HoldsTop,
+  HoldsVerbose,
   IsAlone,
   IsBeside,
   IsPlain,
@@ -92,3 +93,4 @@ pub record Asks (words : List (List ℕ)) (line : CommandLine) : Type 0 where
   pub summary_file : HoldsSummaryFile (rows_of_words words) line.options.style.form line.summary_to
   pub beside : is_some line.summary_to ≡ true → IsBeside (rows_of_words words)
   pub top : HoldsTop (rows_of_words words) (top_of line.task)
+  pub verbose : HoldsVerbose (rows_of_words words) line.verbose

@@ -85,6 +85,9 @@ top_rule = record (new_rule (codes "top")) {
   parser = Some (Unsigned 1 MAX_TOP);
 }
 
+abbrev pub verbose_rule : Rule
+verbose_rule = record (new_rule (codes "verbose")) { long = Some (codes "verbose"); action = Some SetTrue }
+
 -- the files: one word or more, anywhere among the options
 abbrev pub file_rule : Rule
 file_rule = record (new_rule (codes "FILE")) { action = Some Append; required = true }
@@ -105,12 +108,12 @@ with_printing app =
 -- the options that name files beside those of batches, and the last ones
 abbrev pub with_files : App → App
 with_files app =
-    with_rule (with_rule (with_rule (with_rule (with_rule (with_rule app check_rule) stream_rule) replies_rule) output_rule)
-    summary_to_rule) top_rule
+    with_rule (with_rule (with_rule (with_rule (with_rule (with_rule (with_rule app check_rule) stream_rule) replies_rule)
+    output_rule) summary_to_rule) top_rule) verbose_rule
 
 -- `replay [--capacity N] [--window N] [--limit N] [--frames] [--json] [--quiet] [--only VERDICT] [--versions A..B] [--explain]
 -- [--summary] [--check REPLIES].. [--stream] [--replies OUT].. [--output FILE] [--summary-to FILE] [--top N]
--- FILE..`, with `--help` and `--version`
+-- [--verbose] FILE..`, with `--help` and `--version`
 unfoldable pub replay_app : App
 replay_app =
     with_rule (with_files (with_printing (with_resolving (record plain_app { top = record plain_app.top { has_version = true } }))))

@@ -290,6 +290,13 @@ IsSummarized rows = one_of (codes "summary") rows ≡ Some (bool_text true)
 abbrev pub HasTop : List Row → Type 0
 HasTop rows = ((top : Option ℕ) × HoldsTop rows top) × (is_some (first_of (codes "top") rows) ≡ true → IsSummarized rows)
 
+-- whether a failure is found to be explained
+abbrev pub HoldsVerbose : List Row → Bool → Type 0
+HoldsVerbose rows verbose = one_of (codes "verbose") rows ≡ Some (bool_text verbose)
+
+abbrev pub HasVerbose : List Row → Type 0
+HasVerbose rows = (verbose : Bool) × HoldsVerbose rows verbose
+
 -- What the options that are found ask to print is of no use: two forms, a filter that is none or beside a comparison, answers that are
 -- to be compared as they come, a summary beside another option that says what to print, or explanations without lines of words or of
 -- JSON.
@@ -311,9 +318,11 @@ pub data NamesNothing (rows : List Row) : Type 0 where
   no_records : ¬ (HasRecordsEach rows) → NamesNothing rows
   no_summary_file : ¬ (HasSummaryFile rows) → NamesNothing rows
 
--- The details that are found are of no use: ranges without a summary that is printed.
+-- The details that are found are of no use: ranges without a summary that is printed, or neither that a failure is to be explained nor
+-- that it isn't.
 pub data DetailsNothing (rows : List Row) : Type 0 where
   no_top : ¬ (HasTop rows) → DetailsNothing rows
+  no_verbose : ¬ (HasVerbose rows) → DetailsNothing rows
 
 -- the arguments that are found are of no use: what to print, its details, the names, or a number out of its range
 pub data IsOfNoUse (rows : List Row) : Type 0 where

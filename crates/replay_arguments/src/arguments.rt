@@ -45,6 +45,8 @@ pub struct CommandLine<'a> {
     pub output: Option<&'a str>,
     /// The file for the summary that is written beside the answers, if one is requested.
     pub summary_to: Option<SummaryFile<'a>>,
+    /// A failure is explained by one more line on standard error.
+    pub verbose: bool,
     pub options: Options,
 }
 
@@ -73,6 +75,7 @@ impl<'a> CommandLine<'a> {
             task: task_of(alloc, asked)?,
             output: asked.names.output,
             summary_to: asked.names.summary,
+            verbose: asked.details.verbose,
             options: asked.options,
         })
     }

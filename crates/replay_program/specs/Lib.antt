@@ -2,7 +2,9 @@
 pub mod Checked
 pub mod Replies
 pub mod Replayed
+pub mod Met
 pub mod Explained
 pub mod Summarized
 pub mod Streamed
+pub mod Verbose
 pub mod Program

@@ -1,5 +1,5 @@
 -- How the program ends, beside the words of its command line and the bytes of its files. This project's own.
-use Rattle.std.specs.Prelude.{◌≡◌, ◌≢◌, ◌⊎◌, ℕ, ◌≤◌, List, codes, length, map, Option, None, Some, IsSomeAnd, option_map, slice_get}
+use Rattle.std.specs.Prelude.{◌≡◌, ◌≢◌, ◌⊎◌, ℕ, ◌≤◌, Bool, true, false, List, codes, length, map, Option, None, Some, IsSomeAnd, option_map, slice_get}
 use Rattle.std.specs.Borrow.{Bor}
 use Rattle.std.specs.List.{All, AllZip}
 use Rattle.keyspace.specs.declared.reply.Reply.{Reply}
@@ -19,13 +19,16 @@ use Rattle.replay_output.specs.declared.start.StartError.TheVariants as start
 use Rattle.replay_output.specs.Quieted.{quieted}
 use Rattle.replay_output.specs.Start.{start_line}
 use Rattle.replay_program.specs.declared.check.replies.RepliesError.{RepliesError}
+use Rattle.replay_program.specs.declared.met.Met.{Met}
 use Rattle.replay_program.specs.declared.report.RunReport.{RunReport}
 use Rattle.replay_program.specs.Checked.{TakesToCompare, check_lines}
 use Rattle.replay_program.specs.Explained.{FailsToExplain, IsReplayedWithExplanations}
+use Rattle.replay_program.specs.Met.{HasMet}
 use Rattle.replay_program.specs.Replayed.{DidNotStart, FailsToPrint, FailsToReplay, HasFailed, IsChecked, IsReplayed, Took, Written, written}
 use Rattle.replay_program.specs.Replies.{IsCauseOf, IsReplyFile, replies_line}
 use Rattle.replay_program.specs.Streamed.{IsStreamDone, StreamedAndFailed}
 use Rattle.replay_program.specs.Summarized.{FailsToReplayAndSummarize, FailsToSummarize, IsReplayedAndSummarized, IsSummarized}
+use Rattle.replay_program.specs.Verbose.{IsExplained}
 use Rattle.replay_stream.specs.declared.recorder.Recorder.{Recorder}
 use Rattle.replay_stream.specs.Sinks.{SinkState}
 
@@ -259,6 +262,26 @@ LineFails state_of files line report standard error =
     ⊎ OfOutput state_of files line report standard
     (λ out. TaskFails state_of files (bytes_of files line) line line.task report out error)))
 
+-- What more was said after the fixed lines of a failure: nothing without `--verbose`, and at most one line with it.
+abbrev pub SaysFurther : Bool → (List ℕ → Option (List ℕ)) → (List ℕ → Type 0) → CommandLine → Met → Written → Type 0
+SaysFurther false contents cannot_open line met error =
+    (error.after ≡ error.before) × (error.failures_after ≡ error.failures_before)
+SaysFurther true contents cannot_open line met error =
+    IsExplained contents cannot_open (texts line.files.items) line.options.limit met error
+
+-- What a command line asks for has failed, and that was reported: first by the fixed lines, which left standard error in this state.
+pub record LineFailsAndSays {W : Type 0} (state_of : W → SinkState) (files : NamedFiles) (line : CommandLine) (report : RunReport W)
+    (standard error : Written) : Type 0 where
+  pub given : Option (List ℕ)
+  pub failures : ℕ
+  pub failed : LineFails state_of files line report standard (written error.before given error.failures_before failures)
+  -- what the run met: its stop and the version are those of a replay of these files, and if the output has failed, so has its writer
+  pub met : HasMet line.options.limit line.options.window (bytes_of files line) report.met
+  pub output_failed : report.met.output_failed ≡ true → OfOutput state_of files line report standard HasFailed
+  pub further :
+      SaysFurther line.verbose files.contents files.cannot_open line report.met
+      (written given error.after failures error.failures_after)
+
 -- the message about arguments that aren't text
 abbrev pub not_text : List ℕ
 not_text = codes "error: invalid UTF-8 was detected in one or more arguments\n\nUsage: replay [OPTIONS] <FILE>...\n\nFor more information, try '--help'.\n"
@@ -294,4 +317,4 @@ abbrev pub IsFailed : {W : Type 0} → (W → SinkState) → NamedFiles → List
 IsFailed state_of files words report standard error =
     HasNoMemory standard error
     ⊎ (HasNotShown words standard
-    ⊎ ((line : CommandLine) × Asks words line × LineFails state_of files line report standard error))
+    ⊎ ((line : CommandLine) × Asks words line × LineFailsAndSays state_of files line report standard error))

@@ -1,15 +1,19 @@
 //! All that follows the opening of the files of a check: their batches are resolved, and the
 //! answers compared.
 
-ghost use Rattle.std.specs.Prelude.{◌≡◌, ◌≢◌, ◌≤◌, map, vec_items, vec_len};
+ghost use Rattle.std.specs.Prelude.{◌≡◌, ◌≢◌, ◌≤◌, ◌<◌, map, true, vec_items, vec_len};
 ghost use Rattle.std.specs.Io.KnownBytes.{Keeps};
+ghost use Rattle.replay_program.specs.Met.{HasMet};
 ghost use Rattle.replay_program.specs.Replayed.{FailsToPrint, IsChecked, written};
 ghost use Rattle.replay_program.specs.Checked.{TakesToCompare, check_lines};
 ghost use Rattle.replay_output.specs.declared.options.form.Form.TheVariants.{Kept};
 
+use crate::met::{Ended, Met, is_unwritten};
+use crate::reached::Reached;
 use keyspace::Reply;
+use observer::Unobserved;
 use replay_output::{Ending, Options, Status, fail_to_start};
-use replay_workers::{Gatekeeper, Outcome, ShareKeeper, run};
+use replay_workers::{Gatekeeper, Outcome, ShareKeeper, run_observed};
 use resolver::MAX_PROXIES;
 use std::alloc::Global;
 use std::sync::{Arc, Wait};
@@ -40,33 +44,38 @@ pub fn check_over<
     gatekeeper: &Arc<G, Global>,
     out: &mut O,
     error: &mut E,
-) -> Status
+) -> Ended
     requires least_files { 1 ≤ vec_len readers }
     requires most_files { vec_len readers ≤ MAX_PROXIES }
     requires as_many { vec_len recorded ≡ vec_len readers }
     requires kept { options.style.form ≡ Kept }
-    ensures done { result ≡ Status.Done
+    ensures done { result.status ≡ Status.Done
         → IsChecked (λ count. count ≡ 0) (map vec_items recorded.items) options
         (map S.remaining readers.items) (O.given out.old) (O.given out.new) }
-    ensures differs { result ≡ Status.Differs
+    ensures differs { result.status ≡ Status.Differs
         → IsChecked (λ count. count ≢ 0) (map vec_items recorded.items) options
         (map S.remaining readers.items) (O.given out.old) (O.given out.new) }
-    ensures quiet { result ≢ Status.Failed → Keeps (E.given error.old) (E.given error.new) }
+    ensures quiet { result.status ≢ Status.Failed → Keeps (E.given error.old) (E.given error.new) }
 
     // Something failed, and its lines were written, or the writer failed.
-    ensures failed { result ≡ Status.Failed
+    ensures failed { result.status ≡ Status.Failed
         → FailsToPrint (check_lines (map vec_items recorded.items))
         (TakesToCompare (map vec_items recorded.items))
         options (map S.remaining readers.items)
         (written (O.given out.old) (O.given out.new) (O.failures out.old) (O.failures out.new))
         (written (E.given error.old) (E.given error.new) (E.failures error.old)
         (E.failures error.new)) }
-    ensures ends { result ≢ Status.Usage }
+    ensures met { HasMet options.limit options.window (map S.remaining readers.items) result.met }
+    ensures output_failed { result.met.output_failed ≡ true
+        → O.failures out.old < O.failures out.new }
+    ensures ends { result.status ≢ Status.Usage }
 {
     serial::laws::answers_tell_verdicts();
-    let (outcome, account) = match run(rt, alloc, readers, options, gatekeeper) {
+    let mut reached = Reached::new(Unobserved);
+    let run = run_observed(rt, alloc, readers, options, gatekeeper, &mut reached);
+    let (outcome, account) = match run {
         Ok(ended) => ended,
-        Err(cause) => return fail_to_start(error, cause),
+        Err(cause) => return Ended::unstarted(fail_to_start(error, cause)),
     };
     let Outcome {
         lines,
@@ -75,5 +84,13 @@ pub fn check_over<
         ..
     } = outcome;
     let ending = Ending::new(account.complete && all_sent, account.stop);
-    print_check(alloc, out, error, lines, recorded, &mut failures, ending).status
+    let report = print_check(alloc, out, error, lines, recorded, &mut failures, ending);
+    Ended {
+        status: report.status,
+        met: Met {
+            stop: account.stop,
+            version: reached.version,
+            output_failed: is_unwritten(&report.printed),
+        },
+    }
 }

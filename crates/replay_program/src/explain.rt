@@ -1,11 +1,14 @@
 //! All that follows the opening of the files of a replay with explanations: their batches are
 //! resolved, and the answers printed with what explains their rejections.
 
-ghost use Rattle.std.specs.Prelude.{◌≡◌, ◌≤◌, ◌≢◌, map, vec_len};
+ghost use Rattle.std.specs.Prelude.{◌≡◌, ◌≤◌, ◌<◌, ◌≢◌, map, true, vec_len};
 ghost use Rattle.std.specs.Io.KnownBytes.{Keeps};
 ghost use Rattle.replay_program.specs.Explained.{FailsToExplain, IsReplayedWithExplanations, explanation_form};
+ghost use Rattle.replay_program.specs.Met.{HasMet};
 ghost use Rattle.replay_program.specs.Replayed.{written};
 
+use crate::met::{Ended, Met, is_unwritten};
+use crate::reached::Reached;
 use replay_explanations::{Explainer, ExplanationForm};
 use replay_output::{Ending, Form, Options, Status, fail_to_start};
 use replay_workers::{Gatekeeper, Outcome, ShareKeeper, run_observed};
@@ -41,29 +44,33 @@ pub fn explain_over<
     gatekeeper: &Arc<G, Global>,
     out: &mut O,
     error: &mut E,
-) -> Status
+) -> Ended
     requires least_files { 1 ≤ vec_len readers }
     requires most_files { vec_len readers ≤ MAX_PROXIES }
-    ensures done { result ≡ Status.Done
+    ensures done { result.status ≡ Status.Done
         → IsReplayedWithExplanations options (map S.remaining readers.items)
         (O.given out.old) (O.given out.new) }
-    ensures quiet { result ≡ Status.Done → Keeps (E.given error.old) (E.given error.new) }
+    ensures quiet { result.status ≡ Status.Done → Keeps (E.given error.old) (E.given error.new) }
 
     // Something failed, and its lines were written, or the writer failed.
-    ensures failed { result ≡ Status.Failed → FailsToExplain options (map S.remaining readers.items)
+    ensures failed { result.status ≡ Status.Failed → FailsToExplain options (map S.remaining readers.items)
         (written (O.given out.old) (O.given out.new) (O.failures out.old) (O.failures out.new))
         (written (E.given error.old) (E.given error.new) (E.failures error.old)
         (E.failures error.new)) }
-    ensures ends { result ≢ Status.Usage }
-    ensures same { result ≢ Status.Differs }
+    ensures met { HasMet options.limit options.window (map S.remaining readers.items) result.met }
+    ensures output_failed { result.met.output_failed ≡ true
+        → O.failures out.old < O.failures out.new }
+    ensures ends { result.status ≢ Status.Usage }
+    ensures same { result.status ≢ Status.Differs }
 {
     serial::laws::answers_tell_verdicts();
     let form = explanation_form(options.style.form);
-    let mut explainer = Explainer::new(alloc, options.window, form);
-    let run = run_observed(rt, alloc, readers, options, gatekeeper, &mut explainer);
+    let explainer = Explainer::new(alloc, options.window, form);
+    let mut reached = Reached::new(explainer);
+    let run = run_observed(rt, alloc, readers, options, gatekeeper, &mut reached);
     let (outcome, account) = match run {
         Ok(ended) => ended,
-        Err(cause) => return fail_to_start(error, cause),
+        Err(cause) => return Ended::unstarted(fail_to_start(error, cause)),
     };
     let Outcome {
         mut lines,
@@ -72,16 +79,23 @@ pub fn explain_over<
         ..
     } = outcome;
     let ending = Ending::new(account.complete && all_sent, account.stop);
-    print_explained(
+    let report = print_explained(
         alloc,
         out,
         error,
         &mut lines,
-        &explainer,
+        &reached.observer,
         &mut failures,
         ending,
-    )
-    .status
+    );
+    Ended {
+        status: report.status,
+        met: Met {
+            stop: account.stop,
+            version: reached.version,
+            output_failed: is_unwritten(&report.printed),
+        },
+    }
 }
 
 // Returns the form of the explanations of lines in this form.

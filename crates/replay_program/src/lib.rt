@@ -13,16 +13,20 @@
 
 mod check;
 mod explain;
+mod met;
 mod program;
+mod reached;
 mod replay;
 mod report;
 mod stream;
 mod summary;
+mod verbose;
 
 pub use check::{
     CheckReport, RepliesError, check_over, fail_to_read_replies, print_check, read_replies,
 };
 pub use explain::{explain_lines, explain_over, print_explained};
+pub use met::{Ended, Met};
 pub use program::{run, run_in};
 pub use replay::{replay_and_summarize_over, replay_over};
 pub use replay_arguments::{

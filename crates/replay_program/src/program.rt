@@ -68,6 +68,6 @@ pub fn run<R: Threads + Wait + Copy + Send + 'static, F: Files, O: Sink, E: Sink
 {
     match read_words(alloc, words) {
         Ok(line) => run_line(rt, alloc, files, &line, out, error),
-        Err(refusal) => RunReport::without_files(alloc, refusal.end(out, error)),
+        Err(refusal) => RunReport::unstarted(alloc, refusal.end(out, error)),
     }
 }

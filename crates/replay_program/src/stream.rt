@@ -1,15 +1,17 @@
 //! All that follows the opening of the files where answers are printed as they come.
 
 ghost use Rattle.std.specs.Prelude.{◌≡◌, ◌≤◌, ◌<◌, ◌≢◌, ◌↔◌, ◌++◌, false, map, vec_len};
-ghost use Rattle.std.specs.Prelude.{IsErr, IsOk, IsTrue, None, OnOk};
+ghost use Rattle.std.specs.Prelude.{IsErr, IsOk, IsTrue, None, OnOk, true};
 ghost use Rattle.std.specs.List.{All};
 ghost use Rattle.std.specs.Io.KnownBytes.{Appends, Keeps};
 ghost use Rattle.replay_output.specs.Failures.{NothingFailed, failure_lines};
 ghost use Rattle.replay_output.specs.Unwritten.{unwritten_lines};
 ghost use Rattle.replay_stream.specs.Sinks.{state_by};
+ghost use Rattle.replay_program.specs.Met.{HasMet};
 ghost use Rattle.replay_program.specs.Replayed.{written};
 ghost use Rattle.replay_program.specs.Streamed.{FailsToStream, IsStreamDone};
 
+use crate::met::Met;
 use crate::report::RunReport;
 use replay_output::{
     Ending, Options, ProxyFailure, Status, all_written, fail_to_start, nothing_failed,
@@ -66,6 +68,9 @@ pub fn stream_over<
         (written (O.given out.old) (O.given out.new) (O.failures out.old) (O.failures out.new))
         (written (E.given error.old) (E.given error.new) (E.failures error.old)
         (E.failures error.new)) }
+    ensures met { HasMet options.limit options.window (map S.remaining readers.items) result.met }
+    ensures output_failed { result.met.output_failed ≡ true
+        → O.failures out.old < O.failures out.new }
     ensures output { result.output ≡ None }
     ensures ends { result.status ≢ Status.Usage }
     ensures same { result.status ≢ Status.Differs }
@@ -75,7 +80,7 @@ pub fn stream_over<
         rt, alloc, readers, records, options, gatekeeper, out,
     ) {
         Ok(ended) => ended,
-        Err(cause) => return RunReport::without_files(alloc, fail_to_start(error, cause)),
+        Err(cause) => return RunReport::unstarted(alloc, fail_to_start(error, cause)),
     };
     let Streamed {
         failures,
@@ -90,6 +95,11 @@ pub fn stream_over<
     let is_clean = is_clean(&unwritten, &failures, ending);
     RunReport {
         status: status_of(is_clean, failed, told),
+        met: Met {
+            stop: account.stop,
+            version: None,
+            output_failed: failed,
+        },
         recorders,
         output: None,
         summary: None,

@@ -2,18 +2,22 @@
 //! answers summarized.
 
 ghost use Rattle.std.specs.Prelude.{◌≡◌, ◌≢◌, ◌↔◌, ◌<◌, ◌≤◌, ◌+◌, ◌&&◌, ℕ, None, Some, length, map};
-ghost use Rattle.std.specs.Prelude.{IsErr, OnOk, vec_len};
+ghost use Rattle.std.specs.Prelude.{IsErr, OnOk, true, vec_len};
 ghost use Rattle.std.specs.Io.KnownBytes.{Appends, Keeps};
 ghost use Rattle.replay_output.specs.Failures.{failure_lines, with_loss};
+ghost use Rattle.replay_program.specs.Met.{HasMet};
 ghost use Rattle.replay_program.specs.Replayed.{written};
 ghost use Rattle.replay_program.specs.Summarized.{FailsToSummarize, IsSummarized};
 
 use crate::explain::report_loss;
+use crate::met::{Ended, Met, is_unwritten};
+use crate::reached::Reached;
+use observer::Unobserved;
 use ranges::text_of_top;
 use replay_hot_ranges::HotRanges;
 use replay_output::{Ending, Options, ProxyFailure, Report, Status, fail_to_start};
 use replay_summary::SummaryForm;
-use replay_workers::{Gatekeeper, Outcome, ShareKeeper, run, run_observed};
+use replay_workers::{Gatekeeper, Outcome, ShareKeeper, run_observed};
 use resolver::MAX_PROXIES;
 use std::alloc::Global;
 use std::sync::{Arc, Wait};
@@ -59,22 +63,25 @@ pub fn summarize_over<
     gatekeeper: &Arc<G, Global>,
     out: &mut O,
     error: &mut E,
-) -> Status
+) -> Ended
     requires least_files { 1 ≤ vec_len readers }
     requires most_files { vec_len readers ≤ MAX_PROXIES }
-    ensures done { result ≡ Status.Done
+    ensures done { result.status ≡ Status.Done
         → IsSummarized summary.form summary.top options (map S.remaining readers.items)
         (O.given out.old) (O.given out.new) }
-    ensures quiet { result ≡ Status.Done → Keeps (E.given error.old) (E.given error.new) }
+    ensures quiet { result.status ≡ Status.Done → Keeps (E.given error.old) (E.given error.new) }
 
     // Something failed, and its lines were written, or the writer failed.
-    ensures failed { result ≡ Status.Failed
+    ensures failed { result.status ≡ Status.Failed
         → FailsToSummarize summary.form summary.top options (map S.remaining readers.items)
         (written (O.given out.old) (O.given out.new) (O.failures out.old) (O.failures out.new))
         (written (E.given error.old) (E.given error.new) (E.failures error.old)
         (E.failures error.new)) }
-    ensures ends { result ≢ Status.Usage }
-    ensures same { result ≢ Status.Differs }
+    ensures met { HasMet options.limit options.window (map S.remaining readers.items) result.met }
+    ensures output_failed { result.met.output_failed ≡ true
+        → O.failures out.old < O.failures out.new }
+    ensures ends { result.status ≢ Status.Usage }
+    ensures same { result.status ≢ Status.Differs }
 {
     let form = summary.form;
     match summary.top {
@@ -102,25 +109,30 @@ fn summarize_alone<
     gatekeeper: &Arc<G, Global>,
     out: &mut O,
     error: &mut E,
-) -> Status
+) -> Ended
     requires least_files { 1 ≤ vec_len readers }
     requires most_files { vec_len readers ≤ MAX_PROXIES }
-    ensures done { result ≡ Status.Done
+    ensures done { result.status ≡ Status.Done
         → IsSummarized form None options (map S.remaining readers.items)
         (O.given out.old) (O.given out.new) }
-    ensures quiet { result ≡ Status.Done → Keeps (E.given error.old) (E.given error.new) }
-    ensures failed { result ≡ Status.Failed
+    ensures quiet { result.status ≡ Status.Done → Keeps (E.given error.old) (E.given error.new) }
+    ensures failed { result.status ≡ Status.Failed
         → FailsToSummarize form None options (map S.remaining readers.items)
         (written (O.given out.old) (O.given out.new) (O.failures out.old) (O.failures out.new))
         (written (E.given error.old) (E.given error.new) (E.failures error.old)
         (E.failures error.new)) }
-    ensures ends { result ≢ Status.Usage }
-    ensures same { result ≢ Status.Differs }
+    ensures met { HasMet options.limit options.window (map S.remaining readers.items) result.met }
+    ensures output_failed { result.met.output_failed ≡ true
+        → O.failures out.old < O.failures out.new }
+    ensures ends { result.status ≢ Status.Usage }
+    ensures same { result.status ≢ Status.Differs }
 {
     serial::laws::answers_tell_verdicts();
-    let (outcome, account) = match run(rt, alloc, readers, options, gatekeeper) {
+    let mut reached = Reached::new(Unobserved);
+    let run = run_observed(rt, alloc, readers, options, gatekeeper, &mut reached);
+    let (outcome, account) = match run {
         Ok(ended) => ended,
-        Err(cause) => return fail_to_start(error, cause),
+        Err(cause) => return Ended::unstarted(fail_to_start(error, cause)),
     };
     let Outcome {
         mut lines,
@@ -129,7 +141,7 @@ fn summarize_alone<
         ..
     } = outcome;
     let ending = Ending::new(account.complete && all_sent, account.stop);
-    print_summary(
+    let report = print_summary(
         alloc,
         out,
         error,
@@ -138,8 +150,15 @@ fn summarize_alone<
         b"",
         &mut failures,
         ending,
-    )
-    .status
+    );
+    Ended {
+        status: report.status,
+        met: Met {
+            stop: account.stop,
+            version: reached.version,
+            output_failed: is_unwritten(&report.printed),
+        },
+    }
 }
 
 // Summarizes with the ranges that conflict most.
@@ -158,27 +177,31 @@ fn summarize_with_top<
     gatekeeper: &Arc<G, Global>,
     out: &mut O,
     error: &mut E,
-) -> Status
+) -> Ended
     requires least_files { 1 ≤ vec_len readers }
     requires most_files { vec_len readers ≤ MAX_PROXIES }
-    ensures done { result ≡ Status.Done
+    ensures done { result.status ≡ Status.Done
         → IsSummarized wanted.form (Some wanted.most) options (map S.remaining readers.items)
         (O.given out.old) (O.given out.new) }
-    ensures quiet { result ≡ Status.Done → Keeps (E.given error.old) (E.given error.new) }
-    ensures failed { result ≡ Status.Failed
+    ensures quiet { result.status ≡ Status.Done → Keeps (E.given error.old) (E.given error.new) }
+    ensures failed { result.status ≡ Status.Failed
         → FailsToSummarize wanted.form (Some wanted.most) options (map S.remaining readers.items)
         (written (O.given out.old) (O.given out.new) (O.failures out.old) (O.failures out.new))
         (written (E.given error.old) (E.given error.new) (E.failures error.old)
         (E.failures error.new)) }
-    ensures ends { result ≢ Status.Usage }
-    ensures same { result ≢ Status.Differs }
+    ensures met { HasMet options.limit options.window (map S.remaining readers.items) result.met }
+    ensures output_failed { result.met.output_failed ≡ true
+        → O.failures out.old < O.failures out.new }
+    ensures ends { result.status ≢ Status.Usage }
+    ensures same { result.status ≢ Status.Differs }
 {
     serial::laws::answers_tell_verdicts();
-    let mut hot = HotRanges::new(alloc, options.window);
-    let run = run_observed(rt, alloc, readers, options, gatekeeper, &mut hot);
+    let hot = HotRanges::new(alloc, options.window);
+    let mut reached = Reached::new(hot);
+    let run = run_observed(rt, alloc, readers, options, gatekeeper, &mut reached);
     let (outcome, account) = match run {
         Ok(ended) => ended,
-        Err(cause) => return fail_to_start(error, cause),
+        Err(cause) => return Ended::unstarted(fail_to_start(error, cause)),
     };
     let Outcome {
         mut lines,
@@ -188,9 +211,9 @@ fn summarize_with_top<
     } = outcome;
     let complete = is_complete(account.complete, all_sent);
     let ending = Ending::new(complete, account.stop);
-    match text_of_top(alloc, &hot, wanted) {
+    match text_of_top(alloc, &reached.observer, wanted) {
         Ok(ranges) => {
-            print_summary(
+            let report = print_summary(
                 alloc,
                 out,
                 error,
@@ -199,10 +222,24 @@ fn summarize_with_top<
                 &ranges,
                 &mut failures,
                 ending,
-            )
-            .status
+            );
+            Ended {
+                status: report.status,
+                met: Met {
+                    stop: account.stop,
+                    version: reached.version,
+                    output_failed: is_unwritten(&report.printed),
+                },
+            }
         }
-        Err(_) => report_last_loss(error, &mut failures, ending).status,
+        Err(_) => Ended {
+            status: report_last_loss(error, &mut failures, ending).status,
+            met: Met {
+                stop: account.stop,
+                version: reached.version,
+                output_failed: false,
+            },
+        },
     }
 }
 

@@ -109,7 +109,7 @@ pub fn replay_into<
     if readers.is_empty() || readers.len() > MAX_PROXIES {
         return Err(Unmade::Beyond("number of files"));
     }
-    Ok(replay_over(rt, alloc, readers, options, gatekeeper, out, error))
+    Ok(replay_over(rt, alloc, readers, options, gatekeeper, out, error).status)
 }
 
 /// Replays these files with the options, and compares what comes of it.

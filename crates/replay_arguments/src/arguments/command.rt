@@ -8,7 +8,7 @@ ghost use Rattle.replay_arguments.specs.Command.{number_rule};
 ghost use Rattle.replay_arguments.specs.Command.{only_rule, output_rule, quiet_rule, replay_app};
 ghost use Rattle.replay_arguments.specs.Command.{replies_rule, stream_rule, summary_rule};
 ghost use Rattle.replay_arguments.specs.Command.{summary_to_rule, top_rule};
-ghost use Rattle.replay_arguments.specs.Command.{versions_rule, window_rule};
+ghost use Rattle.replay_arguments.specs.Command.{verbose_rule, versions_rule, window_rule};
 ghost use Rattle.replay_arguments.specs.Command.{with_files, with_printing, with_resolving};
 
 use crate::arguments::details::MAX_TOP;
@@ -73,7 +73,8 @@ fn add_files<'a>(alloc: Global, command: Command<'a>) -> Result<Command<'a>, All
         .arg(replies(alloc))?
         .arg(output(alloc))?
         .arg(summary_to(alloc))?
-        .arg(top(alloc))
+        .arg(top(alloc))?
+        .arg(verbose(alloc))
 }
 
 fn capacity<'a>(alloc: Global) -> Arg<'a>
@@ -250,6 +251,16 @@ fn top<'a>(alloc: Global) -> Arg<'a>
         .value_name("N")
         .value_parser(ValueParser::unsigned(1, MAX_TOP as u64))
         .help("With --summary, lists the N ranges that conflict most, from 1 to 1000")
+}
+
+fn verbose<'a>(alloc: Global) -> Arg<'a>
+    ensures rule { rule_of result ≡ verbose_rule }
+    ensures local { result.global ≡ false }
+{
+    Arg::new(alloc, "verbose")
+        .long("verbose")
+        .action(ArgAction::SetTrue)
+        .help("Adds a line to a failure: what was found, and what to do")
 }
 
 fn file<'a>(alloc: Global) -> Arg<'a>

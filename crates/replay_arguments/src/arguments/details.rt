@@ -3,8 +3,8 @@
 ghost use Rattle.std.specs.Prelude.{◌≡◌, ◌↔◌, ℕ, IfOk, IfSome, IsTrue, OnErr, is_some, true};
 ghost use Rattle.clap.specs.Words.{found_of, rows_of};
 ghost use Rattle.replay_arguments.specs.Details.{HoldsDetails};
-ghost use Rattle.replay_arguments.specs.Words.{DetailsNothing, HasTop, HoldsSummary, HoldsTop};
-ghost use Rattle.replay_arguments.specs.Words.{IsSummarized, IsTopOf};
+ghost use Rattle.replay_arguments.specs.Words.{DetailsNothing, HasTop, HasVerbose, HoldsSummary};
+ghost use Rattle.replay_arguments.specs.Words.{HoldsTop, HoldsVerbose, IsSummarized, IsTopOf};
 
 use crate::arguments::mistake::Mistake;
 use crate::arguments::printing::Printing;
@@ -19,6 +19,8 @@ pub struct Details {
     /// How many of the ranges that conflict most the summary lists, from 1 to [`MAX_TOP`], if a
     /// number is given.
     pub top: Option<usize>,
+    /// A failure is explained.
+    pub verbose: bool,
 }
 
 /// Returns the details. An error is the first one of something that isn't printed.
@@ -32,7 +34,18 @@ pub fn details_of(matches: &ArgMatches, printing: Printing) -> Result<Details, M
     let Some(top) = top_of(matches, printing.summary.is_some()) else {
         return Err(Mistake::Top);
     };
-    Ok(Details { top })
+    let Some(verbose) = is_verbose(matches) else {
+        return Err(Mistake::Verbose);
+    };
+    Ok(Details { top, verbose })
+}
+
+// Returns whether a failure is to be explained. `clap` refuses a value itself.
+fn is_verbose(matches: &ArgMatches) -> Option<bool>
+    ensures verbose { IfSome result (HoldsVerbose (rows_of (found_of matches.now))) }
+    ensures none { result ≡ None → ¬ HasVerbose (rows_of (found_of matches.now)) }
+{
+    matches.get_one("verbose")
 }
 
 // Returns how many ranges the summary lists, if a number is given, unless no summary is printed.

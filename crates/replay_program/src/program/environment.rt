@@ -72,7 +72,7 @@ pub fn run_in<R: Threads + Wait + Copy + Send + 'static, V: Env, F: Files, O: Si
 {
     match command_line(alloc, environment) {
         Ok(words) => run(rt, alloc, files, &words, out, error),
-        Err(cause) => RunReport::without_files(alloc, fail_to_read(error, cause)),
+        Err(cause) => RunReport::unstarted(alloc, fail_to_read(error, cause)),
     }
 }
 

@@ -1,7 +1,8 @@
 //! Answers that are printed, with their summary in a file beside them if one is requested.
 
-ghost use Rattle.std.specs.Prelude.{◌≡◌, ◌≢◌, ◌≤◌, None, map, vec_len};
+ghost use Rattle.std.specs.Prelude.{◌≡◌, ◌≢◌, ◌≤◌, ◌<◌, None, map, true, vec_len};
 ghost use Rattle.std.specs.Io.KnownBytes.{Keeps};
+ghost use Rattle.replay_program.specs.Met.{HasMet};
 ghost use Rattle.replay_program.specs.Program.{AreNotPrinted, ArePrinted, named_files};
 ghost use Rattle.replay_program.specs.Replayed.{written};
 ghost use Rattle.replay_stream.specs.Sinks.{state_by};
@@ -48,6 +49,10 @@ pub fn print_and_summarize<R: Threads + Wait + Copy + Send + 'static, F: Files, 
         (written (O.given out.old) (O.given out.new) (O.failures out.old) (O.failures out.new))
         (written (E.given error.old) (E.given error.new) (E.failures error.old)
         (E.failures error.new)) }
+    ensures met { HasMet line.now.options.limit line.now.options.window
+        (map F.Reader.remaining opened.readers.items) result.met }
+    ensures output_failed { result.met.output_failed ≡ true
+        → O.failures out.old < O.failures out.new }
     ensures output { result.output ≡ None }
     ensures ends { result.status ≢ Status.Usage }
     ensures same { result.status ≢ Status.Differs }
@@ -55,8 +60,8 @@ pub fn print_and_summarize<R: Threads + Wait + Copy + Send + 'static, F: Files, 
     let Opened { readers, room } = opened;
     match line.summary_to {
         None => {
-            let status = replay_over(rt, alloc, readers, line.options, &room, out, error);
-            RunReport::without_files(alloc, status)
+            let ended = replay_over(rt, alloc, readers, line.options, &room, out, error);
+            RunReport::without_files(alloc, ended)
         }
         Some(file) => match files.create(file.name) {
             Ok(writer) => {
@@ -64,7 +69,7 @@ pub fn print_and_summarize<R: Threads + Wait + Copy + Send + 'static, F: Files, 
                     form: file.form,
                     writer,
                 };
-                let status = replay_and_summarize_over(
+                let ended = replay_and_summarize_over(
                     rt,
                     alloc,
                     readers,
@@ -75,7 +80,8 @@ pub fn print_and_summarize<R: Threads + Wait + Copy + Send + 'static, F: Files, 
                     error,
                 );
                 RunReport {
-                    status,
+                    status: ended.status,
+                    met: ended.met,
                     recorders: Vec::new(alloc),
                     output: None,
                     summary: Some(summary.writer),
@@ -83,7 +89,7 @@ pub fn print_and_summarize<R: Threads + Wait + Copy + Send + 'static, F: Files, 
             }
             Err(cause) => {
                 let status = fail_to_create_file(error, WrittenFile::Summary, cause);
-                RunReport::without_files(alloc, status)
+                RunReport::unstarted(alloc, status)
             }
         },
     }

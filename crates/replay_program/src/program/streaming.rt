@@ -1,9 +1,10 @@
 //! Answers that are printed as they come, and recorded in files.
 
 ghost use Rattle.std.specs.Prelude.{◌≡◌, ◌≢◌, ◌≤◌, ℕ, Err, IfOk, None, length, map, option_map};
-ghost use Rattle.std.specs.Prelude.{vec_len};
+ghost use Rattle.std.specs.Prelude.{◌<◌, true, vec_len};
 ghost use Rattle.std.specs.Io.KnownBytes.{Keeps};
 ghost use Rattle.replay_arguments.specs.Opening.{IsFirstRefused};
+ghost use Rattle.replay_program.specs.Met.{HasMet};
 ghost use Rattle.replay_program.specs.Program.{FailsToStreamFiles, HaveWriters, StreamsFiles};
 ghost use Rattle.replay_program.specs.Program.{named_files, texts};
 ghost use Rattle.replay_program.specs.Replayed.{written};
@@ -50,6 +51,10 @@ pub fn stream_and_record<R: Threads + Wait + Copy + Send + 'static, F: Files, O:
         (written (O.given out.old) (O.given out.new) (O.failures out.old) (O.failures out.new))
         (written (E.given error.old) (E.given error.new) (E.failures error.old)
         (E.failures error.new)) }
+    ensures met { HasMet options.limit options.window
+        (map F.Reader.remaining opened.readers.items) result.met }
+    ensures output_failed { result.met.output_failed ≡ true
+        → O.failures out.old < O.failures out.new }
     ensures output { result.output ≡ None }
     ensures ends { result.status ≢ Status.Usage }
     ensures same { result.status ≢ Status.Differs }
@@ -57,7 +62,7 @@ pub fn stream_and_record<R: Threads + Wait + Copy + Send + 'static, F: Files, O:
     let Opened { readers, room } = opened;
     match create_each(alloc, files, records, readers.len()) {
         Ok(writers) => stream_over(rt, alloc, readers, writers, options, &room, out, error),
-        Err(cause) => RunReport::without_files(alloc, fail_to_create(error, cause)),
+        Err(cause) => RunReport::unstarted(alloc, fail_to_create(error, cause)),
     }
 }
 

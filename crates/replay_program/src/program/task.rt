@@ -1,8 +1,9 @@
 //! The task of a command line, once its files of batches are open.
 
-ghost use Rattle.std.specs.Prelude.{◌≡◌, ◌≢◌, ℕ, List, None, map, vec_len};
+ghost use Rattle.std.specs.Prelude.{◌≡◌, ◌≢◌, ◌<◌, ℕ, List, None, map, true, vec_len};
 ghost use Rattle.std.specs.Io.KnownBytes.{Keeps};
 ghost use Rattle.replay_arguments.specs.Asks.{Asks};
+ghost use Rattle.replay_program.specs.Met.{HasMet};
 ghost use Rattle.replay_program.specs.Program.{FindsDifferences, IsTaskDone, TaskFails, named_files};
 ghost use Rattle.replay_program.specs.Replayed.{written};
 ghost use Rattle.replay_stream.specs.Sinks.{state_by};
@@ -55,6 +56,10 @@ pub fn run_task<R: Threads + Wait + Copy + Send + 'static, F: Files, O: Sink, E:
         (written (O.given out.old) (O.given out.new) (O.failures out.old) (O.failures out.new))
         (written (E.given error.old) (E.given error.new) (E.failures error.old)
         (E.failures error.new)) }
+    ensures met { HasMet line.now.options.limit line.now.options.window
+        (map F.Reader.remaining opened.readers.items) result.met }
+    ensures output_failed { result.met.output_failed ≡ true
+        → O.failures out.old < O.failures out.new }
     ensures output { result.output ≡ None }
     ensures ends { result.status ≢ Status.Usage }
 {
@@ -62,8 +67,8 @@ pub fn run_task<R: Threads + Wait + Copy + Send + 'static, F: Files, O: Sink, E:
         Task::Print => print_and_summarize(rt, alloc, files, line, opened, out, error),
         Task::Explain => {
             let Opened { readers, room } = opened;
-            let status = explain_over(rt, alloc, readers, line.options, &room, out, error);
-            RunReport::without_files(alloc, status)
+            let ended = explain_over(rt, alloc, readers, line.options, &room, out, error);
+            RunReport::without_files(alloc, ended)
         }
         Task::Summarize(form, top) => {
             let Opened { readers, room } = opened;
@@ -72,15 +77,15 @@ pub fn run_task<R: Threads + Wait + Copy + Send + 'static, F: Files, O: Sink, E:
                 top: *top,
             };
             let options = line.options.quieted();
-            let status = summarize_over(rt, alloc, readers, options, summary, &room, out, error);
-            RunReport::without_files(alloc, status)
+            let ended = summarize_over(rt, alloc, readers, options, summary, &room, out, error);
+            RunReport::without_files(alloc, ended)
         }
         Task::Stream(records) => {
             stream_and_record(rt, alloc, files, records, opened, line.options, out, error)
         }
         Task::Check(replies) => {
-            let status = check_replies(rt, alloc, files, replies, opened, line.options, out, error);
-            RunReport::without_files(alloc, status)
+            let ended = check_replies(rt, alloc, files, replies, opened, line.options, out, error);
+            RunReport::without_files(alloc, ended)
         }
     }
 }

@@ -1,14 +1,18 @@
 //! All that follows the opening of the files if a summary is written beside the answers.
 
-ghost use Rattle.std.specs.Prelude.{◌≡◌, ◌≤◌, ◌≢◌, map, vec_len};
+ghost use Rattle.std.specs.Prelude.{◌≡◌, ◌≤◌, ◌<◌, ◌≢◌, map, true, vec_len};
 ghost use Rattle.std.specs.Io.KnownBytes.{Keeps};
+ghost use Rattle.replay_program.specs.Met.{HasMet};
 ghost use Rattle.replay_program.specs.Replayed.{written};
 ghost use Rattle.replay_program.specs.Summarized.{FailsToReplayAndSummarize};
 ghost use Rattle.replay_program.specs.Summarized.{IsReplayedAndSummarized};
 
+use crate::met::{Ended, Met};
+use crate::reached::Reached;
 use crate::summary::{SummaryWriter, print_with_summary};
+use observer::Unobserved;
 use replay_output::{Ending, Options, Status, fail_to_start};
-use replay_workers::{Gatekeeper, Outcome, ShareKeeper, run};
+use replay_workers::{Gatekeeper, Outcome, ShareKeeper, run_observed};
 use resolver::MAX_PROXIES;
 use std::alloc::Global;
 use std::sync::{Arc, Wait};
@@ -36,32 +40,37 @@ pub fn replay_and_summarize_over<
     out: &mut O,
     summary: &mut SummaryWriter<T>,
     error: &mut E,
-) -> Status
+) -> Ended
     requires least_files { 1 ≤ vec_len readers }
     requires most_files { vec_len readers ≤ MAX_PROXIES }
     // The log is that of the text. The summary is of all answers, whether or not their lines are
     // shown.
-    ensures done { result ≡ Status.Done
+    ensures done { result.status ≡ Status.Done
         → IsReplayedAndSummarized summary.old.form options (map S.remaining readers.items)
         (O.given out.old) (O.given out.new)
         (T.given summary.old.writer) (T.given summary.new.writer) }
-    ensures quiet { result ≡ Status.Done → Keeps (E.given error.old) (E.given error.new) }
+    ensures quiet { result.status ≡ Status.Done → Keeps (E.given error.old) (E.given error.new) }
 
     // Something failed, and its lines were written, or the writer failed.
-    ensures failed { result ≡ Status.Failed
+    ensures failed { result.status ≡ Status.Failed
         → FailsToReplayAndSummarize summary.old.form options (map S.remaining readers.items)
         (written (O.given out.old) (O.given out.new) (O.failures out.old) (O.failures out.new))
         (written (T.given summary.old.writer) (T.given summary.new.writer)
         (T.failures summary.old.writer) (T.failures summary.new.writer))
         (written (E.given error.old) (E.given error.new) (E.failures error.old)
         (E.failures error.new)) }
-    ensures ends { result ≢ Status.Usage }
-    ensures same { result ≢ Status.Differs }
+    ensures met { HasMet options.limit options.window (map S.remaining readers.items) result.met }
+    ensures output_failed { result.met.output_failed ≡ true
+        → O.failures out.old < O.failures out.new }
+    ensures ends { result.status ≢ Status.Usage }
+    ensures same { result.status ≢ Status.Differs }
 {
     serial::laws::answers_tell_verdicts();
-    let (outcome, account) = match run(rt, alloc, readers, options, gatekeeper) {
+    let mut reached = Reached::new(Unobserved);
+    let run = run_observed(rt, alloc, readers, options, gatekeeper, &mut reached);
+    let (outcome, account) = match run {
         Ok(ended) => ended,
-        Err(cause) => return fail_to_start(error, cause),
+        Err(cause) => return Ended::unstarted(fail_to_start(error, cause)),
     };
     let Outcome {
         mut lines,
@@ -70,7 +79,7 @@ pub fn replay_and_summarize_over<
         ..
     } = outcome;
     let ending = Ending::new(account.complete && all_sent, account.stop);
-    print_with_summary(
+    let report = print_with_summary(
         alloc,
         out,
         summary,
@@ -78,5 +87,13 @@ pub fn replay_and_summarize_over<
         &mut lines,
         &mut failures,
         ending,
-    )
+    );
+    Ended {
+        status: report.status,
+        met: Met {
+            stop: account.stop,
+            version: reached.version,
+            output_failed: report.output_failed,
+        },
+    }
 }

@@ -2,7 +2,7 @@
 //! them, and what failed.
 
 ghost use Rattle.std.specs.Prelude.{◌≡◌, ◌≢◌, ◌↔◌, ◌<◌, ◌≤◌, ℕ, IfSome, IsOk, IsTrue, OnErr, OnOk};
-ghost use Rattle.std.specs.Prelude.{length, map, take, vec_items};
+ghost use Rattle.std.specs.Prelude.{length, map, take, true, vec_items};
 ghost use Rattle.std.specs.Io.KnownBytes.{Appends, Keeps};
 ghost use Rattle.replay_output.specs.Failures.{NothingFailed};
 ghost use Rattle.replay_output.specs.Line.{AreLines, answers_of, text_of as text_of_lines, texts};
@@ -25,6 +25,14 @@ pub struct SummaryWriter<W> {
     pub writer: W,
 }
 
+/// What became of the output beside a summary, and how the program ends.
+#[derive(Clone, Copy, Debug)]
+pub struct BesideReport {
+    pub status: Status,
+    /// The writer of the output has failed.
+    pub output_failed: bool,
+}
+
 /// Sorts the lines of the answers, prints them to `out` and writes their summary. Then prints what
 /// failed to `error`, as [`print_failures`] does. `received` and `failures` hold those of each proxy at
 /// its number. If one writer fails, the other is given its text all the same.
@@ -39,36 +47,46 @@ pub fn print_with_summary<O: Sink, T: Sink, E: Sink>(
     received: &mut [Vec<Line>],
     failures: &mut [ProxyFailure],
     ending: Ending,
-) -> Status
+) -> BesideReport
     requires some { 1 ≤ length received.old }
     requires proxies { length failures.old ≡ length received.old }
     ensures done { (style : Style) → AreLines style (map vec_items received.old)
-        → result ≡ Status.Done
+        → result.status ≡ Status.Done
         → Appends (O.given out.old) (O.given out.new)
         (lines style (map answers_of (map vec_items received.old)))
         × Appends (T.given summary.old.writer) (T.given summary.new.writer)
         (run_summary summary.old.form (map answers_of (map vec_items received.old))) }
-    ensures nothing_failed { result ≡ Status.Done → NothingFailed failures.old ending }
-    ensures quiet { result ≡ Status.Done → Keeps (E.given error.old) (E.given error.new) }
+    ensures nothing_failed { result.status ≡ Status.Done → NothingFailed failures.old ending }
+    ensures quiet { result.status ≡ Status.Done → Keeps (E.given error.old) (E.given error.new) }
     ensures failed { (style : Style) → AreLines style (map vec_items received.old)
-        → result ≡ Status.Failed
+        → result.status ≡ Status.Failed
         → BothFailed summary.old.form style (map vec_items received.old) failures.old ending
         (written (O.given out.old) (O.given out.new) (O.failures out.old) (O.failures out.new))
         (written (T.given summary.old.writer) (T.given summary.new.writer)
         (T.failures summary.old.writer) (T.failures summary.new.writer))
         (written (E.given error.old) (E.given error.new) (E.failures error.old)
         (E.failures error.new)) }
-    ensures ends { result ≢ Status.Usage }
-    ensures same { result ≢ Status.Differs }
+    ensures output_failed { result.output_failed ≡ true → O.failures out.old < O.failures out.new }
+    ensures ends { result.status ≢ Status.Usage }
+    ensures same { result.status ≢ Status.Differs }
 {
     let text = match text_of(alloc, received, summary.form, b"") {
         Ok(text) => text,
-        Err(proxy) => return report_loss(error, proxy, failures, ending).status,
+        Err(proxy) => {
+            return BesideReport {
+                status: report_loss(error, proxy, failures, ending).status,
+                output_failed: false,
+            };
+        }
     };
     let printed = print_and_flush(out, received);
     let put = write_and_flush(&mut summary.writer, &text);
     let told = print_failures(error, failures, ending);
-    status_of(nothing_failed(failures, ending), printed, put, told)
+    let output_failed = printed.is_err();
+    BesideReport {
+        status: status_of(nothing_failed(failures, ending), printed, put, told),
+        output_failed,
+    }
 }
 
 // Returns how the program ends, by whether nothing failed and each text was written.

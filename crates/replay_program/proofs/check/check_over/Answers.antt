@@ -9,21 +9,25 @@ use Rattle.replay_program.specs.Checked.{KeepReplies, TakesToCompare, check_line
 use Rattle.replay_output.specs.Failures.{failure_lines, NothingFailed}
 use Rattle.replay_workers.specs.Run.{IsRun, is_complete}
 use Rattle.replay_program.specs.Replayed.{written, Took}
+use Rattle.replay_program.proofs.Meeting.{has_met, met_nothing, not_failed}
 use Rattle.replay_program.proofs.Replaying.{ending_is, held_ok, are_lines, is_replayed, ran_and_failed, held_at, held_and, ok_at}
 use Rattle.replay_program.proofs.check.check_over.Goals.{then-account, else-account}
 use Rattle.replay_program.proofs.check.check_over.Goals as goal
 
 pub returns-in-Err : goal.returns-in-Err
 returns-in-Err g c = record {
-  done = λ is. cc (c.fail_to_start.ensures.status, is);
-  differs = λ is. cc (c.fail_to_start.ensures.status, is);
-  quiet = λ other. absurd (other c.fail_to_start.ensures.status);
+  done = λ is. cc (c.fail_to_start.ensures.status, c.unstarted.ensures.status, is);
+  differs = λ is. cc (c.fail_to_start.ensures.status, c.unstarted.ensures.status, is);
+  quiet = λ other. absurd (other (c.unstarted.ensures.status ∙ c.fail_to_start.ensures.status));
   failed = λ is. inl (record {
     cause = c.in-Err.cause;
     nothing_printed = refl;
     told = c.fail_to_start.ensures.line;
   });
-  ends = λ is. cc (c.fail_to_start.ensures.status, is);
+  met = met_nothing c.args.options.limit c.args.options.window (map g.S.Source.remaining c.args.readers.items) c.unstarted.result.met
+      c.unstarted.ensures.stop;
+  output_failed = not_failed c.unstarted.result.met.output_failed c.unstarted.ensures.output_failed;
+  ends = λ is. cc (c.fail_to_start.ensures.status, c.unstarted.ensures.status, is);
 }
 
 pub returns : goal.returns
@@ -46,12 +50,12 @@ returns g c =
     (sym c.deref_mut.ensures.value) c.in-Ok.ensures.run in
     let run = subst (λ (b : Bool). IsRun options files received failures b account.stop) (sym whole) of_failures in
     let ending = ending_is complete account.stop c.new-ending.result c.new-ending.ensures.ending in
-    let report = c.print_check.ensures in
-    let told = c.print_check.new.failures in
-    let out = written (g.O.Sink.given c.args.out.now) (g.O.Sink.given c.print_check.new.out)
-    (g.O.Sink.failures c.args.out.now) (g.O.Sink.failures c.print_check.new.out) in
-    let error = written (g.E.Sink.given c.args.error.now) (g.E.Sink.given c.print_check.new.error)
-    (g.E.Sink.failures c.args.error.now) (g.E.Sink.failures c.print_check.new.error) in
+    let report = c.print_check-report.ensures in
+    let told = c.print_check-report.new.failures in
+    let out = written (g.O.Sink.given c.args.out.now) (g.O.Sink.given c.print_check-report.new.out)
+    (g.O.Sink.failures c.args.out.now) (g.O.Sink.failures c.print_check-report.new.out) in
+    let error = written (g.E.Sink.given c.args.error.now) (g.E.Sink.given c.print_check-report.new.error)
+    (g.E.Sink.failures c.args.error.now) (g.E.Sink.failures c.print_check-report.new.error) in
     let are : KeepReplies received =
     (options.style, c.requires.kept, are_lines options files received failures complete account.stop run) in
     let lines = report.lines are in
@@ -62,8 +66,8 @@ returns g c =
           (λ answers. Took out (check_lines recorded answers) × (differences_of recorded answers ≡ 0))
           c.answers_tell_verdicts.ensures.tell
           (subst (λ (e : Ending). NothingFailed failures e) ending parts.2) (
-            held_ok c.print_check.result.printed _ lines (ok_at c.print_check.result.printed 0 parts.0),
-            sym (held_at c.print_check.result.printed 0 _ parts.0 (report.count are)),
+            held_ok c.print_check-report.result.printed _ lines (ok_at c.print_check-report.result.printed 0 parts.0),
+            sym (held_at c.print_check-report.result.printed 0 _ parts.0 (report.count are)),
           );
       differs = λ is.
           let parts = report.differs is in
@@ -71,11 +75,11 @@ returns g c =
           (λ answers. Took out (check_lines recorded answers) × (differences_of recorded answers ≢ 0))
           c.answers_tell_verdicts.ensures.tell
           (subst (λ (e : Ending). NothingFailed failures e) ending parts.2)
-          (held_and c.print_check.result.printed _ _ lines (report.count are) parts.0);
+          (held_and c.print_check-report.result.printed _ _ lines (report.count are) parts.0);
       quiet = report.quiet;
       failed = λ is.
           inr (ran_and_failed options files received failures complete account.stop run (check_lines recorded) (TakesToCompare recorded) out error told
-          c.print_check.result.printed c.print_check.result.told lines
+          c.print_check-report.result.printed c.print_check-report.result.told lines
           (λ proxy memory. omega (
             arith,
             report.memory proxy memory,
@@ -83,8 +87,12 @@ returns g c =
           ))
           report.takes
           report.nothing (report.beginning are) report.write.0
-          (subst (λ (e : Ending). OnOk c.print_check.result.told (Took error (failure_lines told e))) ending report.failure_lines)
+          (subst (λ (e : Ending). OnOk c.print_check-report.result.told (Took error (failure_lines told e))) ending report.failure_lines)
           report.told.0 report.loss report.no_loss
           (λ all. report.failed is (all.0, all.1, subst (λ (e : Ending). NothingFailed failures e) (sym ending) all.2)));
+      met = has_met options files (map (vec_items {X = Line} {Z = Global}) outcome.lines.items) outcome.failures.items
+          (is_complete outcome account) (λ _. Unit {0}) c.run_observed-run.new.observer.version account.stop c.is_unwritten.result
+          (c.in-Ok.ensures.observed (tt, c.new-reached.ensures.none));
+      output_failed = λ is. report.write.0 (c.is_unwritten.ensures.write is);
       ends = report.ends;
     }

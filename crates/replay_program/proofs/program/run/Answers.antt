@@ -33,7 +33,7 @@ returns-in-Err g c =
     let files = named_files (g.F.Files.contents f) (g.F.Files.has_opened f) (g.F.Files.cannot_open f)
     (g.F.Files.begun f) (g.F.Files.has_created f) (g.F.Files.cannot_create f) in
     let state = state_by g.F.Writer.Sink.given g.F.Writer.Sink.failures in
-    let report = c.without_files.result in
+    let report = c.unstarted.result in
     let words : List (List ℕ) = map string_bytes c.args.words.now in
     let out = written (g.O.Sink.given c.args.out.now) (g.O.Sink.given c.end.new.out)
     (g.O.Sink.failures c.args.out.now) (g.O.Sink.failures c.end.new.out) in
@@ -44,7 +44,7 @@ returns-in-Err g c =
     (λ text is. c.read_words.ensures.shown text (c.in-Err.is ∙ ap Err is))
     (λ text is. c.read_words.ensures.refused text (c.in-Err.is ∙ ap Err is))
     end.shown end.not_shown end.quiet end.refused end.told end.memory end.memory_told in
-    let ends = subst (λ (s : Status). Ends state files words report out error s) (sym c.without_files.ensures.status) ends_by_status in
+    let ends = subst (λ (s : Status). Ends state files words report out error s) (sym c.unstarted.ensures.status) ends_by_status in
     record {
       done = ends.done;
       quiet = ends.quiet;

@@ -10,21 +10,25 @@ use Rattle.replay_output.proofs.callers.Texts.{are_lines_by}
 use Rattle.replay_output.specs.Failures.{failure_lines, NothingFailed}
 use Rattle.replay_workers.specs.Run.{IsRun, is_complete}
 use Rattle.replay_program.specs.Replayed.{written, Took}
+use Rattle.replay_program.proofs.Meeting.{has_met, met_nothing, not_failed}
 use Rattle.replay_program.proofs.Replaying.{ending_is, held_ok, are_lines, is_replayed, ran_and_failed}
 use Rattle.replay_program.proofs.replay.replay_over.Goals.{then-account, else-account}
 use Rattle.replay_program.proofs.replay.replay_over.Goals as goal
 
 pub returns-in-Err : goal.returns-in-Err
 returns-in-Err g c = record {
-  done = λ is. cc (c.fail_to_start.ensures.status, is);
-  quiet = λ is. cc (c.fail_to_start.ensures.status, is);
+  done = λ is. cc (c.fail_to_start.ensures.status, c.unstarted.ensures.status, is);
+  quiet = λ is. cc (c.fail_to_start.ensures.status, c.unstarted.ensures.status, is);
   failed = λ is. inl (record {
     cause = c.in-Err.cause;
     nothing_printed = refl;
     told = c.fail_to_start.ensures.line;
   });
-  ends = λ is. cc (c.fail_to_start.ensures.status, is);
-  same = λ is. cc (c.fail_to_start.ensures.status, is);
+  met = met_nothing c.args.options.limit c.args.options.window (map g.S.Source.remaining c.args.readers.items) c.unstarted.result.met
+      c.unstarted.ensures.stop;
+  output_failed = not_failed c.unstarted.result.met.output_failed c.unstarted.ensures.output_failed;
+  ends = λ is. cc (c.fail_to_start.ensures.status, c.unstarted.ensures.status, is);
+  same = λ is. cc (c.fail_to_start.ensures.status, c.unstarted.ensures.status, is);
 }
 
 pub returns : goal.returns
@@ -49,12 +53,12 @@ returns g c =
     (sym c.deref_mut-2.ensures.value) of_lines in
     let run = subst (λ (b : Bool). IsRun options files received failures b account.stop) (sym whole) of_both in
     let ending = ending_is complete account.stop c.new-ending.result c.new-ending.ensures.ending in
-    let report = c.print_report.ensures in
-    let told = c.print_report.new.failures in
-    let out = written (g.O.Sink.given c.args.out.now) (g.O.Sink.given c.print_report.new.out)
-    (g.O.Sink.failures c.args.out.now) (g.O.Sink.failures c.print_report.new.out) in
-    let error = written (g.E.Sink.given c.args.error.now) (g.E.Sink.given c.print_report.new.error)
-    (g.E.Sink.failures c.args.error.now) (g.E.Sink.failures c.print_report.new.error) in
+    let report = c.print_report-report.ensures in
+    let told = c.print_report-report.new.failures in
+    let out = written (g.O.Sink.given c.args.out.now) (g.O.Sink.given c.print_report-report.new.out)
+    (g.O.Sink.failures c.args.out.now) (g.O.Sink.failures c.print_report-report.new.out) in
+    let error = written (g.E.Sink.given c.args.error.now) (g.E.Sink.given c.print_report-report.new.error)
+    (g.E.Sink.failures c.args.error.now) (g.E.Sink.failures c.print_report-report.new.error) in
     let are = are_lines options files received failures complete account.stop run in
     let by = are_lines_by options.style received are in
     let lines = report.lines (line options.style) by in
@@ -64,11 +68,11 @@ returns g c =
           is_replayed options files received failures complete account.stop run (λ answers. Took out (lines_of options.style answers))
           c.answers_tell_verdicts.ensures.tell
           (subst (λ (e : Ending). NothingFailed failures e) ending parts.2)
-          (held_ok c.print_report.result.printed _ lines parts.0);
+          (held_ok c.print_report-report.result.printed _ lines parts.0);
       quiet = report.quiet;
       failed = λ is.
           inr (ran_and_failed options files received failures complete account.stop run (lines_of options.style) TakesToSort out error told
-          c.print_report.result.printed c.print_report.result.told lines
+          c.print_report-report.result.printed c.print_report-report.result.told lines
           (λ proxy memory. omega (
             arith,
             report.memory proxy memory,
@@ -76,12 +80,16 @@ returns g c =
           ))
           report.takes
           report.nothing (report.beginning (line options.style) by) report.write.0
-          (subst (λ (e : Ending). OnOk c.print_report.result.told (Took error (failure_lines told e))) ending report.failure_lines)
+          (subst (λ (e : Ending). OnOk c.print_report-report.result.told (Took error (failure_lines told e))) ending report.failure_lines)
           report.told.0 report.loss report.no_loss
           (λ all.
           let done =
           report.done.1 (all.0, all.1, subst (λ (e : Ending). NothingFailed failures e) (sym ending) all.2) in
           cc (done, is)));
+      met = has_met options files (map (vec_items {X = Line} {Z = Global}) outcome.lines.items) outcome.failures.items
+          (is_complete outcome account) (λ _. Unit {0}) c.run_observed-run.new.observer.version account.stop c.is_unwritten.result
+          (c.in-Ok.ensures.observed (tt, c.new-reached.ensures.none));
+      output_failed = λ is. report.write.0 (c.is_unwritten.ensures.write is);
       ends = report.ends;
       same = report.same;
     }

@@ -1,11 +1,14 @@
 use Rattle.std.proofs.Common.{◌≡◌, ◌++◌, Bool, ◌&&◌, map, length, refl, ap, sym, subst, inl, inr, ◌∙◌, arith}
 use Rattle.std.specs.Prelude.{is_some, OnOk}
 use Rattle.replay_output.specs.Failures.{failure_lines}
+use Rattle.replay_output.specs.Streamed.{stream_text}
 use Rattle.replay_output.specs.Unwritten.{unwritten_lines}
+use Rattle.replay_stream.specs.Outlet.{TookText}
 use Rattle.replay_stream.specs.Sinks.{SinkState, state_by}
 use Rattle.replay_stream.specs.Streaming.{IsStreamed, recorded_each}
 use Rattle.replay_program.specs.Replayed.{ending_of, written, Took}
 use Rattle.replay_program.specs.Streamed.{unwritten_each}
+use Rattle.replay_program.proofs.Meeting.{met_nothing, not_failed, stream_has_met}
 use Rattle.replay_program.proofs.Replaying.{ending_is, held_ok}
 use Rattle.replay_program.proofs.Streaming.{clean_as, is_stream_done, keeps_error, streamed_and_failed, told_as}
 use Rattle.replay_program.proofs.stream.stream_over.Goals.{then-account, else-account}
@@ -13,16 +16,19 @@ use Rattle.replay_program.proofs.stream.stream_over.Goals as goal
 
 pub returns-in-Err : goal.returns-in-Err
 returns-in-Err g c = record {
-  done = λ is. cc (c.fail_to_start.ensures.status, c.without_files.ensures.status, is);
-  quiet = λ is. cc (c.fail_to_start.ensures.status, c.without_files.ensures.status, is);
+  done = λ is. cc (c.fail_to_start.ensures.status, c.unstarted.ensures.status, is);
+  quiet = λ is. cc (c.fail_to_start.ensures.status, c.unstarted.ensures.status, is);
   failed = λ is. inl (record {
     cause = c.in-Err.cause;
     nothing_printed = ap (λ (s : SinkState). s.given) c.in-Err.ensures.nothing;
     told = c.fail_to_start.ensures.line;
   });
-  output = c.without_files.ensures.output;
-  ends = λ is. cc (c.fail_to_start.ensures.status, c.without_files.ensures.status, is);
-  same = λ is. cc (c.fail_to_start.ensures.status, c.without_files.ensures.status, is);
+  met = met_nothing c.args.options.limit c.args.options.window (map g.S.Source.remaining c.args.readers.items) c.unstarted.result.met
+      c.unstarted.ensures.stop;
+  output_failed = not_failed c.unstarted.result.met.output_failed c.unstarted.ensures.output_failed;
+  output = c.unstarted.ensures.output;
+  ends = λ is. cc (c.fail_to_start.ensures.status, c.unstarted.ensures.status, is);
+  same = λ is. cc (c.fail_to_start.ensures.status, c.unstarted.ensures.status, is);
 }
 
 pub returns : goal.returns
@@ -79,6 +85,9 @@ returns g c =
           (λ all.
           let done = ends.done.1 (clean.1 all.0, all.1, all.2) in
           cc (done, is)));
+      met = stream_has_met options files writers before after streamed.failed failures (recorded_each state outs recorders) complete
+          account.stop run;
+      output_failed = λ is. (subst (λ (b : Bool). TookText b before after (stream_text options.style run.printed)) is run.text).0;
       output = refl;
       ends = ends.ends;
       same = ends.same;

@@ -11,6 +11,7 @@ use Rattle.replay_output.specs.Line.{answers_of}
 use Rattle.replay_workers.specs.Run.{IsRun, is_complete}
 use Rattle.replay_program.specs.Replayed.{written, Took, TookBeginning}
 use Rattle.replay_program.specs.Summarized.{TakesToSummarize, run_summary, with_ranges}
+use Rattle.replay_program.proofs.Meeting.{has_met, met_nothing, not_failed}
 use Rattle.replay_program.proofs.Ranges.{no_ranges}
 use Rattle.replay_program.proofs.Replaying.{ending_is, held_ok, are_lines, is_replayed, ran_and_failed}
 use Rattle.replay_program.proofs.summary.summarize_alone.Goals.{then-account, else-account}
@@ -18,15 +19,18 @@ use Rattle.replay_program.proofs.summary.summarize_alone.Goals as goal
 
 pub returns-in-Err : goal.returns-in-Err
 returns-in-Err g c = record {
-  done = λ is. cc (c.fail_to_start.ensures.status, is);
-  quiet = λ is. cc (c.fail_to_start.ensures.status, is);
+  done = λ is. cc (c.fail_to_start.ensures.status, c.unstarted.ensures.status, is);
+  quiet = λ is. cc (c.fail_to_start.ensures.status, c.unstarted.ensures.status, is);
   failed = λ is. inl (record {
     cause = c.in-Err.cause;
     nothing_printed = refl;
     told = c.fail_to_start.ensures.line;
   });
-  ends = λ is. cc (c.fail_to_start.ensures.status, is);
-  same = λ is. cc (c.fail_to_start.ensures.status, is);
+  met = met_nothing c.args.options.limit c.args.options.window (map g.S.Source.remaining c.args.readers.items) c.unstarted.result.met
+      c.unstarted.ensures.stop;
+  output_failed = not_failed c.unstarted.result.met.output_failed c.unstarted.ensures.output_failed;
+  ends = λ is. cc (c.fail_to_start.ensures.status, c.unstarted.ensures.status, is);
+  same = λ is. cc (c.fail_to_start.ensures.status, c.unstarted.ensures.status, is);
 }
 
 pub returns : goal.returns
@@ -51,19 +55,19 @@ returns g c =
     (sym c.deref_mut-2.ensures.value) of_lines in
     let run = subst (λ (b : Bool). IsRun options files received failures b account.stop) (sym whole) of_both in
     let ending = ending_is complete account.stop c.new-ending.result c.new-ending.ensures.ending in
-    let report = c.print_summary.ensures in
-    let told = c.print_summary.new.failures in
-    let out = written (g.O.Sink.given c.args.out.now) (g.O.Sink.given c.print_summary.new.out)
-    (g.O.Sink.failures c.args.out.now) (g.O.Sink.failures c.print_summary.new.out) in
-    let error = written (g.E.Sink.given c.args.error.now) (g.E.Sink.given c.print_summary.new.error)
-    (g.E.Sink.failures c.args.error.now) (g.E.Sink.failures c.print_summary.new.error) in
+    let report = c.print_summary-report.ensures in
+    let told = c.print_summary-report.new.failures in
+    let out = written (g.O.Sink.given c.args.out.now) (g.O.Sink.given c.print_summary-report.new.out)
+    (g.O.Sink.failures c.args.out.now) (g.O.Sink.failures c.print_summary-report.new.out) in
+    let error = written (g.E.Sink.given c.args.error.now) (g.E.Sink.given c.print_summary-report.new.error)
+    (g.E.Sink.failures c.args.error.now) (g.E.Sink.failures c.print_summary-report.new.error) in
     let are = are_lines options files received failures complete account.stop run in
     let form = c.args.form in
     let alone : (λ (answers : List (List Answer)). with_ranges form (run_summary form answers) []) ≡ run_summary form =
     λ i answers. no_ranges form (run_summary form answers) [] refl i in
-    let lines = subst (λ (text : List (List Answer) → List ℕ). OnOk c.print_summary.result.printed (Took out (text (map answers_of received))))
+    let lines = subst (λ (text : List (List Answer) → List ℕ). OnOk c.print_summary-report.result.printed (Took out (text (map answers_of received))))
     alone (report.lines options.style are) in
-    let beginning = subst (λ (text : List (List Answer) → List ℕ). c.print_summary.result.printed ≡ Err print.Write
+    let beginning = subst (λ (text : List (List Answer) → List ℕ). c.print_summary-report.result.printed ≡ Err print.Write
     → TookBeginning out (text (map answers_of received))) alone (report.beginning options.style are) in
     record {
       done = λ is.
@@ -71,11 +75,11 @@ returns g c =
           is_replayed options files received failures complete account.stop run (λ answers. Took out (run_summary form answers))
           c.answers_tell_verdicts.ensures.tell
           (subst (λ (e : Ending). NothingFailed failures e) ending parts.2)
-          (held_ok c.print_summary.result.printed _ lines parts.0);
+          (held_ok c.print_summary-report.result.printed _ lines parts.0);
       quiet = report.quiet;
       failed = λ is.
           inr (ran_and_failed options files received failures complete account.stop run (run_summary form) TakesToSummarize out error told
-          c.print_summary.result.printed c.print_summary.result.told lines
+          c.print_summary-report.result.printed c.print_summary-report.result.told lines
           (λ proxy memory. omega (
             arith,
             report.memory proxy memory,
@@ -83,12 +87,16 @@ returns g c =
           ))
           report.takes
           report.nothing beginning report.write.0
-          (subst (λ (e : Ending). OnOk c.print_summary.result.told (Took error (failure_lines told e))) ending report.failure_lines)
+          (subst (λ (e : Ending). OnOk c.print_summary-report.result.told (Took error (failure_lines told e))) ending report.failure_lines)
           report.told.0 report.loss report.no_loss
           (λ all.
           let done =
           report.done.1 (all.0, all.1, subst (λ (e : Ending). NothingFailed failures e) (sym ending) all.2) in
           cc (done, is)));
+      met = has_met options files (map (vec_items {X = Line} {Z = Global}) outcome.lines.items) outcome.failures.items
+          (is_complete outcome account) (λ _. Unit {0}) c.run_observed-run.new.observer.version account.stop c.is_unwritten.result
+          (c.in-Ok.ensures.observed (tt, c.new-reached.ensures.none));
+      output_failed = λ is. report.write.0 (c.is_unwritten.ensures.write is);
       ends = report.ends;
       same = report.same;
     }

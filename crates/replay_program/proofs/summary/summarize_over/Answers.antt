@@ -20,6 +20,8 @@ returns-in-None g c =
       failed = λ is.
           subst (λ (top : Option ℕ). FailsToSummarize form top c.args.options files out error) (sym c.in-None.is)
           (summarized.failed is);
+      met = summarized.met;
+      output_failed = summarized.output_failed;
       ends = summarized.ends;
       same = summarized.same;
     }
@@ -41,6 +43,8 @@ returns-in-Some g c =
       failed = λ is.
           subst (λ (top : Option ℕ). FailsToSummarize form top c.args.options files out error) (sym c.in-Some.is)
           (summarized.failed is);
+      met = summarized.met;
+      output_failed = summarized.output_failed;
       ends = summarized.ends;
       same = summarized.same;
     }

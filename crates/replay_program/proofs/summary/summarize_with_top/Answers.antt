@@ -1,5 +1,5 @@
-use Rattle.std.proofs.Common.{◌≡◌, Bool, List, map, Some, None, refl, sym, subst, inr, inl, ◌∙◌, arith, rules, w64, to_z, of_z, Vec, Global}
-use Rattle.std.specs.Prelude.{Err, ℕ, ◌-◌, ◌≤◌, length, OnOk, vec_items}
+use Rattle.std.proofs.Common.{◌≡◌, [], Bool, List, map, Some, None, refl, ap, sym, subst, inr, inl, ◌∙◌, arith, rules, w64, to_z, of_z, Vec, Global}
+use Rattle.std.specs.Prelude.{Err, ℕ, false, ◌-◌, ◌≤◌, length, OnOk, vec_items}
 use Rattle.std.proofs.lemmas.Int.{ints, to_z-of_z}
 use Rattle.std.proofs.lemmas.List.{length-map}
 use Rattle.std.proofs.lemmas.Option.{none-some}
@@ -7,6 +7,7 @@ use Rattle.keyspace.specs.declared.answer.Answer.{Answer}
 use Rattle.keyspace.specs.Processed.{Processed}
 use Rattle.keyspace.specs.Run.{run as run_of}
 use Rattle.replay_hot_ranges.specs.declared.hot_range.Top.{Top}
+use Rattle.replay_hot_ranges.specs.declared.hot_ranges.HotRanges.{HotRanges}
 use Rattle.replay_hot_ranges.specs.HotRanges.{HasSeen}
 use Rattle.replay_hot_ranges.specs.Top.{IsTopOf}
 use Rattle.replay_output.specs.declared.failures.Ending.{Ending}
@@ -19,20 +20,24 @@ use Rattle.replay_workers.specs.Run.{IsObservedRun, is_complete}
 use Rattle.replay_program.specs.Replayed.{written, Took, TookBeginning}
 use Rattle.replay_program.specs.Summarized.{TakesToSummarize, run_summary, summary_and_top, with_ranges}
 use Rattle.replay_program.proofs.Counting.{ran_and_lost, seen_are, seen_chain}
+use Rattle.replay_program.proofs.Meeting.{has_met, met_nothing, not_failed, seen_by_other}
 use Rattle.replay_program.proofs.Replaying.{complete_from, ending_is, held_ok, are_lines, is_replayed_over, ran_as_and_failed}
 use Rattle.replay_program.proofs.summary.summarize_with_top.Goals as goal
 
 pub returns-in-Err : goal.returns-in-Err
 returns-in-Err g c = record {
-  done = λ is. cc (c.fail_to_start.ensures.status, is);
-  quiet = λ is. cc (c.fail_to_start.ensures.status, is);
+  done = λ is. cc (c.fail_to_start.ensures.status, c.unstarted.ensures.status, is);
+  quiet = λ is. cc (c.fail_to_start.ensures.status, c.unstarted.ensures.status, is);
   failed = λ is. inl (record {
     cause = c.in-Err.cause;
     nothing_printed = refl;
     told = c.fail_to_start.ensures.line;
   });
-  ends = λ is. cc (c.fail_to_start.ensures.status, is);
-  same = λ is. cc (c.fail_to_start.ensures.status, is);
+  met = met_nothing c.args.options.limit c.args.options.window (map g.S.Source.remaining c.args.readers.items) c.unstarted.result.met
+      c.unstarted.ensures.stop;
+  output_failed = not_failed c.unstarted.result.met.output_failed c.unstarted.ensures.output_failed;
+  ends = λ is. cc (c.fail_to_start.ensures.status, c.unstarted.ensures.status, is);
+  same = λ is. cc (c.fail_to_start.ensures.status, c.unstarted.ensures.status, is);
 }
 
 pub returns-in-Ok-text_of_top-clause-done : goal.returns-in-Ok-text_of_top-clause-done
@@ -46,12 +51,17 @@ returns-in-Ok-text_of_top-clause-done g c = λ is.
     let received = map (vec_items {X = Line} {Z = Global}) c.deref_mut.result.now in
     let failures = c.deref_mut-in-Ok-text_of_top.result.now in
     let complete = c.is_complete-complete.result in
-    let hot = c.run_observed-run.new.observer in
+    let reached = c.run_observed-run.new.observer in
+    let hot = reached.observer in
     let Seen = HasSeen hot in
     let whole : complete ≡ is_complete outcome account = c.is_complete-complete.ensures.complete in
+    let start : HasSeen c.new-reached.result.observer [] =
+    subst (λ (h : HotRanges). HasSeen h []) (sym c.new-reached.ensures.observer) c.new-hot.ensures.none in
+    let lines_taken = map (vec_items {X = Line} {Z = Global}) outcome.lines.items in
+    let both = c.in-Ok.ensures.observed (start, c.new-reached.ensures.none) in
     let of_lines = subst
     (λ (l : List (Vec Line Global)). IsObservedRun Seen options files (map (vec_items {X = Line} {Z = Global}) l) outcome.failures.items (is_complete outcome account) account.stop)
-    (sym c.deref_mut.ensures.value) (c.in-Ok.ensures.observed c.new-hot.ensures.none) in
+    (sym c.deref_mut.ensures.value) (seen_by_other options files lines_taken outcome.failures.items (is_complete outcome account) Seen reached.version account.stop both) in
     let of_both = subst
     (λ (f : List ProxyFailure). IsObservedRun Seen options files received f (is_complete outcome account) account.stop)
     (sym c.deref_mut-in-Ok-text_of_top.ensures.value) of_lines in
@@ -60,15 +70,16 @@ returns-in-Ok-text_of_top-clause-done g c = λ is.
     let list = observed.seen.list in
     let kept : to_z w64 (of_z w64 options.window) ≡ options.window =
     first_of (search rules, grind (arith, ints, to_z-of_z)) in
-    let window_is = c.run_observed-run.ensures.setting ∙ c.new-hot.ensures.window ∙ kept in
+    let setting_is = c.run_observed-run.ensures.setting ∙ ap (λ (h : HotRanges). h.history.window) c.new-reached.ensures.observer in
+    let window_is = setting_is ∙ c.new-hot.ensures.window ∙ kept in
     let chain = seen_chain Seen account.stop options.window run.log observed.seen hot.history.window window_is run.chain in
     let of_top = c.in-Ok-text_of_top.ensures.text list observed.seen.seen chain in
     let top = of_top.top in
     let ending = ending_is complete account.stop c.new-ending.result c.new-ending.ensures.ending in
-    let report = c.print_summary.ensures in
-    let printed = c.print_summary.result.printed in
-    let out = written (g.O.Sink.given c.args.out.now) (g.O.Sink.given c.print_summary.new.out)
-    (g.O.Sink.failures c.args.out.now) (g.O.Sink.failures c.print_summary.new.out) in
+    let report = c.print_summary-report.ensures in
+    let printed = c.print_summary-report.result.printed in
+    let out = written (g.O.Sink.given c.args.out.now) (g.O.Sink.given c.print_summary-report.new.out)
+    (g.O.Sink.failures c.args.out.now) (g.O.Sink.failures c.print_summary-report.new.out) in
     let are = are_lines options files received failures complete account.stop run in
     let text_is : (λ (answers : List (List Answer)). with_ranges form (run_summary form answers) c.deref.result.now) ≡ summary_and_top form top =
     λ i answers. with_ranges form (run_summary form answers) ((c.deref.ensures.value ∙ of_top.is_text) i) in
@@ -94,12 +105,17 @@ returns-in-Ok-text_of_top-clause-failed g c = λ is.
     let received = map (vec_items {X = Line} {Z = Global}) c.deref_mut.result.now in
     let failures = c.deref_mut-in-Ok-text_of_top.result.now in
     let complete = c.is_complete-complete.result in
-    let hot = c.run_observed-run.new.observer in
+    let reached = c.run_observed-run.new.observer in
+    let hot = reached.observer in
     let Seen = HasSeen hot in
     let whole : complete ≡ is_complete outcome account = c.is_complete-complete.ensures.complete in
+    let start : HasSeen c.new-reached.result.observer [] =
+    subst (λ (h : HotRanges). HasSeen h []) (sym c.new-reached.ensures.observer) c.new-hot.ensures.none in
+    let lines_taken = map (vec_items {X = Line} {Z = Global}) outcome.lines.items in
+    let both = c.in-Ok.ensures.observed (start, c.new-reached.ensures.none) in
     let of_lines = subst
     (λ (l : List (Vec Line Global)). IsObservedRun Seen options files (map (vec_items {X = Line} {Z = Global}) l) outcome.failures.items (is_complete outcome account) account.stop)
-    (sym c.deref_mut.ensures.value) (c.in-Ok.ensures.observed c.new-hot.ensures.none) in
+    (sym c.deref_mut.ensures.value) (seen_by_other options files lines_taken outcome.failures.items (is_complete outcome account) Seen reached.version account.stop both) in
     let of_both = subst
     (λ (f : List ProxyFailure). IsObservedRun Seen options files received f (is_complete outcome account) account.stop)
     (sym c.deref_mut-in-Ok-text_of_top.ensures.value) of_lines in
@@ -108,7 +124,8 @@ returns-in-Ok-text_of_top-clause-failed g c = λ is.
     let list = observed.seen.list in
     let kept : to_z w64 (of_z w64 options.window) ≡ options.window =
     first_of (search rules, grind (arith, ints, to_z-of_z)) in
-    let window_is = c.run_observed-run.ensures.setting ∙ c.new-hot.ensures.window ∙ kept in
+    let setting_is = c.run_observed-run.ensures.setting ∙ ap (λ (h : HotRanges). h.history.window) c.new-reached.ensures.observer in
+    let window_is = setting_is ∙ c.new-hot.ensures.window ∙ kept in
     let chain = seen_chain Seen account.stop options.window run.log observed.seen hot.history.window window_is run.chain in
     let of_top = c.in-Ok-text_of_top.ensures.text list observed.seen.seen chain in
     let top = of_top.top in
@@ -117,13 +134,13 @@ returns-in-Ok-text_of_top-clause-failed g c = λ is.
       seen = seen_are Seen account.stop options.window run.log observed.seen;
     } in
     let ending = ending_is complete account.stop c.new-ending.result c.new-ending.ensures.ending in
-    let report = c.print_summary.ensures in
-    let printed = c.print_summary.result.printed in
-    let told = c.print_summary.new.failures in
-    let out = written (g.O.Sink.given c.args.out.now) (g.O.Sink.given c.print_summary.new.out)
-    (g.O.Sink.failures c.args.out.now) (g.O.Sink.failures c.print_summary.new.out) in
-    let error = written (g.E.Sink.given c.args.error.now) (g.E.Sink.given c.print_summary.new.error)
-    (g.E.Sink.failures c.args.error.now) (g.E.Sink.failures c.print_summary.new.error) in
+    let report = c.print_summary-report.ensures in
+    let printed = c.print_summary-report.result.printed in
+    let told = c.print_summary-report.new.failures in
+    let out = written (g.O.Sink.given c.args.out.now) (g.O.Sink.given c.print_summary-report.new.out)
+    (g.O.Sink.failures c.args.out.now) (g.O.Sink.failures c.print_summary-report.new.out) in
+    let error = written (g.E.Sink.given c.args.error.now) (g.E.Sink.given c.print_summary-report.new.error)
+    (g.E.Sink.failures c.args.error.now) (g.E.Sink.failures c.print_summary-report.new.error) in
     let are = are_lines options files received failures complete account.stop run in
     let text_is : (λ (answers : List (List Answer)). with_ranges form (run_summary form answers) c.deref.result.now) ≡ summary_and_top form top =
     λ i answers. with_ranges form (run_summary form answers) ((c.deref.ensures.value ∙ of_top.is_text) i) in
@@ -138,14 +155,14 @@ returns-in-Ok-text_of_top-clause-failed g c = λ is.
       nothing_without = λ none. absurd (none-some top (sym none));
       failed = ran_as_and_failed options files received failures complete account.stop run
           (IsObservedRun (λ seen. seen ≡ list) options files) ran (summary_and_top form top) TakesToSummarize out error told
-          printed c.print_summary.result.told lines
+          printed c.print_summary-report.result.told lines
           (λ proxy memory. omega (
             arith,
             report.memory proxy memory,
             length-map c.deref_mut.result.now (vec_items {X = Line} {Z = Global}),
           ))
           report.takes report.nothing beginning report.write.0
-          (subst (λ (e : Ending). OnOk c.print_summary.result.told (Took error (failure_lines told e))) ending report.failure_lines)
+          (subst (λ (e : Ending). OnOk c.print_summary-report.result.told (Took error (failure_lines told e))) ending report.failure_lines)
           report.told.0 report.loss report.no_loss
           (λ all.
           let done =
@@ -162,12 +179,17 @@ returns-clause-failed g c = λ is.
     let received = map (vec_items {X = Line} {Z = Global}) outcome.lines.items in
     let failures = c.deref_mut-in-Err-text_of_top.result.now in
     let complete = c.is_complete-complete.result in
-    let hot = c.run_observed-run.new.observer in
+    let reached = c.run_observed-run.new.observer in
+    let hot = reached.observer in
     let Seen = HasSeen hot in
     let whole : complete ≡ is_complete outcome account = c.is_complete-complete.ensures.complete in
+    let start : HasSeen c.new-reached.result.observer [] =
+    subst (λ (h : HotRanges). HasSeen h []) (sym c.new-reached.ensures.observer) c.new-hot.ensures.none in
+    let both = c.in-Ok.ensures.observed (start, c.new-reached.ensures.none) in
     let of_both = subst
     (λ (f : List ProxyFailure). IsObservedRun Seen options files received f (is_complete outcome account) account.stop)
-    (sym c.deref_mut-in-Err-text_of_top.ensures.value) (c.in-Ok.ensures.observed c.new-hot.ensures.none) in
+    (sym c.deref_mut-in-Err-text_of_top.ensures.value)
+    (seen_by_other options files received outcome.failures.items (is_complete outcome account) Seen reached.version account.stop both) in
     let observed = subst (λ (b : Bool). IsObservedRun Seen options files received failures b account.stop) (sym whole) of_both in
     let run = observed.run in
     let list = observed.seen.list in
@@ -202,3 +224,28 @@ returns-clause-failed g c = λ is.
           (subst (λ (e : Ending). OnOk c.report_last_loss.result.told (Took error (failure_lines told e))) ending report.failure_lines)
           report.told.0 (report.loss last (omega (arith, some)));
     })
+
+pub returns-in-Ok-text_of_top-clause-met : goal.returns-in-Ok-text_of_top-clause-met
+returns-in-Ok-text_of_top-clause-met g c =
+    let outcome = c.in-Ok.ended.0 in
+    let account = c.in-Ok.ended.1 in
+    let reached = c.run_observed-run.new.observer in
+    let start : HasSeen c.new-reached.result.observer [] =
+    subst (λ (h : HotRanges). HasSeen h []) (sym c.new-reached.ensures.observer) c.new-hot.ensures.none in
+    has_met c.args.options (map g.S.Source.remaining c.args.readers.items) (map (vec_items {X = Line} {Z = Global}) outcome.lines.items)
+    outcome.failures.items (is_complete outcome account) (HasSeen reached.observer) reached.version account.stop c.is_unwritten.result
+    (c.in-Ok.ensures.observed (start, c.new-reached.ensures.none))
+
+pub returns-in-Ok-text_of_top-clause-output_failed : goal.returns-in-Ok-text_of_top-clause-output_failed
+returns-in-Ok-text_of_top-clause-output_failed g c = λ is. c.print_summary-report.ensures.write.0 (c.is_unwritten.ensures.write is)
+
+pub returns-clause-met : goal.returns-clause-met
+returns-clause-met g c =
+    let outcome = c.in-Ok.ended.0 in
+    let account = c.in-Ok.ended.1 in
+    let reached = c.run_observed-run.new.observer in
+    let start : HasSeen c.new-reached.result.observer [] =
+    subst (λ (h : HotRanges). HasSeen h []) (sym c.new-reached.ensures.observer) c.new-hot.ensures.none in
+    has_met c.args.options (map g.S.Source.remaining c.args.readers.items) (map (vec_items {X = Line} {Z = Global}) outcome.lines.items)
+    outcome.failures.items (is_complete outcome account) (HasSeen reached.observer) reached.version account.stop false
+    (c.in-Ok.ensures.observed (start, c.new-reached.ensures.none))

@@ -10,8 +10,9 @@ returns c =
     let three = c.in_ok-arg-3.ensures.shape c.replies.ensures.local ∙ ap₂ with_rule two c.replies.ensures.rule in
     let four = c.in_ok-arg-4.ensures.shape c.output.ensures.local ∙ ap₂ with_rule three c.output.ensures.rule in
     let five = c.in_ok-arg-5.ensures.shape c.summary_to.ensures.local ∙ ap₂ with_rule four c.summary_to.ensures.rule in
+    let six = c.in_ok-arg-6.ensures.shape c.top.ensures.local ∙ ap₂ with_rule five c.top.ensures.rule in
     record {
-      app = IfOk-weaker c.arg-6.result _ _
-          (λ command added. added.shape c.top.ensures.local ∙ ap₂ with_rule five c.top.ensures.rule)
-          c.arg-6.ensures;
+      app = IfOk-weaker c.arg-7.result _ _
+          (λ command added. added.shape c.verbose.ensures.local ∙ ap₂ with_rule six c.verbose.ensures.rule)
+          c.arg-7.ensures;
     }

@@ -1,98 +1,24 @@
-use Rattle.std.proofs.Common.{◌∙◌, List, ℕ, Option, Err, Some, ap, inr, refl, subst}
-use Rattle.replay_program.specs.Program.{FindsDifferences, IsTaskDone, TaskFails, bytes_of, named_files}
-use Rattle.replay_program.specs.Replayed.{Written, written}
-use Rattle.replay_stream.specs.Sinks.{state_by}
-use Rattle.replay_program.proofs.Programs.{done_alike, fails_alike, not_created, not_opened, to_file, to_standard}
+use Rattle.std.proofs.Common.{List, ℕ, Option, ap, subst, sym}
+use Rattle.std.specs.Io.KnownBytes.{Keeps}
 use Rattle.replay_program.proofs.program.line.run_line.Goals as goal
 
-pub returns-in-Err-clause-failed : goal.returns-in-Err-clause-failed
-returns-in-Err-clause-failed g c = λ is.
-    let f = c.args.files.now in
-    let files = named_files (g.F.Files.contents f) (g.F.Files.has_opened f) (g.F.Files.cannot_open f)
-    (g.F.Files.begun f) (g.F.Files.has_created f) (g.F.Files.cannot_create f) in
-    let state = state_by g.F.Writer.Sink.given g.F.Writer.Sink.failures in
-    let standard = written (g.O.Sink.given c.args.out.now) (g.O.Sink.given c.args.out.now)
-    (g.O.Sink.failures c.args.out.now) (g.O.Sink.failures c.args.out.now) in
-    let error = written (g.E.Sink.given c.args.error.now) (g.E.Sink.given c.fail_to_open.new.error)
-    (g.E.Sink.failures c.args.error.now) (g.E.Sink.failures c.fail_to_open.new.error) in
-    not_opened state files c.args.line.now c.without_files.result standard error c.in-Err.cause
-    (λ proxy of. c.open_batches.ensures.refused proxy (c.in-Err.is ∙ ap Err of)) refl c.fail_to_open.ensures.line
-
-pub returns-in-None : goal.returns-in-None
-returns-in-None g c =
-    let f = c.args.files.now in
-    let files = named_files (g.F.Files.contents f) (g.F.Files.has_opened f) (g.F.Files.cannot_open f)
-    (g.F.Files.begun f) (g.F.Files.has_created f) (g.F.Files.cannot_create f) in
-    let state = state_by g.F.Writer.Sink.given g.F.Writer.Sink.failures in
-    let line = c.args.line.now in
-    let ran = c.run_task.ensures in
-    let report = c.run_task.result in
-    let standard = written (g.O.Sink.given c.args.out.now) (g.O.Sink.given c.run_task.new.out)
-    (g.O.Sink.failures c.args.out.now) (g.O.Sink.failures c.run_task.new.out) in
-    let error = written (g.E.Sink.given c.args.error.now) (g.E.Sink.given c.run_task.new.error)
-    (g.E.Sink.failures c.args.error.now) (g.E.Sink.failures c.run_task.new.error) in
-    let are = c.in-Ok.ensures.contents in
-    let bytes = bytes_of files line in
+pub returns : goal.returns
+returns g c =
+    let ran = c.do_line-report.ensures in
+    let said = c.say_more.ensures in
+    let given = g.E.Sink.given in
     record {
-      done = λ is. to_standard state files line report standard error (IsTaskDone state files bytes line line.task report) c.in-None.is
-          ran.output
-          (subst (λ (b : List (Option (List ℕ))). IsTaskDone state files b line line.task report standard) are (ran.done is));
-      differs = λ is. to_standard state files line report standard error (FindsDifferences files bytes line line.task) c.in-None.is
-          ran.output
-          (subst (λ (b : List (Option (List ℕ))). FindsDifferences files b line line.task standard) are (ran.differs is));
-      quiet = ran.quiet;
-      failed = λ is. inr (inr (inr (to_standard state files line report standard error
-          (λ (out : Written). TaskFails state files bytes line line.task report out error) c.in-None.is ran.output
-          (subst (λ (b : List (Option (List ℕ))). TaskFails state files b line line.task report standard error) are (ran.failed is)))));
+      done = ran.done;
+      differs = ran.differs;
+      quiet = λ other. subst (λ (after : Option (List ℕ)). Keeps (given c.args.error.now) after) (sym (ap given (said.quiet other)))
+          (ran.quiet other);
+      failed = λ is. record {
+        given = given c.do_line-report.new.error;
+        failures = g.E.Sink.failures c.do_line-report.new.error;
+        failed = ran.failed is;
+        met = ran.met;
+        output_failed = ran.output_failed;
+        further = said.further is;
+      };
       ends = ran.ends;
     }
-
-pub returns-in-Ok-create : goal.returns-in-Ok-create
-returns-in-Ok-create g c =
-    let f = c.args.files.now in
-    let files = named_files (g.F.Files.contents f) (g.F.Files.has_opened f) (g.F.Files.cannot_open f)
-    (g.F.Files.begun f) (g.F.Files.has_created f) (g.F.Files.cannot_create f) in
-    let state = state_by g.F.Writer.Sink.given g.F.Writer.Sink.failures in
-    let line = c.args.line.now in
-    let ran = c.run_task-report.ensures in
-    let first = c.run_task-report.result in
-    let opened = c.in-Ok-create.writer in
-    let last = c.run_task-report.new.out in
-    let report = record first { output = Some last } in
-    let standard = written (g.O.Sink.given c.args.out.now) (g.O.Sink.given c.args.out.now)
-    (g.O.Sink.failures c.args.out.now) (g.O.Sink.failures c.args.out.now) in
-    let out = written (g.F.Writer.Sink.given opened) (g.F.Writer.Sink.given last)
-    (g.F.Writer.Sink.failures opened) (g.F.Writer.Sink.failures last) in
-    let error = written (g.E.Sink.given c.args.error.now) (g.E.Sink.given c.run_task-report.new.error)
-    (g.E.Sink.failures c.args.error.now) (g.E.Sink.failures c.run_task-report.new.error) in
-    let are = c.in-Ok.ensures.contents in
-    let bytes = bytes_of files line in
-    let name = c.in-Some.name in
-    let new = c.in-Ok-create.ensures.begun in
-    record {
-      done = λ is. to_file state files line report standard error (IsTaskDone state files bytes line line.task report) name opened last
-          c.in-Some.is refl new refl refl (done_alike state files bytes line line.task first report out refl refl
-          (subst (λ (b : List (Option (List ℕ))). IsTaskDone state files b line line.task first out) are (ran.done is)));
-      differs = λ is. to_file state files line report standard error (FindsDifferences files bytes line line.task) name opened last
-          c.in-Some.is refl new refl refl
-          (subst (λ (b : List (Option (List ℕ))). FindsDifferences files b line line.task out) are (ran.differs is));
-      quiet = ran.quiet;
-      failed = λ is. inr (inr (inr (to_file state files line report standard error
-          (λ (out : Written). TaskFails state files bytes line line.task report out error) name opened last c.in-Some.is refl new refl refl
-          (fails_alike state files bytes line line.task first report out error refl refl
-          (subst (λ (b : List (Option (List ℕ))). TaskFails state files b line line.task first out error) are (ran.failed is))))));
-      ends = ran.ends;
-    }
-
-pub returns-in-Err-create-clause-failed : goal.returns-in-Err-create-clause-failed
-returns-in-Err-create-clause-failed g c = λ is.
-    let f = c.args.files.now in
-    let files = named_files (g.F.Files.contents f) (g.F.Files.has_opened f) (g.F.Files.cannot_open f)
-    (g.F.Files.begun f) (g.F.Files.has_created f) (g.F.Files.cannot_create f) in
-    let state = state_by g.F.Writer.Sink.given g.F.Writer.Sink.failures in
-    let standard = written (g.O.Sink.given c.args.out.now) (g.O.Sink.given c.args.out.now)
-    (g.O.Sink.failures c.args.out.now) (g.O.Sink.failures c.args.out.now) in
-    let error = written (g.E.Sink.given c.args.error.now) (g.E.Sink.given c.fail_to_create_file-status.new.error)
-    (g.E.Sink.failures c.args.error.now) (g.E.Sink.failures c.fail_to_create_file-status.new.error) in
-    not_created state files c.args.line.now c.without_files-in-Err-create.result standard error c.in-Some.name c.in-Err-create.cause c.in-Some.is
-    c.in-Ok.ensures.opened (λ of. c.create.ensures.refused (c.in-Err-create.is ∙ ap Err of)) refl c.fail_to_create_file-status.ensures.line

@@ -3,6 +3,7 @@ use Rattle.std.proofs.lemmas.List.{length-map}
 use Rattle.replay_program.specs.Program.{AreWriters, texts}
 use Rattle.replay_program.specs.Replayed.{written}
 use Rattle.replay_stream.specs.Sinks.{state_by}
+use Rattle.replay_program.proofs.Meeting.{met_nothing, not_failed}
 use Rattle.replay_program.proofs.Writers.{not_recorded, recorded_and_failed}
 use Rattle.replay_program.proofs.program.streaming.stream_and_record.Goals as goal
 
@@ -15,6 +16,14 @@ returns-in-Err-clause-failed g c = λ is.
     (g.E.Sink.failures c.args.error.now) (g.E.Sink.failures c.fail_to_create.new.error) in
     not_recorded (g.F.Files.has_created files) (g.F.Files.cannot_create files) (texts c.args.records.now) out error c.in-Err.cause
     (λ proxy of. c.create_each.ensures.refused proxy (c.in-Err.is ∙ ap Err of)) refl c.fail_to_create.ensures.line
+
+pub returns-in-Err-clause-met : goal.returns-in-Err-clause-met
+returns-in-Err-clause-met g c =
+    met_nothing c.args.options.limit c.args.options.window (map g.F.Reader.Source.remaining c.args.opened.readers.items)
+    c.unstarted.result.met c.unstarted.ensures.stop
+
+pub returns-in-Err-clause-output_failed : goal.returns-in-Err-clause-output_failed
+returns-in-Err-clause-output_failed g c = not_failed c.unstarted.result.met.output_failed c.unstarted.ensures.output_failed
 
 pub returns-in-Ok : goal.returns-in-Ok
 returns-in-Ok g c =
@@ -45,6 +54,8 @@ returns-in-Ok g c =
       done = λ is. record { writers = writers; opened = created; whole = streamed.done is };
       quiet = streamed.quiet;
       failed = λ is. inr (recorded_and_failed state begun c.args.options bytes records writers recorders created out error (streamed.failed is));
+      met = streamed.met;
+      output_failed = streamed.output_failed;
       output = streamed.output;
       ends = streamed.ends;
       same = streamed.same;

@@ -1,7 +1,9 @@
-use Rattle.std.proofs.Common.{◌≡◌, ◌∙◌, ℕ, List, Bor, map, subst, sym}
+use Rattle.std.proofs.Common.{◌≡◌, ◌∙◌, ℕ, List, Bor, ap, map, subst, sym}
 use Rattle.std.specs.Prelude.{◌≢◌}
 use Rattle.replay_arguments.specs.declared.arguments.task.Task.{Task}
 use Rattle.replay_output.specs.declared.options.Options.{Options}
+use Rattle.replay_program.specs.declared.met.Met.{Met}
+use Rattle.replay_program.specs.Met.{HasMet}
 use Rattle.replay_program.specs.Program.{
   ChecksFiles,
   FailsToCheck,
@@ -38,6 +40,8 @@ returns-in-Print g c =
       differs = λ is. absurd (ran.same is);
       quiet = λ other. ran.quiet (is_done report.status other ran.ends ran.same);
       failed = λ is. subst (λ (t : Task). TaskFails state files bytes line t report out error) (sym c.in-Print.is) (ran.failed is);
+      met = ran.met;
+      output_failed = ran.output_failed;
       output = ran.output;
       ends = ran.ends;
     }
@@ -50,19 +54,21 @@ returns-in-Explain g c =
     let state = state_by g.F.Writer.Sink.given g.F.Writer.Sink.failures in
     let bytes = map g.F.Reader.Source.remaining c.args.opened.readers.items in
     let line = c.args.line.now in
-    let ran = c.explain_over-status.ensures in
+    let ran = c.explain_over-ended.ensures in
     let report = c.without_files.result in
     let status = c.without_files.ensures.status in
-    let out = written (g.O.Sink.given c.args.out.now) (g.O.Sink.given c.explain_over-status.new.out)
-    (g.O.Sink.failures c.args.out.now) (g.O.Sink.failures c.explain_over-status.new.out) in
-    let error = written (g.E.Sink.given c.args.error.now) (g.E.Sink.given c.explain_over-status.new.error)
-    (g.E.Sink.failures c.args.error.now) (g.E.Sink.failures c.explain_over-status.new.error) in
+    let out = written (g.O.Sink.given c.args.out.now) (g.O.Sink.given c.explain_over-ended.new.out)
+    (g.O.Sink.failures c.args.out.now) (g.O.Sink.failures c.explain_over-ended.new.out) in
+    let error = written (g.E.Sink.given c.args.error.now) (g.E.Sink.given c.explain_over-ended.new.error)
+    (g.E.Sink.failures c.args.error.now) (g.E.Sink.failures c.explain_over-ended.new.error) in
     record {
       done = λ is. subst (λ (t : Task). IsTaskDone state files bytes line t report out) (sym c.in-Explain.is) (ran.done (sym status ∙ is));
       differs = λ is. absurd (ran.same (sym status ∙ is));
-      quiet = λ other. ran.quiet (is_done c.explain_over-status.result (λ is. other (status ∙ is)) ran.ends ran.same);
+      quiet = λ other. ran.quiet (is_done c.explain_over-ended.result.status (λ is. other (status ∙ is)) ran.ends ran.same);
       failed = λ is.
           subst (λ (t : Task). TaskFails state files bytes line t report out error) (sym c.in-Explain.is) (ran.failed (sym status ∙ is));
+      met = subst (HasMet line.options.limit line.options.window bytes) (sym c.without_files.ensures.met) ran.met;
+      output_failed = λ is. ran.output_failed (sym (ap (λ (m : Met). m.output_failed) c.without_files.ensures.met) ∙ is);
       output = c.without_files.ensures.output;
       ends = λ is. ran.ends (sym status ∙ is);
     }
@@ -75,23 +81,27 @@ returns-in-Summarize g c =
     let state = state_by g.F.Writer.Sink.given g.F.Writer.Sink.failures in
     let bytes = map g.F.Reader.Source.remaining c.args.opened.readers.items in
     let line = c.args.line.now in
-    let ran = c.summarize_over-status.ensures in
+    let ran = c.summarize_over-ended.ensures in
     let report = c.without_files-in-Summarize.result in
     let status = c.without_files-in-Summarize.ensures.status in
-    let out = written (g.O.Sink.given c.args.out.now) (g.O.Sink.given c.summarize_over-status.new.out)
-    (g.O.Sink.failures c.args.out.now) (g.O.Sink.failures c.summarize_over-status.new.out) in
-    let error = written (g.E.Sink.given c.args.error.now) (g.E.Sink.given c.summarize_over-status.new.error)
-    (g.E.Sink.failures c.args.error.now) (g.E.Sink.failures c.summarize_over-status.new.error) in
+    let out = written (g.O.Sink.given c.args.out.now) (g.O.Sink.given c.summarize_over-ended.new.out)
+    (g.O.Sink.failures c.args.out.now) (g.O.Sink.failures c.summarize_over-ended.new.out) in
+    let error = written (g.E.Sink.given c.args.error.now) (g.E.Sink.given c.summarize_over-ended.new.error)
+    (g.E.Sink.failures c.args.error.now) (g.E.Sink.failures c.summarize_over-ended.new.error) in
+    let summed = subst (λ (o : Options). HasMet o.limit o.window bytes c.summarize_over-ended.result.met) c.quieted-options.ensures.quieted
+    ran.met in
     record {
       done = λ is. subst (λ (t : Task). IsTaskDone state files bytes line t report out) (sym c.in-Summarize.is)
           (subst (λ (o : Options). IsSummarized c.in-Summarize.form c.in-Summarize.top o bytes out.before out.after)
           c.quieted-options.ensures.quieted (ran.done (sym status ∙ is)));
       differs = λ is. absurd (ran.same (sym status ∙ is));
-      quiet = λ other. ran.quiet (is_done c.summarize_over-status.result (λ is. other (status ∙ is)) ran.ends ran.same);
+      quiet = λ other. ran.quiet (is_done c.summarize_over-ended.result.status (λ is. other (status ∙ is)) ran.ends ran.same);
       failed = λ is.
           subst (λ (t : Task). TaskFails state files bytes line t report out error) (sym c.in-Summarize.is)
           (subst (λ (o : Options). FailsToSummarize c.in-Summarize.form c.in-Summarize.top o bytes out error)
           c.quieted-options.ensures.quieted (ran.failed (sym status ∙ is)));
+      met = subst (HasMet line.options.limit line.options.window bytes) (sym c.without_files-in-Summarize.ensures.met) summed;
+      output_failed = λ is. ran.output_failed (sym (ap (λ (m : Met). m.output_failed) c.without_files-in-Summarize.ensures.met) ∙ is);
       output = c.without_files-in-Summarize.ensures.output;
       ends = λ is. ran.ends (sym status ∙ is);
     }
@@ -121,6 +131,8 @@ returns-in-Stream g c =
           (subst (λ (names : List (Bor (List ℕ))).
           FailsToStreamFiles state files line.options bytes (texts names) report.recorders.items out error) c.deref.ensures.value
           (ran.failed is));
+      met = ran.met;
+      output_failed = ran.output_failed;
       output = ran.output;
       ends = ran.ends;
     }
@@ -133,13 +145,13 @@ returns-in-Check g c =
     let state = state_by g.F.Writer.Sink.given g.F.Writer.Sink.failures in
     let bytes = map g.F.Reader.Source.remaining c.args.opened.readers.items in
     let line = c.args.line.now in
-    let ran = c.check_replies-status.ensures in
+    let ran = c.check_replies-ended.ensures in
     let report = c.without_files-in-Check.result in
     let status = c.without_files-in-Check.ensures.status in
-    let out = written (g.O.Sink.given c.args.out.now) (g.O.Sink.given c.check_replies-status.new.out)
-    (g.O.Sink.failures c.args.out.now) (g.O.Sink.failures c.check_replies-status.new.out) in
-    let error = written (g.E.Sink.given c.args.error.now) (g.E.Sink.given c.check_replies-status.new.error)
-    (g.E.Sink.failures c.args.error.now) (g.E.Sink.failures c.check_replies-status.new.error) in
+    let out = written (g.O.Sink.given c.args.out.now) (g.O.Sink.given c.check_replies-ended.new.out)
+    (g.O.Sink.failures c.args.out.now) (g.O.Sink.failures c.check_replies-ended.new.out) in
+    let error = written (g.E.Sink.given c.args.error.now) (g.E.Sink.given c.check_replies-ended.new.error)
+    (g.E.Sink.failures c.args.error.now) (g.E.Sink.failures c.check_replies-ended.new.error) in
     record {
       done = λ is. subst (λ (t : Task). IsTaskDone state files bytes line t report out) (sym c.in-Check.is)
           (subst (λ (names : List (Bor (List ℕ))).
@@ -154,6 +166,8 @@ returns-in-Check g c =
           subst (λ (t : Task). TaskFails state files bytes line t report out error) (sym c.in-Check.is)
           (subst (λ (names : List (Bor (List ℕ))). FailsToCheck files line.options bytes (texts names) out error)
           c.deref-in-Check.ensures.value (ran.failed (sym status ∙ is)));
+      met = subst (HasMet line.options.limit line.options.window bytes) (sym c.without_files-in-Check.ensures.met) ran.met;
+      output_failed = λ is. ran.output_failed (sym (ap (λ (m : Met). m.output_failed) c.without_files-in-Check.ensures.met) ∙ is);
       output = c.without_files-in-Check.ensures.output;
       ends = λ is. ran.ends (sym status ∙ is);
     }

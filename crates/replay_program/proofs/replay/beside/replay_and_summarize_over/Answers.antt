@@ -8,14 +8,15 @@ use Rattle.replay_output.specs.Failures.{NothingFailed}
 use Rattle.replay_workers.specs.Run.{IsRun, is_complete}
 use Rattle.replay_program.specs.Replayed.{written, Took}
 use Rattle.replay_program.specs.Summarized.{BothFailed, run_summary}
+use Rattle.replay_program.proofs.Meeting.{has_met, met_nothing, not_failed}
 use Rattle.replay_program.proofs.Replaying.{ending_is, are_lines, is_replayed}
 use Rattle.replay_program.proofs.replay.beside.replay_and_summarize_over.Goals.{then-account, else-account}
 use Rattle.replay_program.proofs.replay.beside.replay_and_summarize_over.Goals as goal
 
 pub returns-in-Err : goal.returns-in-Err
 returns-in-Err g c = record {
-  done = λ is. cc (c.fail_to_start.ensures.status, is);
-  quiet = λ is. cc (c.fail_to_start.ensures.status, is);
+  done = λ is. cc (c.fail_to_start.ensures.status, c.unstarted.ensures.status, is);
+  quiet = λ is. cc (c.fail_to_start.ensures.status, c.unstarted.ensures.status, is);
   failed = λ is. inl (
     record {
       cause = c.in-Err.cause;
@@ -24,8 +25,11 @@ returns-in-Err g c = record {
     },
     refl,
   );
-  ends = λ is. cc (c.fail_to_start.ensures.status, is);
-  same = λ is. cc (c.fail_to_start.ensures.status, is);
+  met = met_nothing c.args.options.limit c.args.options.window (map g.S.Source.remaining c.args.readers.items) c.unstarted.result.met
+      c.unstarted.ensures.stop;
+  output_failed = not_failed c.unstarted.result.met.output_failed c.unstarted.ensures.output_failed;
+  ends = λ is. cc (c.fail_to_start.ensures.status, c.unstarted.ensures.status, is);
+  same = λ is. cc (c.fail_to_start.ensures.status, c.unstarted.ensures.status, is);
 }
 
 pub returns : goal.returns
@@ -51,13 +55,13 @@ returns g c =
     (sym c.deref_mut-2.ensures.value) of_lines in
     let run = subst (λ (b : Bool). IsRun options files received failures b account.stop) (sym whole) of_both in
     let ending = ending_is complete account.stop c.new-ending.result c.new-ending.ensures.ending in
-    let report = c.print_with_summary.ensures in
-    let out = written (g.O.Sink.given c.args.out.now) (g.O.Sink.given c.print_with_summary.new.out)
-    (g.O.Sink.failures c.args.out.now) (g.O.Sink.failures c.print_with_summary.new.out) in
-    let beside = written (g.T.Sink.given c.args.summary.now.writer) (g.T.Sink.given c.print_with_summary.new.summary.writer)
-    (g.T.Sink.failures c.args.summary.now.writer) (g.T.Sink.failures c.print_with_summary.new.summary.writer) in
-    let error = written (g.E.Sink.given c.args.error.now) (g.E.Sink.given c.print_with_summary.new.error)
-    (g.E.Sink.failures c.args.error.now) (g.E.Sink.failures c.print_with_summary.new.error) in
+    let report = c.print_with_summary-report.ensures in
+    let out = written (g.O.Sink.given c.args.out.now) (g.O.Sink.given c.print_with_summary-report.new.out)
+    (g.O.Sink.failures c.args.out.now) (g.O.Sink.failures c.print_with_summary-report.new.out) in
+    let beside = written (g.T.Sink.given c.args.summary.now.writer) (g.T.Sink.given c.print_with_summary-report.new.summary.writer)
+    (g.T.Sink.failures c.args.summary.now.writer) (g.T.Sink.failures c.print_with_summary-report.new.summary.writer) in
+    let error = written (g.E.Sink.given c.args.error.now) (g.E.Sink.given c.print_with_summary-report.new.error)
+    (g.E.Sink.failures c.args.error.now) (g.E.Sink.failures c.print_with_summary-report.new.error) in
     let are = are_lines options files received failures complete account.stop run in
     record {
       done = λ is.
@@ -77,6 +81,10 @@ returns g c =
             failed = subst (λ (e : Ending). BothFailed form options.style received failures e out beside error) ending
                 (report.failed options.style are is);
           });
+      met = has_met options files (map (vec_items {X = Line} {Z = Global}) outcome.lines.items) outcome.failures.items
+          (is_complete outcome account) (λ _. Unit {0}) c.run_observed-run.new.observer.version account.stop c.print_with_summary-report.result.output_failed
+          (c.in-Ok.ensures.observed (tt, c.new-reached.ensures.none));
+      output_failed = report.output_failed;
       ends = report.ends;
       same = report.same;
     }

@@ -8,6 +8,7 @@ use Rattle.replay_output.proofs.callers.Texts.{are_lines_by}
 use Rattle.replay_program.specs.Replayed.{Took, TookBeginning, written}
 use Rattle.replay_program.specs.Summarized.{run_summary}
 use Rattle.replay_program.proofs.Beside.{both_failed, both_lost, held}
+use Rattle.replay_program.proofs.Meeting.{failed_if}
 use Rattle.replay_program.proofs.Ranges.{no_ranges}
 use Rattle.replay_program.proofs.summary.beside.print_with_summary.Goals as goal
 
@@ -72,3 +73,7 @@ returns-clause-failed g c = λ style are is.
     (λ all.
     let done = c.status_of.ensures.done.1 (c.nothing_failed.ensures.nothing.1 all.0, all.1, all.2, all.3) in
     cc (done, is))
+
+pub returns-clause-output_failed : goal.returns-clause-output_failed
+returns-clause-output_failed g c =
+    failed_if c.print_and_flush-printed.result c.is_err-output_failed.result c.is_err-output_failed.ensures.value c.print_and_flush-printed.ensures.failed

@@ -1,0 +1,7 @@
+pub mod Following
+pub mod FramesRead
+pub mod FrontLengths
+pub mod Classified
+pub mod Settled
+pub mod Lines
+pub mod Appending

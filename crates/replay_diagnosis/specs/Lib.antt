@@ -1,0 +1,5 @@
+-- In reading order.
+pub mod Following
+pub mod Content
+pub mod Remedy
+pub mod Laws

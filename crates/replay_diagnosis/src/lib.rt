@@ -1,0 +1,29 @@
+//! Why a replay failed, and what to do.
+//!
+//! [`examine`] reads a file of a failed run once more. It returns the [`Batches`] of a file that
+//! contains nothing else, or a [`Finding`]: what is at the [`Position`] where the first frame of
+//! a batch was expected and is none. [`write_remedy`] writes the line about a finding, and
+//! [`write_run_remedy`] that about a [`RunFinding`], which is of no single file. Both lines begin
+//! with two spaces, so that they read as a part of the message before them.
+//!
+//! `specs/` says, in reading order, which versions batches follow (`Following`), what a file
+//! contains (`Content`), and the text of the lines (`Remedy`). A law of [`laws`] says that each
+//! line is one line.
+#![tactic(auto)]
+
+mod batches;
+mod classifying;
+mod examining;
+mod finding;
+pub mod laws;
+mod name;
+mod position;
+mod remedy;
+mod run_remedy;
+
+pub use batches::Batches;
+pub use examining::examine;
+pub use finding::{Finding, RunFinding};
+pub use position::Position;
+pub use remedy::write_remedy;
+pub use run_remedy::write_run_remedy;

@@ -1,0 +1,108 @@
+-- What a run met, from what became of its files and from what an observer has seen of them.
+use Rattle.std.specs.Prelude.{◌≡◌, ℕ, ℤ, Bool, true, false, List, Option, None, Some, IfSome, Result, Ok, Err, OnErr, is_err, is_some}
+use Rattle.std.proofs.Common.{sym, subst, ◌∙◌}
+use Rattle.std.proofs.lemmas.Bool.{false≢true}
+use Rattle.keyspace.specs.Processed.{Processed, version_of}
+use Rattle.keyspace.specs.Run.{Step}
+use Rattle.resolver.specs.declared.stop.Stop.{Stop}
+use Rattle.resolver.specs.Observed.{HasSeen}
+use Rattle.replay_output.specs.declared.failures.ProxyFailure.{ProxyFailure}
+use Rattle.replay_output.specs.declared.line.Line.{Line}
+use Rattle.replay_output.specs.declared.options.Options.{Options}
+use Rattle.replay_stream.specs.Sinks.{SinkState}
+use Rattle.replay_stream.specs.Streaming.{IsStreamed, Recorded}
+use Rattle.replay_workers.specs.Run.{IsObservedRun}
+use Rattle.replay_workers.proofs.callers.Lists.{found}
+use Rattle.replay_program.specs.declared.met.Met.{Met}
+use Rattle.replay_program.specs.Met.{HasMet, MetStop}
+
+-- a run that was not begun met nothing
+pub met_nothing : (limit : ℕ) (window : ℤ) (files : List (Option (List ℕ))) (met : Met) → met.stop ≡ None → HasMet limit window files met
+met_nothing limit window files met none =
+    subst (λ (s : Option Stop). IfSome s (λ stop. MetStop limit window files stop met.version)) (sym none) tt
+
+-- what is false is not true
+pub not_failed : {P : Type 0} (failed : Bool) → failed ≡ false → failed ≡ true → P
+not_failed failed off on = absurd (false≢true (sym off ∙ on))
+
+-- what holds of an error
+pub failed_if : {T E P : Type 0} (result : Result T E) (failed : Bool) → failed ≡ is_err result → OnErr result P → failed ≡ true → P
+failed_if (Ok x) failed is holds on = absurd (false≢true (sym is ∙ on))
+failed_if (Err e) failed is holds on = holds
+
+reached_of : (version : Option ℤ) (stop : Option Stop) (window : ℤ) (log : List Step)
+    → HasSeen (λ seen. version ≡ Some (version_of seen)) stop window log
+    → IfSome version (λ v. HasSeen (λ seen. v ≡ version_of seen) stop window log)
+reached_of None stop window log saw = tt
+reached_of (Some v) stop window log saw =
+    let same : Some v ≡ Some (version_of saw.list) = saw.seen in
+    record {
+      list = saw.list;
+      seen = cc same;
+      no_others = saw.no_others;
+      all = saw.all;
+      all_before_last = saw.all_before_last;
+    }
+
+module _ (options : Options) (files : List (Option (List ℕ))) (received : List (List Line)) (failures : List ProxyFailure)
+    (complete : Bool) (Seen : List Processed → Type 0) (version : Option ℤ) where
+  -- what another observer has seen, beside the version
+  pub seen_by_other : (stop : Option Stop)
+      → IsObservedRun (λ ps. Seen ps × (version ≡ Some (version_of ps))) options files received failures complete stop
+      → IsObservedRun Seen options files received failures complete stop
+  seen_by_other stop observed =
+      let saw = observed.seen in
+      record {
+        run = observed.run;
+        seen = record {
+          list = saw.list;
+          seen = saw.seen.0;
+          no_others = saw.no_others;
+          all = saw.all;
+          all_before_last = saw.all_before_last;
+        };
+      }
+
+  -- the stop and the version
+  pub has_met : (stop : Option Stop) (output_failed : Bool)
+      → IsObservedRun (λ ps. Seen ps × (version ≡ Some (version_of ps))) options files received failures complete stop
+      → HasMet options.limit options.window files (record { stop = stop; version = version; output_failed = output_failed })
+  has_met None output_failed observed = tt
+  has_met (Some s) output_failed observed =
+      let run = observed.run in
+      let saw = observed.seen in
+      record {
+        log = run.log;
+        proxies = run.proxies;
+        each_file = λ proxy bytes at.
+            let ls = found files received proxy bytes run.received_count at in
+            let failure = found files failures proxy bytes run.failures_count at in
+            let served = run.each proxy bytes ls.0 failure.0 at ls.1 failure.1 in
+            (served.read, served.left, served.frames_read, served.batches);
+        met = run.met;
+        reached = reached_of version (Some s) options.window run.log (record {
+          list = saw.list;
+          seen = saw.seen.1;
+          no_others = saw.no_others;
+          all = saw.all;
+          all_before_last = saw.all_before_last;
+        });
+      }
+
+-- the same of a stream, of which the version isn't known
+pub stream_has_met : (options : Options) (files : List (Option (List ℕ))) (has_writer : List Bool) (before after : SinkState)
+    (failed : Bool) (failures : List ProxyFailure) (recorded : List (Option Recorded)) (complete : Bool) (stop : Option Stop)
+    → IsStreamed options files has_writer before after failed failures recorded complete stop
+    → HasMet options.limit options.window files (record { stop = stop; version = None; output_failed = failed })
+stream_has_met options files has_writer before after failed failures recorded complete None streamed = tt
+stream_has_met options files has_writer before after failed failures recorded complete (Some s) streamed = record {
+  log = streamed.log;
+  proxies = streamed.proxies;
+  each_file = λ proxy bytes at.
+      let failure = found files failures proxy bytes streamed.failures_count at in
+      let r = found files recorded proxy bytes streamed.recorded_count at in
+      let one = streamed.each proxy bytes failure.0 r.0 at failure.1 r.1 in
+      (one.read, one.left, one.frames_read, one.batches);
+  met = streamed.met;
+  reached = tt;
+}

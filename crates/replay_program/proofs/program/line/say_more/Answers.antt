@@ -1,0 +1,23 @@
+use Rattle.std.proofs.Common.{◌≡◌, Bool, refl, rules, subst, sym}
+use Rattle.std.specs.Prelude.{false, true}
+use Rattle.replay_program.specs.Program.{SaysFurther}
+use Rattle.replay_program.specs.Replayed.{written}
+use Rattle.replay_program.proofs.program.line.say_more.Goals as goal
+
+pub returns-then-not-verbose-clause-further : goal.returns-then-not-verbose-clause-further
+returns-then-not-verbose-clause-further g c = λ is.
+    let f = c.args.files.now in
+    let error = written (g.E.Sink.given c.args.error.now) (g.E.Sink.given c.args.error.now)
+    (g.E.Sink.failures c.args.error.now) (g.E.Sink.failures c.args.error.now) in
+    let off : c.args.line.now.verbose ≡ false = search rules in
+    subst (λ (verbose : Bool). SaysFurther verbose (g.F.Files.contents f) (g.F.Files.cannot_open f) c.args.line.now c.args.met error)
+    (sym off) (refl, refl)
+
+pub returns-in-Failed-clause-further : goal.returns-in-Failed-clause-further
+returns-in-Failed-clause-further g c = λ is.
+    let f = c.args.files.now in
+    let error = written (g.E.Sink.given c.args.error.now) (g.E.Sink.given c.explain_failure.new.error)
+    (g.E.Sink.failures c.args.error.now) (g.E.Sink.failures c.explain_failure.new.error) in
+    let on : c.args.line.now.verbose ≡ true = search rules in
+    subst (λ (verbose : Bool). SaysFurther verbose (g.F.Files.contents f) (g.F.Files.cannot_open f) c.args.line.now c.args.met error)
+    (sym on) c.explain_failure.ensures.explained
