@@ -1,22 +1,22 @@
-use Rattle.std.proofs.Common.{◌++◌, [], ◌∷◌, rules, sym, ap, subst, ◌∙◌, append_assoc, List}
+use Rattle.std.proofs.Common.{◌++◌, [], ◌∷◌, rules, sym, ap, subst, ◌∙◌, append_assoc, append-nil, List}
 use Rattle.keyspace.specs.declared.batch.Batch.{Batch}
-use Rattle.wire.specs.Frames.{frames_reader}
-use Rattle.replay_workers.specs.Worker.{TakesFrames}
-use Rattle.replay_workers.proofs.callers.Reading.{takes_also}
-use Rattle.replay_stream.proofs.sender.Sender.send_frames.Goals as goal
+use Rattle.replay_workers.specs.Batches.{GivesEach}
+use Rattle.replay_workers.proofs.callers.Reading.{gives_also}
+use Rattle.replay_stream.proofs.sender.Sender.send_batches.Goals as goal
 
 pub returns-in-Err-send-clause-sent : goal.returns-in-Err-send-clause-sent
 returns-in-Err-send-clause-sent g c =
+    let Gives = g.B.Batches.gives in
     let before = c.loop.invariant.sent in
-    let first = g.S.Source.remaining (frames_reader c.args.frames.now) in
-    let left = g.S.Source.remaining (frames_reader c.next-in-loop.new.self) in
-    let frame = rw c.in-Ok-Some.field-0-is at c.in-Ok-Some.ensures.batch in
-    let frames = takes_also first (g.S.Source.remaining (frames_reader c.loop.frames)) left before.0 c.in-Ok-Some.batch before.2 frame in
+    let first = c.args.batches.now in
+    let left = c.next-in-loop.new.self in
+    let given = rw c.in-Ok-Some.field-0-is at c.in-Ok-Some.ensures.batch in
+    let batches = gives_also Gives first c.loop.batches left before.0 c.in-Ok-Some.batch before.2 given in
     record {
       batches = before.0;
       left = left;
       sent = c.in-Err-send.ensures.unchanged ∙ before.1;
-      frames = subst (λ (batch : Batch). TakesFrames first left (before.0 ++ batch ∷ [])) (sym c.in-Err-send.ensures.handed_back) frames;
+      frames = subst (λ (batch : Batch). GivesEach Gives first left (before.0 ++ batch ∷ [])) (sym c.in-Err-send.ensures.handed_back) batches;
       all = λ _ none. search rules;
       first_fault = tt;
     }
@@ -24,8 +24,7 @@ returns-in-Err-send-clause-sent g c =
 pub loop-preserved : goal.loop-preserved
 loop-preserved g c =
     let before = c.loop.invariant in
-    let left = g.S.Source.remaining (frames_reader c.next-in-loop.new.self) in
-    let frame = rw c.in-Ok-Some.field-0-is at c.in-Ok-Some.ensures.batch in
+    let given = rw c.in-Ok-Some.field-0-is at c.in-Ok-Some.ensures.batch in
     let batches = before.sent.0 ++ c.in-Ok-Some.batch ∷ [] in
     record {
       requests = search rules;
@@ -34,6 +33,35 @@ loop-preserved g c =
         batches,
         c.in_default.ensures.sent ∙ ap (λ (l : List Batch). l ++ c.in-Ok-Some.batch ∷ []) before.sent.1
             ∙ append_assoc _ before.sent.0 (c.in-Ok-Some.batch ∷ []),
-        takes_also _ (g.S.Source.remaining (frames_reader c.loop.frames)) left before.sent.0 c.in-Ok-Some.batch before.sent.2 frame,
+        gives_also g.B.Batches.gives _ c.loop.batches c.next-in-loop.new.self before.sent.0 c.in-Ok-Some.batch before.sent.2 given,
       );
+    }
+
+pub returns-in-Ok-None-clause-sent : goal.returns-in-Ok-None-clause-sent
+returns-in-Ok-None-clause-sent g c =
+    let before = c.loop.invariant.sent in
+    let end = rw c.in-Ok-None.field-0-is at c.in-Ok-None.ensures.end in
+    record {
+      batches = before.0;
+      left = c.loop.batches;
+      sent = before.1;
+      frames =
+          subst (λ (batches : List Batch). GivesEach g.B.Batches.gives c.args.batches.now c.loop.batches batches)
+          (sym (append-nil before.0)) before.2;
+      all = λ _ _. end.0;
+      first_fault = tt;
+    }
+
+pub returns-in-Err-clause-sent : goal.returns-in-Err-clause-sent
+returns-in-Err-clause-sent g c =
+    let before = c.loop.invariant.sent in
+    record {
+      batches = before.0;
+      left = c.loop.batches;
+      sent = before.1;
+      frames =
+          subst (λ (batches : List Batch). GivesEach g.B.Batches.gives c.args.batches.now c.loop.batches batches)
+          (sym (append-nil before.0)) before.2;
+      all = λ none _. absurd cc;
+      first_fault = c.in-Err.ensures.fault c.loop.invariant.fresh;
     }
