@@ -29,6 +29,8 @@ pub enum Mistake {
     Explain,
     /// Ranges are requested without a summary that is printed.
     Top,
+    /// `--report-all` has a value. `clap` refuses it itself.
+    ReportAll,
     /// A number is out of its range. `clap` refuses it itself.
     Number,
     /// There are no files, or too many.
@@ -71,6 +73,7 @@ impl Mistake {
                 "--explain is wanted without --check, --stream, --summary and --frames"
             }
             Mistake::Top => "--top is wanted with --summary",
+            Mistake::ReportAll => "--report-all takes no value",
             Mistake::Number => "a number is out of its range",
             Mistake::Files => "from 1 to 64 files are wanted",
             Mistake::Input => "standard input (-) can be given only once",
