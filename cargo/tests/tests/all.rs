@@ -18,6 +18,7 @@ mod lines;
 mod program;
 mod records;
 mod replay_explanations;
+mod reporting;
 mod reports;
 mod resolver;
 mod retries;
