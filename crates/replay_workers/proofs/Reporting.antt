@@ -53,21 +53,13 @@ set-asked i [] d inside = absurd (omega (arith, inside))
 set-asked zero (row ∷ rows) d inside = refl
 set-asked (suc i) (row ∷ rows) d inside = ap (λ (l : List Row). asking_row row ∷ l) (set-asked i rows d (omega (arith, inside)))
 
-pub length-asked : (i : ℕ) (rows : List Row) → length (asked_to i rows) ≡ length rows
-unfolding asked_to
-length-asked zero rows = refl
-length-asked (suc i) [] = refl
-length-asked (suc i) (row ∷ rows) = ap suc (length-asked i rows)
-
 -- one row more asks
-pub asked_also : (i : ℕ) (whole rows : List Row) (row now : Row) → i < length whole → row ≡ get_or rows i row → now ≡ asking_row row
-    → rows ≡ asked_to i whole → set rows i now ≡ asked_to (i + 1) whole
-asked_also i whole rows row now inside at asks so_far =
-    let was : row ≡ get_or whole i row =
-    at ∙ ap (λ (l : List Row). get_or l i row) so_far ∙ get-asked i whole row inside in
-    ap (λ (r : Row). set rows i r) (asks ∙ ap asking_row was)
-    ∙ ap (λ (l : List Row). set l i (asking_row (get_or whole i row))) so_far
-    ∙ set-asked i whole row inside
+pub asked_also : (i : ℕ) (whole rows : List Row) (d : Row) → i < length whole → rows ≡ asked_to i whole
+    → set rows i (asking_row (get_or rows i d)) ≡ asked_to (i + 1) whole
+asked_also i whole rows d inside so_far =
+    ap (λ (l : List Row). set l i (asking_row (get_or l i d))) so_far
+    ∙ ap (λ (r : Row). set (asked_to i whole) i (asking_row r)) (get-asked i whole d inside)
+    ∙ set-asked i whole d inside
     ∙ ap (λ (m : ℕ). asked_to m whole) (sym (add-one i))
 
 -- all of them do, if i is no less than their number
