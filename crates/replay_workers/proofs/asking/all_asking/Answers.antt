@@ -1,4 +1,5 @@
 use Rattle.std.proofs.Common.{◌≡◌, FitsSigned, w64, length, map, sym, ap, ◌∙◌, rules}
+use Rattle.std.specs.Vec.{with_items}
 use Rattle.std.proofs.lemmas.Int.{to_z-of_z}
 use Rattle.std.proofs.lemmas.List.{with_items_is}
 use Rattle.keyspace.specs.declared.batch.Batch.{Batch}
@@ -9,8 +10,13 @@ use Rattle.replay_workers.proofs.asking.all_asking.Goals.{After-ask_all}
 use Rattle.replay_workers.proofs.asking.all_asking.Goals as goal
 
 -- the rows that are put together again
-asked : (c : After-ask_all) → c.tables.rows.items ≡ map asking_row c.into_tables-tables.result.rows.items
-asked c = search rules
+asked : (c : After-ask_all)
+    → (with_items c.into_tables-tables.result.rows c.ask_all.new.rows).items ≡ map asking_row c.into_tables-tables.result.rows.items
+asked c =
+    let own = c.into_tables-tables.result.rows in
+    let long : length c.ask_all.new.rows ≡ own.len =
+    c.ask_all.auto.rows ∙ ap length c.deref_mut.ensures.value ∙ sym own.ok.0 in
+    with_items_is own c.ask_all.new.rows long ∙ c.ask_all.ensures.asking ∙ ap (map asking_row) c.deref_mut.ensures.value
 
 pub new-requires-clause-tables : goal.new-requires-clause-tables
 new-requires-clause-tables c =
