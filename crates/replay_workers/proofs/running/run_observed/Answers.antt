@@ -26,53 +26,53 @@ resolved_under reports given old new batch same takes =
 
 pub run_over-requires-clause-least : goal.run_over-requires-clause-least
 run_over-requires-clause-least g c κs within =
-    let streams = c.in_ok-streams.streams in
+    let streams = c.in_ok-streams-in-Asked.streams in
     let count : length streams.items ≡ length c.args.readers.items =
-    sym (length-map streams.items frames_reader) ∙ ap length c.in_ok-streams.ensures.readers in
+    sym (length-map streams.items frames_reader) ∙ ap length c.in_ok-streams-in-Asked.ensures.readers in
     omega (arith, count, c.requires.least_readers, streams.ok.0, c.args.readers.ok.0)
 
 pub run_over-requires-clause-most : goal.run_over-requires-clause-most
 run_over-requires-clause-most g c κs within =
-    let streams = c.in_ok-streams.streams in
+    let streams = c.in_ok-streams-in-Asked.streams in
     let count : length streams.items ≡ length c.args.readers.items =
-    sym (length-map streams.items frames_reader) ∙ ap length c.in_ok-streams.ensures.readers in
+    sym (length-map streams.items frames_reader) ∙ ap length c.in_ok-streams-in-Asked.ensures.readers in
     omega (arith, count, c.requires.most_readers, streams.ok.0, c.args.readers.ok.0)
 
 pub run_over-requires-clause-fresh : goal.run_over-requires-clause-fresh
-run_over-requires-clause-fresh g c κs within = c.in_ok-streams.ensures.fresh
+run_over-requires-clause-fresh g c κs within = c.in_ok-streams-in-Asked.ensures.fresh
 
-pub run_over-in-All-requires-clause-least : goal.run_over-in-All-requires-clause-least
-run_over-in-All-requires-clause-least g c κs within =
+pub run_over-requires-in-All-clause-least : goal.run_over-requires-in-All-clause-least
+run_over-requires-in-All-clause-least g c κs within =
     let streams = c.in_ok-streams-in-All.streams in
     let count : length streams.items ≡ length c.args.readers.items =
     sym (length-map streams.items asking_reader) ∙ ap length c.in_ok-streams-in-All.ensures.readers in
     omega (arith, count, c.requires.least_readers, streams.ok.0, c.args.readers.ok.0)
 
-pub run_over-in-All-requires-clause-most : goal.run_over-in-All-requires-clause-most
-run_over-in-All-requires-clause-most g c κs within =
+pub run_over-requires-in-All-clause-most : goal.run_over-requires-in-All-clause-most
+run_over-requires-in-All-clause-most g c κs within =
     let streams = c.in_ok-streams-in-All.streams in
     let count : length streams.items ≡ length c.args.readers.items =
     sym (length-map streams.items asking_reader) ∙ ap length c.in_ok-streams-in-All.ensures.readers in
     omega (arith, count, c.requires.most_readers, streams.ok.0, c.args.readers.ok.0)
 
-pub run_over-in-All-requires-clause-fresh : goal.run_over-in-All-requires-clause-fresh
-run_over-in-All-requires-clause-fresh g c κs within = c.in_ok-streams-in-All.ensures.fresh
+pub run_over-requires-in-All-clause-fresh : goal.run_over-requires-in-All-clause-fresh
+run_over-requires-in-All-clause-fresh g c κs within = c.in_ok-streams-in-All.ensures.fresh
 
-pub returns-in-Asked : goal.returns-in-Asked
-returns-in-Asked g c =
+pub returns-in_ok-outcome-in-Asked : goal.returns-in_ok-outcome-in-Asked
+returns-in_ok-outcome-in-Asked g c =
     let view = λ (frames : Frames g.row.S.Denot). g.S.Source.remaining (frames_reader frames) in
-    let streams = c.in_ok-streams.streams.items in
+    let streams = c.in_ok-streams-in-Asked.streams.items in
     let options = c.args.options in
     let reports = options.reports in
     let Gives = λ (old new : Frames g.row.S.Denot). TakesFrame (view old) (view new) in
     let seen = λ (old new : Frames g.row.S.Denot) (batch : Batch) (takes : TakesFrame (view old) (view new) batch).
     resolved_under reports Asked (view old) (view new) batch c.in-Asked.is (batch, takes, refl) in
-    let outcome = c.in_ok-outcome.outcome in
-    let account = c.in_ok-outcome.account in
-    let ended = c.in_ok-outcome.ensures in
+    let outcome = c.in_ok-outcome-in-Asked.outcome in
+    let account = c.in_ok-outcome-in-Asked.account in
+    let ended = c.in_ok-outcome-in-Asked.ensures in
     let Seen = g.O.Observer.has_seen c.run_over.new.observer in
     let files : map view streams ≡ map g.S.Source.remaining c.args.readers.items =
-    map_twice frames_reader g.S.Source.remaining streams ∙ ap (map g.S.Source.remaining) c.in_ok-streams.ensures.readers in
+    map_twice frames_reader g.S.Source.remaining streams ∙ ap (map g.S.Source.remaining) c.in_ok-streams-in-Asked.ensures.readers in
     record {
       run = subst (λ (files : List (Option (List ℕ))). IsRun options files (map vec_items outcome.lines.items) outcome.failures.items
           (is_complete outcome account) account.stop) files
@@ -90,8 +90,8 @@ returns-in-Asked g c =
       setting = c.run_over.ensures.setting;
     }
 
-pub returns-in-All : goal.returns-in-All
-returns-in-All g c =
+pub returns-in_ok-outcome-in-All : goal.returns-in_ok-outcome-in-All
+returns-in_ok-outcome-in-All g c =
     let view = λ (frames : AskingFrames g.row.S.Denot). g.S.Source.remaining (asking_reader frames) in
     let streams = c.in_ok-streams-in-All.streams.items in
     let options = c.args.options in
