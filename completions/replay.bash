@@ -32,7 +32,7 @@ _replay() {
         :
     elif [[ ! $ended && $current == -* ]]; then
         case $command in
-            '') wanted='--capacity --window --limit --frames --json --quiet --only --versions --explain --summary --check --stream --replies -o --output --summary-to --top --verbose -h --help -V --version' ;;
+            '') wanted='--capacity --window --limit --report-all --frames --json --quiet --only --versions --explain --summary --check --stream --replies -o --output --summary-to --top --verbose -h --help -V --version' ;;
             *) wanted=OTHER ;;
         esac
     else

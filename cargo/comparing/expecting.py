@@ -1,6 +1,7 @@
 """What a command line prints and returns by the documents."""
 
 from collections.abc import Sequence
+from dataclasses import replace
 
 from .case import Outcome
 from .lines import batch_line, batch_table, reply_line, reply_table
@@ -13,6 +14,11 @@ def fault_lines(faults: Sequence[str], what: str) -> str:
     return "".join(f"replay: {what} {proxy}: wire {fault}\n" for proxy, fault in enumerate(faults) if fault)
 
 
+def all_asking(batches: Sequence[Batch]) -> list[Batch]:
+    """Returns the same batches, whose transactions all ask for their reports."""
+    return [replace(batch, txns=tuple(replace(txn, report=True) for txn in batch.txns)) for batch in batches]
+
+
 def replay_outcome(
     files: Sequence[bytes],
     form: str = "words",
@@ -21,6 +27,7 @@ def replay_outcome(
     shown: Filter = ALL_LINES,
     is_summary: bool = False,
     explains: bool = False,
+    reports_all: bool = False,
 ) -> Outcome | None:
     """Returns what `replay` prints for these files, or nothing if the run would meet a stop."""
     recorded, replies_faults = [], []
@@ -31,6 +38,8 @@ def replay_outcome(
     if any(replies_faults):
         return Outcome(1, b"", fault_lines(replies_faults, "replies").splitlines(keepends=True)[0].encode())
     batches, faults = zip(*(frames(content, read_batch) for content in files))
+    if reports_all:
+        batches = tuple(map(all_asking, batches))
     try:
         answers = resolve(batches, window, explains)
     except Unspecified:

@@ -25,7 +25,7 @@ from .batches import (
 )
 from .case import Case, Outcome, Run
 from .damage import cut, damaged_file
-from .expecting import most_boundaries, replay_outcome
+from .expecting import all_asking, most_boundaries, replay_outcome
 from .reference import ALL_LINES, MAX_HELD, WINDOW, Filter, resolve
 from .wire import Batch, Range, Reply, Txn, batch_frame, file_of, reply_frame, single
 
@@ -78,12 +78,16 @@ def draw_run(chance: Random, files: Sequence[bytes], window: int | None, is_know
         chosen, shown = ["--summary"], ALL_LINES
     else:
         chosen, shown = draw_filter(chance)
+    reports_all = chance.random() < 0.2
     flags = [*chosen, *(["--explain"] if explains else []), *([] if form == "words" else [f"--{form}"])]
+    flags += ["--report-all"] if reports_all else []
     options, names = draw_options(chance, window), list(names_of(files))
     args = chance.choice(([*flags, *options, *names], [*options, *names, *flags], [*names, *flags, *options]))
     expected = None
     if is_known:
-        expected = replay_outcome(files, form, window or WINDOW, shown=shown, is_summary=is_summary, explains=explains)
+        expected = replay_outcome(
+            files, form, window or WINDOW, shown=shown, is_summary=is_summary, explains=explains, reports_all=reports_all
+        )
     return Run("replay", tuple(args), expected=expected)
 
 
@@ -282,7 +286,8 @@ def draw_check(chance: Random) -> Case:
         batches = [disturbed(chance, chain, drawer)]
     else:
         batches = [disturbed_file(chance, some, drawer) for some in dealt(chance, chain, draw_proxies(chance))]
-    answers = resolve(batches, window or WINDOW)
+    reports_all = chance.random() < 0.2
+    answers = resolve(list(map(all_asking, batches)) if reports_all else batches, window or WINDOW)
     files = [b"".join(draw_bytes(chance, some)) for some in batches]
     recorded = [[answer.reply for answer in some if answer.reply is not None] for some in answers]
     replies = replies_files(chance, recorded)
@@ -291,6 +296,7 @@ def draw_check(chance: Random) -> Case:
     args = [*draw_options(chance, window), *names_of(files)]
     for proxy in range(len(files)):
         args += ["--check", f"replies{proxy}"]
+    args += ["--report-all"] if reports_all else []
     given = {f"replies{proxy}": content for proxy, content in enumerate(replies)}
-    expected = replay_outcome(files, window=window or WINDOW, replies=replies)
+    expected = replay_outcome(files, window=window or WINDOW, replies=replies, reports_all=reports_all)
     return Case("", "check", names_of(files) | given, (Run("replay", tuple(args), expected=expected),))

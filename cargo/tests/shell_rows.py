@@ -42,6 +42,7 @@ REPLIES: dict[str, Parts] = {
     "nothing": (),
     "conflicts": ("200 conflict",),
     "places": ("200 conflict:0,2",),
+    "place": ("200 conflict:0",),
     "short": ("0 empty", b"\0"),
 }
 
@@ -356,10 +357,41 @@ EXPLAINS = (
     ShellRow(("--explain", "first", "none"), "", "replay: proxy 1: cannot open\n", 1),
 )
 
+# Every transaction is resolved as if it asked for its report.
+REPORTED = REJECTED.replace("conflict:1 conflict committed conflict conflict", "conflict:1 conflict:0 committed conflict:0 conflict:0")
+REPORTED_JSON = (
+    '{"proxy":0,"version":200,"verdicts":[{"conflict":[1]},{"conflict":[0]},"committed",{"conflict":[0]},{"conflict":[0]}]}\n'
+)
+REPORTS = (
+    ShellRow(("--report-all", "first", "second"), FIRST + "1 200 conflict:0\n"),
+    ShellRow(("first", "--report-all"), FIRST),
+    ShellRow(("--report-all", "conflict"), FIRST + "0 101 conflict:0 committed\n"),
+    ShellRow(("--window", "1", "--report-all", "conflict"), FIRST + "0 101 tooold committed\n"),
+    ShellRow(("--report-all", "--json", "--versions", "101..", "conflict"), '{"proxy":0,"version":101,"verdicts":[{"conflict":[0]},"committed"]}\n'),
+    ShellRow(("--frames", "--report-all", "--versions", "200..", "first", "second"), "1 200 000000100200000000000000c800010000010000\n"),
+    ShellRow(("--report-all", "--explain", "first", "second"), FIRST + "1 200 conflict:0\n" + SECOND_EXPLAINED),
+    ShellRow(("--explain", "--report-all", "rejected"), "0 0 empty\n" + 2 * THREE + "0 150 never\n" + 2 * REPORTED),
+    ShellRow(("--report-all", "--only", "conflict", "conflict"), "0 101 conflict:0 committed\n"),
+    ShellRow(("--report-all", "--summary", "first", "second"), TWO_COUNTED),
+    ShellRow(("--report-all", "--stream", "conflict"), FIRST + "0 101 conflict:0 committed\n"),
+    ShellRow(("--stream", "--report-all", "--json", "rejected", "--versions", "200.."), 2 * REPORTED_JSON),
+    ShellRow(("first", "--check", "same", "second", "--check", "place", "--report-all"), "checked 3 batches, 0 differences\n"),
+    ShellRow(
+        ("--report-all", "first", "--check", "same", "second", "--check", "conflicts"),
+        "1 200 0 places expected 0 found none\nchecked 3 batches, 1 differences\n",
+        "",
+        3,
+    ),
+    ShellRow(("--report-all", "cut"), "0 0 empty\n", SHORT, 1),
+    ShellRow(("--report-all", "--stream", "cut"), "0 0 empty\n", SHORT, 1),
+    ShellRow(("--report-all", "first", "none"), "", "replay: proxy 1: cannot open\n", 1),
+    ShellRow(("writes", "--limit", "3", "--report-all"), FIRST, "replay: stop 3 ArenaFull\n", 1),
+)
+
 # With a file for the output it gets the same bytes, and standard output stays empty. The lines of failures come after them.
 OUTPUTS = tuple(
     ShellRow(("-o", "/dev/stderr", *row.args), "", row.out + row.err, row.status, row.stdin)
-    for row in ANSWERS + FAILURES + CHECKS + STREAMS + FILTERS[:8] + SUMMARIES + EXPLAINS
+    for row in ANSWERS + FAILURES + CHECKS + STREAMS + FILTERS[:8] + SUMMARIES + EXPLAINS + REPORTS
 ) + (
     ShellRow(("first", "--output=/dev/stderr"), "", FIRST),
     ShellRow(("first", "-o/dev/stderr", "--json"), "", FIRST_JSON),
@@ -496,7 +528,10 @@ BESIDES = (
     ShellRow(("--summary-to", "no/such/out", "none"), "", "replay: proxy 0: cannot open\n", 1),
 )
 
-ROWS = ANSWERS + FAILURES + CHECKS + STREAMS + RECORDS + FILTERS + ARGUMENTS + SUMMARIES + EXPLAINS + OUTPUTS + TOPS + BESIDES + VERBOSE
+ROWS = (
+    ANSWERS + FAILURES + CHECKS + STREAMS + RECORDS + FILTERS + ARGUMENTS + SUMMARIES + EXPLAINS
+    + REPORTS + OUTPUTS + TOPS + BESIDES + VERBOSE
+)
 
 # Refused with status 2 and a text of `clap` on standard error. Nothing is on standard output.
 REFUSED: tuple[tuple[str | bytes, ...], ...] = (
@@ -640,6 +675,10 @@ REFUSED: tuple[tuple[str | bytes, ...], ...] = (
     ("--verbose",),
     ("--verbose", "--verbose", "first"),
     ("--verbose=yes", "first"),
+    ("--report-all",),
+    ("--report-all=yes", "first"),
+    ("--report-all", "--report-all", "first"),
+    ("--report", "first"),
     (b"\xff",),
     ("first", b"sec\xc3ond"),
     ("--help", b"\xff"),

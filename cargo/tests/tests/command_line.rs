@@ -3,7 +3,7 @@
 use keyspace::Verdict;
 use rattle_std::alloc::Global;
 use rattle_std::string::String as KitString;
-use replay_program::{CommandLine, Filter, Form, Options, Refusal, Style, Task, read_words};
+use replay_program::{CommandLine, Filter, Form, Options, Refusal, Reports, Style, Task, read_words};
 use tests::failing::Failing;
 use tests::printing::ended;
 use wire::StdSink;
@@ -21,15 +21,19 @@ fn read(given: &str) -> String {
 }
 
 fn options_text(line: &CommandLine) -> String {
-    let Options { capacity, window, limit, style } = line.options;
+    let Options { capacity, window, limit, style, reports } = line.options;
     let form = match style.form {
         Form::Words => "",
         Form::Frames => " frames",
         Form::Json => " json",
         Form::Kept => " kept",
     };
+    let reports = match reports {
+        Reports::Asked => "",
+        Reports::All => " report-all",
+    };
     let (task, details) = (task_text(&line.task), details_text(line));
-    format!(" {capacity} {window} {limit}{form}{}{task}{details}", filter_text(&style.filter))
+    format!(" {capacity} {window} {limit}{reports}{form}{}{task}{details}", filter_text(&style.filter))
 }
 
 fn task_text(task: &Task) -> String {
@@ -163,6 +167,11 @@ fn refused_words() {
         "--verbose",
         "--verbose --verbose f",
         "--verbose=yes f",
+        "--report-all",
+        "--report-all=yes f",
+        "--report-all --report-all f",
+        "--report f",
+        "--Report-all f",
     ] {
         refuses(given);
     }
@@ -258,6 +267,14 @@ fn words_and_options() {
         ("--stream --verbose -o r a", "a | 16 5000000 1000000 stream to r verbose"),
         ("--summary --verbose --top 2 a", "a | 16 5000000 1000000 summary Words top 2 verbose"),
         ("--verbose --explain --json a", "a | 16 5000000 1000000 json explain verbose"),
+        ("--report-all a", "a | 16 5000000 1000000 report-all"),
+        ("--limit 7 a --report-all b --frames", "a b | 16 5000000 7 report-all frames"),
+        ("a --explain --json --report-all", "a | 16 5000000 1000000 report-all json explain"),
+        ("--report-all --check r a", "a | 16 5000000 1000000 report-all kept check r"),
+        ("--stream --report-all --replies r a", "a | 16 5000000 1000000 report-all stream r"),
+        ("--report-all --summary --top 3 a", "a | 16 5000000 1000000 report-all summary Words top 3"),
+        ("--summary-to r --report-all --quiet a", "a | 16 5000000 1000000 report-all quiet summary Words to r"),
+        ("-- --report-all", "--report-all | 16 5000000 1000000"),
     ] {
         assert_eq!(read(given), expected);
     }
@@ -271,7 +288,8 @@ fn sixty_four_files() {
 
 #[test]
 fn defaults() {
-    let wanted = Options { capacity: 16, window: 5_000_000, limit: 1_000_000, style: Style::all(Form::Words) };
+    let style = Style::all(Form::Words);
+    let wanted = Options { capacity: 16, window: 5_000_000, limit: 1_000_000, style, reports: Reports::Asked };
     assert_eq!(Options::default(), wanted);
 }
 

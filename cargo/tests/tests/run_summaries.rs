@@ -3,7 +3,7 @@
 use rattle_std::alloc::Global;
 use rattle_std::rt::HostRuntime;
 use rattle_std::sync::Arc;
-use replay_program::{AlwaysOpen, Form, Options, Status, Style, SummaryForm, SummaryRequest, SummaryWriter, Unshared};
+use replay_program::{AlwaysOpen, Form, Options, Reports, Status, Style, SummaryForm, SummaryRequest, SummaryWriter, Unshared};
 use replay_program::{replay_and_summarize_over, replay_over, summarize_over};
 use std::io::Write;
 use tests::failing::Failing;
@@ -31,7 +31,7 @@ fn object(more: &str) -> String {
 }
 
 fn options() -> Options {
-    Options { capacity: 4, window: 5_000_000, limit: 1 << 20, style: Style::all(Form::Words) }
+    Options { capacity: 4, window: 5_000_000, limit: 1 << 20, style: Style::all(Form::Words), reports: Reports::Asked }
 }
 
 fn readers(files: &[(&[&str], &[u8])]) -> rattle_std::vec::Vec<Reader> {

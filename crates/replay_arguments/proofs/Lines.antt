@@ -22,6 +22,7 @@ use Rattle.replay_arguments.specs.Words.{
   HoldsForm,
   HoldsNumbers,
   HoldsOptions,
+  HoldsReports,
   HoldsStream,
   HoldsSummary,
   HoldsSummaryFile,
@@ -134,6 +135,7 @@ module _ (words : List (List ℕ)) (asked : Asked) (line : CommandLine) (holds :
   options : HoldsOptions (rows_of_words words) line.options
   options = record {
     numbers = subst (λ (options : Options). HoldsNumbers (rows_of_words words) options) (sym is.options) holds.numbers;
+    reports = subst (λ (options : Options). HoldsReports (rows_of_words words) options.reports) (sym is.options) holds.reports;
     form = subst (HoldsForm (rows_of_words words)) (sym form_of) holds.printing.form;
     filter = subst (λ (style : Style). HoldsFilter (rows_of_words words) style.filter) (sym style) holds.printing.filter;
   }

@@ -5,7 +5,7 @@ use Rattle.replay_output.specs.declared.options.form.Form.TheVariants.{Kept}
 use Rattle.replay_arguments.specs.Details.{HoldsDetails}
 use Rattle.replay_arguments.specs.Names.{HoldsNames}
 use Rattle.replay_arguments.specs.Printing.{HoldsPrinting}
-use Rattle.replay_arguments.specs.Words.{HoldsNumbers}
+use Rattle.replay_arguments.specs.Words.{HoldsNumbers, HoldsReports}
 use Rattle.replay_arguments.specs.declared.arguments.CommandLine.{CommandLine}
 use Rattle.replay_arguments.specs.declared.arguments.asked.Asked.{Asked}
 use Rattle.replay_arguments.specs.declared.arguments.task.Task.{Task}
@@ -16,6 +16,7 @@ pub record HoldsAsked (rows : List Row) (asked : Asked) : Type 0 where
   pub details : HoldsDetails rows asked.details
   pub numbers : HoldsNumbers rows asked.options
   pub style : asked.options.style ≡ asked.printing.style
+  pub reports : HoldsReports rows asked.options.reports
   pub names : HoldsNames rows asked.printing asked.names
 
 -- the answers are printed at the end, without a summary or explanations

@@ -27,6 +27,9 @@ window_rule = number_rule (codes "window") (codes "5000000") (Signed (pos 1) MAX
 abbrev pub limit_rule : Rule
 limit_rule = number_rule (codes "limit") (codes "1000000") (Unsigned 1 MAX_LIMIT)
 
+abbrev pub report_all_rule : Rule
+report_all_rule = record (new_rule (codes "report-all")) { long = Some (codes "report-all"); action = Some SetTrue }
+
 abbrev pub frames_rule : Rule
 frames_rule = record (new_rule (codes "frames")) { long = Some (codes "frames"); action = Some SetTrue }
 
@@ -97,7 +100,7 @@ plain_app = new_app (codes "replay")
 
 -- the options that say how batches are resolved
 abbrev pub with_resolving : App → App
-with_resolving app = with_rule (with_rule (with_rule app capacity_rule) window_rule) limit_rule
+with_resolving app = with_rule (with_rule (with_rule (with_rule app capacity_rule) window_rule) limit_rule) report_all_rule
 
 -- the options that say what is printed
 abbrev pub with_printing : App → App
@@ -111,8 +114,8 @@ with_files app =
     with_rule (with_rule (with_rule (with_rule (with_rule (with_rule (with_rule app check_rule) stream_rule) replies_rule)
     output_rule) summary_to_rule) top_rule) verbose_rule
 
--- `replay [--capacity N] [--window N] [--limit N] [--frames] [--json] [--quiet] [--only VERDICT] [--versions A..B] [--explain]
--- [--summary] [--check REPLIES].. [--stream] [--replies OUT].. [--output FILE] [--summary-to FILE] [--top N]
+-- `replay [--capacity N] [--window N] [--limit N] [--report-all] [--frames] [--json] [--quiet] [--only VERDICT] [--versions A..B]
+-- [--explain] [--summary] [--check REPLIES].. [--stream] [--replies OUT].. [--output FILE] [--summary-to FILE] [--top N]
 -- [--verbose] FILE..`, with `--help` and `--version`
 unfoldable pub replay_app : App
 replay_app =

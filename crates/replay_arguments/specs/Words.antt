@@ -18,6 +18,8 @@ use Rattle.replay_output.specs.declared.options.filtering.Filter.{Filter}
 use Rattle.replay_output.specs.declared.options.form.Form.{Form}
 use Rattle.replay_output.specs.declared.options.form.Form.TheVariants.{Words, Frames, Json, Kept}
 use Rattle.replay_output.specs.declared.options.Options.{Options}
+use Rattle.replay_output.specs.declared.options.reports.Reports.{Reports}
+use Rattle.replay_output.specs.declared.options.reports.Reports.TheVariants.{Asked, All}
 use Rattle.replay_summary.specs.declared.text.SummaryForm.{SummaryForm}
 use Rattle.replay_summary.specs.declared.text.SummaryForm.TheVariants as summaries
 use Rattle.replay_arguments.specs.Command.{replay_app}
@@ -91,9 +93,19 @@ pub record HoldsFilter (rows : List Row) (filter : Filter) : Type 0 where
   pub only : first_of (codes "only") rows ≡ option_map verdict_name filter.only
   pub versions : AreVersions (first_of (codes "versions") rows) filter.least filter.below
 
+-- whether all transactions report
+abbrev pub reports_all : Reports → Bool
+reports_all Asked = false
+reports_all All = true
+
+-- which transactions are found to report
+abbrev pub HoldsReports : List Row → Reports → Type 0
+HoldsReports rows reports = one_of (codes "report-all") rows ≡ Some (bool_text (reports_all reports))
+
 -- what is found for the options
 pub record HoldsOptions (rows : List Row) (options : Options) : Type 0 where
   pub numbers : HoldsNumbers rows options
+  pub reports : HoldsReports rows options.reports
   pub form : HoldsForm rows options.style.form
   pub filter : HoldsFilter rows options.style.filter
 
@@ -142,6 +154,10 @@ pub record HasNumbers (rows : List Row) : Type 0 where
   pub capacity : Has (IsUnsignedIn 1 MAX_CAPACITY) (codes "capacity") rows
   pub window : Has (IsSignedIn (pos 1) MAX_WINDOW) (codes "window") rows
   pub limit : Has (IsUnsignedIn 1 MAX_LIMIT) (codes "limit") rows
+
+-- it is found which transactions report
+abbrev pub HasReports : List Row → Type 0
+HasReports rows = (reports : Reports) × HoldsReports rows reports
 
 -- some form is found
 abbrev pub HasForm : List Row → Type 0
@@ -324,10 +340,11 @@ pub data DetailsNothing (rows : List Row) : Type 0 where
   no_top : ¬ (HasTop rows) → DetailsNothing rows
   no_verbose : ¬ (HasVerbose rows) → DetailsNothing rows
 
--- the arguments that are found are of no use: what to print, its details, the names, or a number out of its range
+-- the arguments that are found are of no use: what to print, its details, the reports, the names, or a number out of its range
 pub data IsOfNoUse (rows : List Row) : Type 0 where
   no_printing : PrintsNothing rows → IsOfNoUse rows
   no_details : DetailsNothing rows → IsOfNoUse rows
+  no_reports : ¬ (HasReports rows) → IsOfNoUse rows
   no_numbers : ¬ (HasNumbers rows) → IsOfNoUse rows
   no_names : NamesNothing rows → IsOfNoUse rows
 

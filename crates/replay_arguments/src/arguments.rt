@@ -24,6 +24,7 @@ mod mistake;
 mod names;
 mod printing;
 mod refusal;
+mod reporting;
 mod summary;
 mod summary_file;
 mod task;

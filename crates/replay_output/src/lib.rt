@@ -1,7 +1,8 @@
 //! What a run of the program `replay` prints, and how it ends.
 //!
 //! [`Options`] says how a run is set up, its [`Style`] how answers are printed: in which [`Form`],
-//! and which of them, by a [`Filter`]. [`Line`] is the line of one answer, ready to be printed.
+//! and which of them, by a [`Filter`]. Its [`Reports`] says which transactions report their read
+//! ranges in conflict. [`Line`] is the line of one answer, ready to be printed.
 //! [`print_report`] prints the lines of all answers in order, and then what failed, of each proxy
 //! ([`ProxyFailure`]) and of the run ([`Ending`]). [`fail_to_start`] prints why a run could not
 //! start. [`Status`] is how the program ends.
@@ -28,7 +29,7 @@ pub use failures::{
     Ending, ProxyFailure, begin_line, fault_text, note_loss, nothing_failed, print_failures,
 };
 pub use line::{Line, PackedText};
-pub use options::{Filter, Form, Options, Style};
+pub use options::{Filter, Form, Options, Reports, Style};
 pub use records::write_record;
 pub use report::{PrintError, Report, print_answers, print_report, sort_lines};
 pub use start::{StartError, fail_to_start, print_start_error};

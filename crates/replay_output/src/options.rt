@@ -7,6 +7,7 @@ ghost use Rattle.conflict.specs.declared.conflict_set.TheConstants.{MAX_WINDOW};
 ghost use Rattle.stepmap.specs.declared.step_map.TheConstants.{MAX_LIMIT};
 ghost use Rattle.replay_output.specs.Filter.{all_lines};
 ghost use Rattle.replay_output.specs.declared.options.form.Form.TheVariants.{Words};
+ghost use Rattle.replay_output.specs.declared.options.reports.Reports.TheVariants.{Asked};
 
 use conflict::MAX_WINDOW;
 use keyspace::WINDOW;
@@ -16,10 +17,12 @@ use stepmap::MAX_LIMIT;
 mod filtering;
 mod form;
 mod quieting;
+mod reports;
 mod style;
 
 pub use filtering::Filter;
 pub use form::Form;
+pub use reports::Reports;
 pub use style::Style;
 
 /// How a run is set up, each option within its range.
@@ -33,6 +36,8 @@ pub struct Options {
     pub limit: usize,
     /// How answers are printed.
     pub style: Style,
+    /// Which transactions report their read ranges in conflict.
+    pub reports: Reports,
     ghost least_capacity: { 1 ≤ capacity },
     ghost most_capacity: { capacity ≤ MAX_CAPACITY },
     ghost least_window: { pos 1 ≤ℤ window },
@@ -43,7 +48,13 @@ pub struct Options {
 
 impl Options {
     /// Returns these options if each number is within its range.
-    pub fn new(capacity: usize, window: i64, limit: usize, style: Style) -> Option<Self>
+    pub fn new(
+        capacity: usize,
+        window: i64,
+        limit: usize,
+        style: Style,
+        reports: Reports,
+    ) -> Option<Self>
         ensures some { IsSome result ↔ ((1 ≤ capacity) × (capacity ≤ MAX_CAPACITY)
             × (pos 1 ≤ℤ window)
             × (window ≤ℤ MAX_WINDOW) × (1 ≤ limit) × (limit ≤ MAX_LIMIT)) }
@@ -51,6 +62,7 @@ impl Options {
         ensures window { IfSome result (λ options. options.window ≡ window) }
         ensures limit { IfSome result (λ options. options.limit ≡ limit) }
         ensures style { IfSome result (λ options. options.style ≡ style) }
+        ensures reports { IfSome result (λ options. options.reports ≡ reports) }
     {
         if !(1..=MAX_CAPACITY).contains(&capacity)
             || !(1..=MAX_WINDOW).contains(&window)
@@ -63,6 +75,7 @@ impl Options {
             window,
             limit,
             style,
+            reports,
         })
     }
 }
@@ -70,7 +83,7 @@ impl Options {
 impl Default for Options {
     ghost is_default = { λ options. (options.capacity ≡ 16) × (options.window ≡ WINDOW)
         × (options.limit ≡ 1000000) × (options.style.form ≡ Words)
-        × (options.style.filter ≡ all_lines) };
+        × (options.style.filter ≡ all_lines) × (options.reports ≡ Asked) };
 
     fn default() -> Self {
         Options {
@@ -78,6 +91,7 @@ impl Default for Options {
             window: WINDOW,
             limit: 1_000_000,
             style: Style::all(Form::Words),
+            reports: Reports::Asked,
         }
     }
 }

@@ -19,7 +19,7 @@ use Rattle.replay_output.specs.Failures.{failure_lines, with_loss, IsClean, Noth
 use Rattle.replay_output.specs.Line.{answers_of, AreLines}
 use Rattle.replay_workers.specs.Run.{IsRun}
 use Rattle.replay_program.specs.Replayed.{IsReplayedBy, IsReplayedOver, Written, HasFailed, Took, TookBeginning, ending_of, RanAndFailed}
-use Rattle.replay_workers.specs.Worker.{TakesFrames}
+use Rattle.replay_workers.specs.Reporting.{TakesFrames}
 use Rattle.replay_workers.proofs.callers.Lists.{all_at, found}
 use Rattle.replay_program.proofs.Reporting.{from_one, each_said, all_said}
 
@@ -87,7 +87,7 @@ module _ (options : Options) (files : List (Option (List ℕ))) (received : List
             let all = served.all_batches whole in
             record {
               left = served.left;
-              frames = subst (λ (l : List Batch). TakesFrames bytes served.left l) all served.frames_read;
+              frames = subst (λ (l : List Batch). TakesFrames options.reports bytes served.left l) all served.frames_read;
               at_end = served.all_read all clean.0;
             };
         chain = run.chain;

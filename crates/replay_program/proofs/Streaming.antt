@@ -27,7 +27,7 @@ use Rattle.replay_stream.specs.Outlet.{TookText}
 use Rattle.replay_stream.specs.Recorder.{TookRecords, is_unwritten, unwritten_cause}
 use Rattle.replay_stream.specs.Sinks.{SinkState, Takes}
 use Rattle.replay_stream.specs.Streaming.{HasRecords, HaveRecords, IsStreamed, Recorded, recorded_each}
-use Rattle.replay_workers.specs.Worker.{TakesFrames}
+use Rattle.replay_workers.specs.Reporting.{TakesFrames}
 use Rattle.replay_workers.proofs.callers.Lists.{all_at, found}
 use Rattle.replay_program.specs.Replayed.{HasFailed, Took, Written, ending_of}
 use Rattle.replay_program.specs.Streamed.{IsStreamDone, StreamedAndFailed, state_after, state_before, unwritten_each}
@@ -137,7 +137,7 @@ module _ {W : Type 0} (state_of : W → SinkState) (options : Options) (files : 
               let all = one.all_batches whole (written proxy r.0 r.1) in
               record {
                 left = one.left;
-                frames = subst (λ (l : List Batch). TakesFrames bytes one.left l) all one.frames_read;
+                frames = subst (λ (l : List Batch). TakesFrames options.reports bytes one.left l) all one.frames_read;
                 at_end = one.all_read all clean.0;
               };
           chain = run.chain;

@@ -22,6 +22,7 @@ use Rattle.replay_output.specs.declared.failures.Ending.TheVariants.{Complete, I
 use Rattle.replay_output.specs.declared.failures.ProxyFailure.{ProxyFailure}
 use Rattle.replay_output.specs.declared.line.Line.{Line}
 use Rattle.replay_output.specs.declared.options.Options.{Options}
+use Rattle.replay_output.specs.declared.options.reports.Reports.{Reports}
 use Rattle.replay_output.specs.declared.start.StartError.{StartError}
 use Rattle.replay_program.specs.Checked.{check_lines, differences_of}
 use Rattle.replay_output.specs.Failures.{failure_lines, with_loss, NothingFailed}
@@ -29,12 +30,12 @@ use Rattle.replay_output.specs.Line.{TakesToSort, answers_of}
 use Rattle.replay_output.specs.Lines.{lines, entry_word, entry_json}
 use Rattle.replay_workers.specs.Run.{IsRun}
 use Rattle.replay_output.specs.Start.{start_line}
-use Rattle.replay_workers.specs.Worker.{TakesFrames}
+use Rattle.replay_workers.specs.Reporting.{TakesFrames}
 
--- the bytes are the frames of these batches, each once, in order, and nothing else
-pub record IsFileOf (bytes : Option (List ℕ)) (batches : List Batch) : Type 0 where
+-- The bytes are the frames of some batches, each once, in order, and nothing else. These are the batches that are resolved for them.
+pub record IsFileOf (reports : Reports) (bytes : Option (List ℕ)) (batches : List Batch) : Type 0 where
   pub left : Option (List ℕ)
-  pub frames : TakesFrames bytes left batches
+  pub frames : TakesFrames reports bytes left batches
   pub at_end : IsAtEnd left
 
 -- the answers of the reference resolver to this log, for each of n proxies
@@ -76,7 +77,7 @@ pub record IsReplayedOver (Printed : List Step → List (List Answer) → Type 0
   pub proxies : TakesOnlyFrom (length files) log
   pub each_file :
       (proxy : ℕ) (bytes : Option (List ℕ)) → slice_get files proxy ≡ Some bytes →
-      IsFileOf bytes (part log proxy)
+      IsFileOf options.reports bytes (part log proxy)
   -- each processed batch is of its file, and each reply is that of one of them
   pub from_files :
       (index : ℕ) (entry : Processed) → slice_get (run options.window log).processed index ≡ Some entry

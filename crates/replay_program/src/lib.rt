@@ -36,7 +36,7 @@ pub use replay_arguments::{
 };
 pub use replay_output::{
     AnswerError, Ending, Filter, Form, Line, Options, PackedText, PrintError, ProxyFailure, Report,
-    StartError, Status, Style, fail_to_start, print_answers, print_report, write_record,
+    Reports, StartError, Status, Style, fail_to_start, print_answers, print_report, write_record,
 };
 pub use replay_stream::Recorder;
 pub use replay_summary::SummaryForm;

@@ -7,6 +7,7 @@ use Rattle.std.proofs.lemmas.Option.{none-some, same_Some, slice_get-get_or}
 use Rattle.keyspace.specs.declared.answer.Answer.{Answer}
 use Rattle.lane.specs.Lane.{PortView, IntakeView}
 use Rattle.resolver.specs.declared.client.Client.{Client}
+use Rattle.replay_output.specs.declared.options.reports.Reports.{Reports}
 use Rattle.replay_stream.specs.declared.proxies.Task.{Task}
 use Rattle.replay_stream.specs.declared.recorder.Recorder.{Recorder}
 use Rattle.replay_stream.specs.Proxies.{GivenProxy, JoinsRecorder, given_proxies, given_with, threads_by}
@@ -29,71 +30,72 @@ zip_of R (x ∷ xs) (y ∷ ys) same each = (
 )
 
 -- what one proxy is given
-abbrev pub given_one : {S W : Type 0} → ℕ → Client → S → Option W → GivenProxy S W
-given_one proxy client reader out = record { proxy = proxy; client = client; reader = reader; out = out }
+abbrev pub given_one : {S W : Type 0} → Reports → ℕ → Client → S → Option W → GivenProxy S W
+given_one reports proxy client reader out =
+    record { proxy = proxy; client = client; reader = reader; reports = reports; out = out }
 
 -- one proxy more has its outlet
-pub given_also : {S W G : Type 0} (tasks after : List (Task S W G)) (task : Task S W G) (clients rest_clients : List Client)
+pub given_also : {S W G : Type 0} (reports : Reports) (tasks after : List (Task S W G)) (task : Task S W G) (clients rest_clients : List Client)
     (client : Client) (readers rest_readers : List S) (reader : S) (outs rest_outs : List (Option W)) (out : Option W)
     (all : List (GivenProxy S W)) (first next : ℕ)
-    → map (λ (t : Task S W G). given_with t.outlet (threads_by t)) tasks ++ given_proxies first clients readers outs ≡ all
+    → map (λ (t : Task S W G). given_with t.outlet (threads_by t)) tasks ++ given_proxies reports first clients readers outs ≡ all
     → clients ≡ client ∷ rest_clients → readers ≡ reader ∷ rest_readers → outs ≡ out ∷ rest_outs → after ≡ tasks ++ task ∷ []
-    → next ≡ first + 1 → given_with task.outlet (threads_by task) ≡ given_one first client reader out
-    → map (λ (t : Task S W G). given_with t.outlet (threads_by t)) after ++ given_proxies next rest_clients rest_readers rest_outs ≡ all
-given_also {S} {W} {G} tasks after task clients rest_clients client readers rest_readers reader outs rest_outs out all first next before cs rs
+    → next ≡ first + 1 → given_with task.outlet (threads_by task) ≡ given_one reports first client reader out
+    → map (λ (t : Task S W G). given_with t.outlet (threads_by t)) after ++ given_proxies reports next rest_clients rest_readers rest_outs ≡ all
+given_also {S} {W} {G} reports tasks after task clients rest_clients client readers rest_readers reader outs rest_outs out all first next before cs rs
     os pushed number given =
     let f = λ (t : Task S W G). given_with t.outlet (threads_by t) in
     let done = map f tasks in
-    let rest = λ (n : ℕ). given_proxies n rest_clients rest_readers rest_outs in
+    let rest = λ (n : ℕ). given_proxies reports n rest_clients rest_readers rest_outs in
     ap (λ (l : List (Task S W G)). map f l ++ rest next) pushed ∙ ap (λ (l : List (GivenProxy S W)). l ++ rest next) (map-append f tasks (task ∷ []))
     ∙ append_assoc done (f task ∷ []) (rest next) ∙ ap (λ (n : ℕ). done ++ f task ∷ rest n) number
     ∙ ap (λ (g : GivenProxy S W). done ++ g ∷ rest (first + 1)) given
-    ∙ ap (λ (l : List Client). done ++ given_proxies first l (reader ∷ rest_readers) (out ∷ rest_outs)) (sym cs)
-    ∙ ap (λ (l : List S). done ++ given_proxies first clients l (out ∷ rest_outs)) (sym rs)
-    ∙ ap (λ (l : List (Option W)). done ++ given_proxies first clients readers l) (sym os) ∙ before
+    ∙ ap (λ (l : List Client). done ++ given_proxies reports first l (reader ∷ rest_readers) (out ∷ rest_outs)) (sym cs)
+    ∙ ap (λ (l : List S). done ++ given_proxies reports first clients l (out ∷ rest_outs)) (sym rs)
+    ∙ ap (λ (l : List (Option W)). done ++ given_proxies reports first clients readers l) (sym os) ∙ before
 
 -- the number of the proxy at a place
-pub given_number : {S W : Type 0} (first : ℕ) (clients : List Client) (readers : List S) (outs : List (Option W)) (place : ℕ)
-    (g : GivenProxy S W) → slice_get (given_proxies first clients readers outs) place ≡ Some g → g.proxy ≡ first + place
-given_number first [] readers outs place g at = absurd (none-some g at)
-given_number first (c ∷ clients) [] outs place g at = absurd (none-some g at)
-given_number first (c ∷ clients) (r ∷ readers) [] place g at = absurd (none-some g at)
-given_number {S} {W} first (c ∷ clients) (r ∷ readers) (o ∷ outs) zero g at =
+pub given_number : {S W : Type 0} (reports : Reports) (first : ℕ) (clients : List Client) (readers : List S) (outs : List (Option W)) (place : ℕ)
+    (g : GivenProxy S W) → slice_get (given_proxies reports first clients readers outs) place ≡ Some g → g.proxy ≡ first + place
+given_number reports first [] readers outs place g at = absurd (none-some g at)
+given_number reports first (c ∷ clients) [] outs place g at = absurd (none-some g at)
+given_number reports first (c ∷ clients) (r ∷ readers) [] place g at = absurd (none-some g at)
+given_number {S} {W} reports first (c ∷ clients) (r ∷ readers) (o ∷ outs) zero g at =
     let number : first ≡ first + 0 = omega arith in
     sym (ap (λ (g : GivenProxy S W). g.proxy) (same_Some _ g at)) ∙ number
-given_number first (c ∷ clients) (r ∷ readers) (o ∷ outs) (suc place) g at =
+given_number reports first (c ∷ clients) (r ∷ readers) (o ∷ outs) (suc place) g at =
     let number : (first + 1) + place ≡ first + suc place = omega arith in
-    given_number (first + 1) clients readers outs place g at ∙ number
+    given_number reports (first + 1) clients readers outs place g at ∙ number
 
 -- both lists have something at a place, or neither
-pub length_given : {S W : Type 0} (first : ℕ) (clients : List Client) (readers : List S) (outs : List (Option W))
+pub length_given : {S W : Type 0} (reports : Reports) (first : ℕ) (clients : List Client) (readers : List S) (outs : List (Option W))
     → length readers ≡ length clients → length outs ≡ length clients
-    → length (given_proxies first clients readers outs) ≡ length clients
-length_given first [] readers outs same as_many = refl
-length_given first (c ∷ clients) [] outs same as_many = absurd (omega (arith, same))
-length_given first (c ∷ clients) (r ∷ readers) [] same as_many = absurd (omega (arith, as_many))
-length_given first (c ∷ clients) (r ∷ readers) (o ∷ outs) same as_many =
-    let rest = length_given (first + 1) clients readers outs (omega (arith, same)) (omega (arith, as_many)) in
+    → length (given_proxies reports first clients readers outs) ≡ length clients
+length_given reports first [] readers outs same as_many = refl
+length_given reports first (c ∷ clients) [] outs same as_many = absurd (omega (arith, same))
+length_given reports first (c ∷ clients) (r ∷ readers) [] same as_many = absurd (omega (arith, as_many))
+length_given reports first (c ∷ clients) (r ∷ readers) (o ∷ outs) same as_many =
+    let rest = length_given reports (first + 1) clients readers outs (omega (arith, same)) (omega (arith, as_many)) in
     omega (arith, rest)
 
 -- what the proxy at a place was given
-pub given_at : {S W : Type 0} (first : ℕ) (clients : List Client) (readers : List S) (outs : List (Option W))
+pub given_at : {S W : Type 0} (reports : Reports) (first : ℕ) (clients : List Client) (readers : List S) (outs : List (Option W))
     → length readers ≡ length clients → length outs ≡ length clients → (place : ℕ) (c : Client) (r : S) (o : Option W)
     → slice_get clients place ≡ Some c → slice_get readers place ≡ Some r → slice_get outs place ≡ Some o
-    → slice_get (given_proxies first clients readers outs) place
-    ≡ Some (record { proxy = first + place; client = c; reader = r; out = o })
-given_at first [] readers outs same as_many place c r o at_c at_r at_o = absurd (none-some c at_c)
-given_at first (d ∷ clients) [] outs same as_many place c r o at_c at_r at_o = absurd (omega (arith, same))
-given_at first (d ∷ clients) (s ∷ readers) [] same as_many place c r o at_c at_r at_o = absurd (omega (arith, as_many))
-given_at {S = S} {W = W} first (d ∷ clients) (s ∷ readers) (p ∷ outs) same as_many zero c r o at_c at_r at_o =
+    → slice_get (given_proxies reports first clients readers outs) place
+    ≡ Some (record { proxy = first + place; client = c; reader = r; reports = reports; out = o })
+given_at reports first [] readers outs same as_many place c r o at_c at_r at_o = absurd (none-some c at_c)
+given_at reports first (d ∷ clients) [] outs same as_many place c r o at_c at_r at_o = absurd (omega (arith, same))
+given_at reports first (d ∷ clients) (s ∷ readers) [] same as_many place c r o at_c at_r at_o = absurd (omega (arith, as_many))
+given_at {S = S} {W = W} reports first (d ∷ clients) (s ∷ readers) (p ∷ outs) same as_many zero c r o at_c at_r at_o =
     let number : first ≡ first + 0 = omega arith in
-    ap (λ (n : ℕ). Some (given_one n d s p)) number
-    ∙ ap (λ (c : Client). Some (given_one (first + 0) c s p)) (same_Some d c at_c)
-    ∙ ap (λ (r : S). Some (given_one (first + 0) c r p)) (same_Some s r at_r)
-    ∙ ap (λ (o : Option W). Some (given_one (first + 0) c r o)) (same_Some p o at_o)
-given_at {S = S} {W = W} first (d ∷ clients) (s ∷ readers) (p ∷ outs) same as_many (suc place) c r o at_c at_r at_o =
-    given_at (first + 1) clients readers outs (omega (arith, same)) (omega (arith, as_many)) place c r o at_c at_r at_o
-    ∙ ap (λ (n : ℕ). Some (given_one n c r o)) (omega arith)
+    ap (λ (n : ℕ). Some (given_one reports n d s p)) number
+    ∙ ap (λ (c : Client). Some (given_one reports (first + 0) c s p)) (same_Some d c at_c)
+    ∙ ap (λ (r : S). Some (given_one reports (first + 0) c r p)) (same_Some s r at_r)
+    ∙ ap (λ (o : Option W). Some (given_one reports (first + 0) c r o)) (same_Some p o at_o)
+given_at {S = S} {W = W} reports first (d ∷ clients) (s ∷ readers) (p ∷ outs) same as_many (suc place) c r o at_c at_r at_o =
+    given_at reports (first + 1) clients readers outs (omega (arith, same)) (omega (arith, as_many)) place c r o at_c at_r at_o
+    ∙ ap (λ (n : ℕ). Some (given_one reports n c r o)) (omega arith)
 
 -- what the relation says at a place
 pub zip_at : {X Y : Type 0} (R : X → Y → Type 0) (xs : List X) (ys : List Y) (place : ℕ) (x : X) (y : Y)

@@ -17,6 +17,7 @@ use Rattle.resolver.specs.Settled.{Settled}
 use Rattle.replay_output.specs.declared.failures.ProxyFailure.{ProxyFailure}
 use Rattle.replay_output.specs.declared.options.style.Style.{Style}
 use Rattle.replay_output.specs.declared.options.Options.{Options}
+use Rattle.replay_output.specs.declared.options.reports.Reports.{Reports}
 use Rattle.replay_output.specs.Streamed.{Printed, printed_for, stream_text}
 use Rattle.replay_stream.specs.declared.outlet.Outlet.{Outlet}
 use Rattle.replay_stream.specs.declared.proxies.Proxy.{Proxy}
@@ -44,18 +45,20 @@ use Rattle.replay_stream.specs.Proxies.{
 }
 use Rattle.replay_workers.specs.Stops.{IsStopOf}
 use Rattle.replay_stream.specs.Streaming.{HaveRecords, IsStreamed, IsStreamedFor, LeavesLast, Recorded, recorded_each}
-use Rattle.replay_workers.specs.Worker.{ClientGoesOn, TakesFrames}
+use Rattle.replay_workers.specs.Reporting.{TakesFrames}
+use Rattle.replay_workers.specs.Worker.{ClientGoesOn}
 use Rattle.replay_stream.specs.Sinks.{SinkState}
 use Rattle.replay_workers.proofs.callers.Lists.{all_at, found, mapped_at, both}
 use Rattle.replay_stream.proofs.Places.{all_of, from_map, given_at, given_one, given_number, has_recorder, is_recorded, length_given, length_recorded, recorded_at, zip_at, zip_of}
 use Rattle.replay_stream.proofs.Streams.{ends_of, recorded_of, streamed_for}
 
-module _ {S W G : Type 0} (readers : List S) (outs : List (Option W)) (clients : List Client) (tasks : List (Task S W G))
+module _ {S W G : Type 0} (reports : Reports) (readers : List S) (outs : List (Option W)) (clients : List Client) (tasks : List (Task S W G))
     (same : length readers ≡ length clients) (as_many : length outs ≡ length clients)
-    (given : map (λ (t : Task S W G). given_with t.outlet (threads_by t)) tasks ≡ given_proxies 0 clients readers outs) where
+    (given : map (λ (t : Task S W G). given_with t.outlet (threads_by t)) tasks ≡ given_proxies reports 0 clients readers outs)
+    where
   pub tasks_count : length tasks ≡ length clients
   tasks_count = sym (length-map tasks (λ (t : Task S W G). given_with t.outlet (threads_by t))) ∙ ap length given
-      ∙ length_given 0 clients readers outs same as_many
+      ∙ length_given reports 0 clients readers outs same as_many
 
   -- what one proxy was given
   pub record Place (proxy : ℕ) (task : Task S W G) : Type 0 where
@@ -65,10 +68,10 @@ module _ {S W G : Type 0} (readers : List S) (outs : List (Option W)) (clients :
     pub at_reader : slice_get readers proxy ≡ Some reader
     pub out : Option W
     pub at_out : slice_get outs proxy ≡ Some out
-    pub was_given : given_with task.outlet (threads_by task) ≡ record { proxy = proxy; client = client; reader = reader; out = out }
+    pub was_given : given_with task.outlet (threads_by task) ≡ record { proxy = proxy; client = client; reader = reader; reports = reports; out = out }
 
   given_here : (proxy : ℕ) (task : Task S W G) → slice_get tasks proxy ≡ Some task
-      → slice_get (given_proxies 0 clients readers outs) proxy ≡ Some (given_with task.outlet (threads_by task))
+      → slice_get (given_proxies reports 0 clients readers outs) proxy ≡ Some (given_with task.outlet (threads_by task))
   given_here proxy task at =
       ap (λ l. slice_get l proxy) (sym given)
       ∙ mapped_at (λ (t : Task S W G). given_with t.outlet (threads_by t)) tasks proxy task at
@@ -87,8 +90,8 @@ module _ {S W G : Type 0} (readers : List S) (outs : List (Option W)) (clients :
         out = o.0;
         at_out = o.1;
         was_given =
-            same_Some _ _ (sym (given_here proxy task at) ∙ given_at 0 clients readers outs same as_many proxy c.0 r.0 o.0 c.1 r.1 o.1)
-            ∙ ap (λ (n : ℕ). given_one n c.0 r.0 o.0) number;
+            same_Some _ _ (sym (given_here proxy task at) ∙ given_at reports 0 clients readers outs same as_many proxy c.0 r.0 o.0 c.1 r.1 o.1)
+            ∙ ap (λ (n : ℕ). given_one reports n c.0 r.0 o.0) number;
       }
 
   pub are_numbered : AreNumbered (map (λ (t : Task S W G). t.outlet) tasks)
@@ -96,7 +99,7 @@ module _ {S W G : Type 0} (readers : List S) (outs : List (Option W)) (clients :
       let t = from_map (λ (t : Task S W G). t.outlet) tasks proxy l at in
       let number : 0 + proxy ≡ proxy = omega arith in
       ap (λ (l : Outlet). l.proxy) (sym t.2)
-      ∙ given_number 0 clients readers outs proxy (given_with t.0.outlet (threads_by t.0)) (given_here proxy t.0 t.1) ∙ number
+      ∙ given_number reports 0 clients readers outs proxy (given_with t.0.outlet (threads_by t.0)) (given_here proxy t.0 t.1) ∙ number
 
   module _ (style : Style) (has_failed : Bool) (before after : SinkState) (ended : List (Proxy S W))
       (fresh : All (λ (t : Task S W G). IsNewOutlet t.outlet (threads_by t).answers) tasks)
@@ -159,6 +162,7 @@ module _ {S W G : Type 0} (readers : List S) (outs : List (Option W)) (clients :
         pub requests : (threads_by ran.task).requests ≡ place.client.requests
         pub replies : ran.task.outlet.replies ≡ place.client.replies
         pub reader : (threads_by ran.task).reader ≡ place.reader
+        pub reports_are : (threads_by ran.task).reports ≡ reports
         pub out : (threads_by ran.task).out ≡ place.out
 
       pub known_at : (proxy : ℕ) (j : Joined W) → slice_get joined proxy ≡ Some j → Known proxy j
@@ -176,6 +180,7 @@ module _ {S W G : Type 0} (readers : List S) (outs : List (Option W)) (clients :
             requests = ap (λ (g : GivenProxy S W). g.client.requests) place.was_given;
             replies = ap (λ (g : GivenProxy S W). g.client.replies) place.was_given;
             reader = ap (λ (g : GivenProxy S W). g.reader) place.was_given;
+            reports_are = ap (λ (g : GivenProxy S W). g.reports) place.was_given;
             out = ap (λ (g : GivenProxy S W). g.out) place.was_given;
           }
 
@@ -218,8 +223,8 @@ module _ {S W G : Type 0} (readers : List S) (outs : List (Option W)) (clients :
           ∙ has_recorder state_of (threads_by known.ran.task).out (threads_by known.ran.task).answers _ _ j.0.recorder known.has.recorder
           ∙ ap is_some (known.out ∙ out_is) ∙ o.2
 
-      module _ (options : Options) (style_is : style ≡ options.style) (log : List Step) (lanes : List Lanes) (account : Account)
-          (streamed : Streamed W) (new : All (IsNewClient options.capacity) clients)
+      module _ (options : Options) (style_is : style ≡ options.style) (reports_is : reports ≡ options.reports) (log : List Step)
+          (lanes : List Lanes) (account : Account) (streamed : Streamed W) (new : All (IsNewClient options.capacity) clients)
           (settled : Settled options.window log lanes (map client_of joined) account)
           (whole : account.stop ≡ None → account.complete ≡ true) (of_joined : IsStreamedOf joined streamed) where
         abbrev complete : Bool
@@ -229,23 +234,26 @@ module _ {S W G : Type 0} (readers : List S) (outs : List (Option W)) (clients :
         bytes_of proxy j known = remaining known.place.reader
 
         streamed_at : (proxy : ℕ) (j : Joined W) (at : slice_get joined proxy ≡ Some j) (known : Known proxy j)
-            → IsStreamedFor options.window log complete has_failed account.stop (bytes_of proxy j known) proxy
+            → IsStreamedFor options.reports options.window log complete has_failed account.stop (bytes_of proxy j known) proxy
             (printed_for proxy goes.printed) (failure_with j) (recorded_of state_of known.place.out j.recorder)
         streamed_at proxy j at known =
             let ran = known.ran in
             let client = all_at (IsNewClient options.capacity) clients proxy known.place.client new known.place.at_client in
             let here = mapped_at client_of joined proxy j at in
-            subst (λ (o : Option W). IsStreamedFor options.window log complete has_failed account.stop (bytes_of proxy j known)
+            subst (λ (o : Option W). IsStreamedFor options.reports options.window log complete has_failed account.stop (bytes_of proxy j known)
             proxy (printed_for proxy goes.printed) (failure_with j) (recorded_of state_of o j.recorder)) known.out
-            (subst (λ (r : S). IsStreamedFor options.window log complete has_failed account.stop (remaining r)
+            (subst (λ (r : S). IsStreamedFor options.reports options.window log complete has_failed account.stop (remaining r)
             proxy (printed_for proxy goes.printed) (failure_with j) (recorded_of state_of (threads_by ran.task).out j.recorder))
             known.reader
+            (subst (λ (r : Reports). IsStreamedFor r options.window log complete has_failed account.stop
+            (remaining (threads_by ran.task).reader) proxy (printed_for proxy goes.printed) (failure_with j)
+            (recorded_of state_of (threads_by ran.task).out j.recorder)) (known.reports_are ∙ reports_is)
             (streamed_for state_of remaining options.window log (has_ended lanes proxy) streamed.all_sent has_failed (sent_to lanes proxy) account
             proxy (threads_by ran.task) ran.task.outlet known.running.outlet j (printed_for proxy goes.printed) ran.dropped
             (ap (λ (p : PortView Batch). p.sent) (known.requests ∙ client.requests))
             (ap (λ (i : IntakeView Answer). i.taken) (known.replies ∙ client.replies)) ran.is_new.none_waits ran.is_new.ends ran.goes_on
             ran.has_passed known.has (settled.each proxy (client_of j) here) (settled.reported proxy (client_of j) here)
-            (λ all. all_at SendsAll joined proxy j (of_joined.all_sent all) at) whole))
+            (λ all. all_at SendsAll joined proxy j (of_joined.all_sent all) at) whole)))
 
         -- the reader at a place is that of its proxy
         bytes_are : (proxy : ℕ) (bytes : Option (List ℕ)) (j : Joined W) (known : Known proxy j)
@@ -254,7 +262,7 @@ module _ {S W G : Type 0} (readers : List S) (outs : List (Option W)) (clients :
             same_Some _ bytes (sym (mapped_at remaining readers proxy known.place.reader known.place.at_reader) ∙ at)
 
         -- without a stop, what is missing is a batch that was not sent
-        leaves : complete ≡ false → account.stop ≡ None → LeavesLast (map remaining readers) log
+        leaves : complete ≡ false → account.stop ≡ None → LeavesLast options.reports (map remaining readers) log
         leaves not_all no_stop =
             let yes = whole no_stop in
             let not_sent : streamed.all_sent ≡ false = sym (ap (λ (b : Bool). b && streamed.all_sent) yes) ∙ not_all in
@@ -273,11 +281,15 @@ module _ {S W G : Type 0} (readers : List S) (outs : List (Option W)) (clients :
               batch = back.batch;
               left = sends.left;
               read =
-                  subst (λ (r : S). TakesFrames (remaining r) sends.left (part log back.place ++ back.batch ∷ [])) known.reader
-                  (subst (λ (l : List Batch). TakesFrames (remaining (threads_by known.ran.task).reader) sends.left (l ++ back.batch ∷ []))
-                  sent
-                  (subst (λ (u : Option Batch). TakesFrames (remaining (threads_by known.ran.task).reader) sends.left
-                  (sends.batches ++ option_to_list u)) back.unsent sends.frames));
+                  subst (λ (r : S). TakesFrames options.reports (remaining r) sends.left (part log back.place ++ back.batch ∷ []))
+                  known.reader
+                  (subst (λ (r : Reports). TakesFrames r (remaining (threads_by known.ran.task).reader) sends.left
+                  (part log back.place ++ back.batch ∷ [])) (known.reports_are ∙ reports_is)
+                  (subst (λ (l : List Batch). TakesFrames (threads_by known.ran.task).reports (remaining (threads_by known.ran.task).reader)
+                  sends.left (l ++ back.batch ∷ [])) sent
+                  (subst (λ (u : Option Batch). TakesFrames (threads_by known.ran.task).reports
+                  (remaining (threads_by known.ran.task).reader) sends.left (sends.batches ++ option_to_list u)) back.unsent
+                  sends.frames)));
             }
 
         recorded_here : (proxy : ℕ) (j : Joined W) → slice_get joined proxy ≡ Some j → (known : Known proxy j)
@@ -327,12 +339,12 @@ module _ {S W G : Type 0} (readers : List S) (outs : List (Option W)) (clients :
                   let known = known_at proxy j.0 j.1 in
                   let failure_here : slice_get streamed.failures.items proxy ≡ Some (failure_with j.0) =
                   ap (λ l. slice_get l proxy) of_joined.failures ∙ mapped_at failure_with joined proxy j.0 j.1 in
-                  subst (λ (r : Option Recorded). IsStreamedFor options.window log complete has_failed account.stop bytes proxy
+                  subst (λ (r : Option Recorded). IsStreamedFor options.reports options.window log complete has_failed account.stop bytes proxy
                   (printed_for proxy goes.printed) failure r) (same_Some _ r (sym (recorded_here proxy j.0 j.1 known) ∙ r_at))
-                  (subst (λ (failure : ProxyFailure). IsStreamedFor options.window log complete has_failed account.stop bytes proxy
+                  (subst (λ (failure : ProxyFailure). IsStreamedFor options.reports options.window log complete has_failed account.stop bytes proxy
                   (printed_for proxy goes.printed) failure (recorded_of state_of known.place.out j.0.recorder))
                   (same_Some (failure_with j.0) failure (sym failure_here ∙ failure_at))
-                  (subst (λ (bytes : Option (List ℕ)). IsStreamedFor options.window log complete has_failed account.stop bytes proxy
+                  (subst (λ (bytes : Option (List ℕ)). IsStreamedFor options.reports options.window log complete has_failed account.stop bytes proxy
                   (printed_for proxy goes.printed) (failure_with j.0) (recorded_of state_of known.place.out j.0.recorder))
                   (bytes_are proxy bytes j.0 known at) (streamed_at proxy j.0 j.1 known)));
               text = subst (λ (f : Style). TookText has_failed before after (stream_text f goes.printed)) style_is (goes.text refl);

@@ -106,7 +106,7 @@ module _ {W : Type 0} (state_of : W → SinkState) where
       → ((version : ℤ) (j : ℕ) → ReportsCommitted (client_of joined).replies.taken version j
       → IsCommittedAt (run window log).processed proxy version j)
       → (all_sent ≡ true → SendsAll joined) → (account.stop ≡ None → account.complete ≡ true)
-      → IsStreamedFor window log (account.complete && all_sent) has_failed account.stop (remaining threads.reader) proxy printed
+      → IsStreamedFor threads.reports window log (account.complete && all_sent) has_failed account.stop (remaining threads.reader) proxy printed
       (failure_with joined) (recorded_of state_of threads.out joined.recorder)
   streamed_for {S} remaining window log ended all_sent has_failed answers_sent account proxy threads first old joined printed dropped
       none_sent none_taken none_waited ends goes passed has settled reported sent_all whole =

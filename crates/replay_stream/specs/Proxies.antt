@@ -12,39 +12,45 @@ use Rattle.replay_stream.specs.declared.recorder.Recorder.{Recorder}
 use Rattle.replay_stream.specs.declared.sender.Sent.{Sent}
 use Rattle.replay_stream.specs.declared.streamed.Streamed.{Streamed}
 use Rattle.replay_output.specs.declared.failures.ProxyFailure.{ProxyFailure}
+use Rattle.replay_output.specs.declared.options.reports.Reports.{Reports}
 use Rattle.replay_output.specs.declared.stream.AnswerError.TheVariants.{Write}
 use Rattle.replay_stream.specs.Recorder.{WritesRecords, is_refused, is_unwritten, unwritten_cause}
 use Rattle.replay_stream.specs.Sender.{HasSent}
 use Rattle.replay_stream.specs.Sinks.{SinkState}
 
--- what a proxy is given: its client, the reader of its file, and the writer of its records, if there is one
+-- what a proxy is given: its client, the reader of its file, which of its transactions report, and the writer of its records, if there is
+-- one
 pub record GivenProxy (S W : Type 0) : Type 0 where
   pub proxy : ℕ
   pub client : Client
   pub reader : S
+  pub reports : Reports
   pub out : Option W
 
--- what its threads are given: the sender's port and reader, and the recorder's intake and writer
+-- what its threads are given: the sender's port and reader, and which transactions report; the recorder's intake and writer
 pub record GivenThreads (S W : Type 0) : Type 0 where
   pub requests : PortView Batch
   pub reader : S
+  pub reports : Reports
   pub answers : Option (IntakeView Answer)
   pub out : Option W
 
 module _ {S W : Type 0} where
   -- from this proxy on, each is given what is at its place
-  abbrev pub given_proxies : ℕ → List Client → List S → List (Option W) → List (GivenProxy S W)
-  given_proxies proxy (client ∷ clients) (reader ∷ readers) (out ∷ outs) =
-      record { proxy = proxy; client = client; reader = reader; out = out } ∷ given_proxies (proxy + 1) clients readers outs
-  given_proxies proxy (client ∷ clients) (reader ∷ readers) [] = []
-  given_proxies proxy (client ∷ clients) [] outs = []
-  given_proxies proxy [] readers outs = []
+  abbrev pub given_proxies : Reports → ℕ → List Client → List S → List (Option W) → List (GivenProxy S W)
+  given_proxies reports proxy (client ∷ clients) (reader ∷ readers) (out ∷ outs) =
+      record { proxy = proxy; client = client; reader = reader; reports = reports; out = out }
+      ∷ given_proxies reports (proxy + 1) clients readers outs
+  given_proxies reports proxy (client ∷ clients) (reader ∷ readers) [] = []
+  given_proxies reports proxy (client ∷ clients) [] outs = []
+  given_proxies reports proxy [] readers outs = []
 
   -- what the threads of a task must get
   abbrev pub threads_by : {G : Type 0} → Task S W G → GivenThreads S W
   threads_by task = record {
     requests = task.sender.requests;
     reader = task.sender.reader;
+    reports = task.sender.reports;
     answers = option_map (λ r. r.answers) task.recorder;
     out = option_map (λ r. r.out) task.recorder;
   }
@@ -54,6 +60,7 @@ module _ {S W : Type 0} where
   threads_of proxy = record {
     requests = proxy.sender.handle.promise.requests.value;
     reader = proxy.sender.handle.promise.reader.value;
+    reports = proxy.sender.handle.promise.reports;
     answers = option_map (λ r. r.handle.promise.answers.value) proxy.recorder;
     out = option_map (λ r. r.handle.promise.out.value) proxy.recorder;
   }
@@ -64,6 +71,7 @@ module _ {S W : Type 0} where
     proxy = outlet.proxy;
     client = record { requests = threads.requests; replies = outlet.replies };
     reader = threads.reader;
+    reports = threads.reports;
     out = threads.out;
   }
 
@@ -109,7 +117,7 @@ pub record Joined (W : Type 0) : Type 0 where
 module _ {S W : Type 0} (remaining : S → Option (List ℕ)) (state_of : W → SinkState) where
   -- what the threads of a proxy have done, and its outlet
   pub record HasJoined (outlet : Outlet) (threads : GivenThreads S W) (joined : Joined W) : Type 0 where
-    pub sent : HasSent (remaining threads.reader) threads.requests joined.sent
+    pub sent : HasSent threads.reports (remaining threads.reader) threads.requests joined.sent
     pub outlet_is : joined.outlet ≡ record outlet { records = joined.outlet.records }
     pub recorder :
         JoinsRecorder state_of threads.out threads.answers outlet.records joined.outlet.records joined.recorder

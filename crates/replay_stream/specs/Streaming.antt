@@ -15,6 +15,7 @@ use Rattle.resolver.specs.Core.{IsBeginning}
 use Rattle.resolver.specs.Resolver.{TakesOnlyFrom, FinishesLast}
 use Rattle.replay_output.specs.declared.failures.ProxyFailure.{ProxyFailure}
 use Rattle.replay_output.specs.declared.options.Options.{Options}
+use Rattle.replay_output.specs.declared.options.reports.Reports.{Reports}
 use Rattle.replay_output.specs.declared.stream.AnswerError.{AnswerError}
 use Rattle.replay_output.specs.declared.stream.AnswerError.TheVariants as answer
 use Rattle.replay_output.specs.Streamed.{Printed, printed_for, stream_text}
@@ -23,7 +24,7 @@ use Rattle.replay_stream.specs.declared.recorder.Recorder.{Recorder}
 use Rattle.replay_stream.specs.Outlet.{TookText}
 use Rattle.replay_stream.specs.Sinks.{SinkState}
 use Rattle.replay_workers.specs.Stops.{IsStopOf}
-use Rattle.replay_workers.specs.Worker.{TakesFrames}
+use Rattle.replay_workers.specs.Reporting.{TakesFrames}
 
 -- the writer of a proxy's records: what it reported before and after, and why a record was not written
 pub record Recorded : Type 0 where
@@ -50,12 +51,12 @@ pub record HasRecords (own : List Answer) (recorded : Recorded) : Type 0 where
   pub given : TookRecords recorded.failure recorded.before recorded.after written
 
 -- What became of one proxy: its batches, its answers, which of them were printed, and which were recorded.
-pub record IsStreamedFor (window : ℤ) (log : List Step) (complete failed : Bool) (stop : Option Stop) (bytes : Option (List ℕ))
-    (proxy : ℕ) (printed : List Answer) (failure : ProxyFailure) (recorded : Option Recorded) : Type 0 where
-  -- these batches were read, from the frames at the front, and these bytes are left
+pub record IsStreamedFor (reports : Reports) (window : ℤ) (log : List Step) (complete failed : Bool) (stop : Option Stop)
+    (bytes : Option (List ℕ)) (proxy : ℕ) (printed : List Answer) (failure : ProxyFailure) (recorded : Option Recorded) : Type 0 where
+  -- these batches are resolved for those that were read, from the frames at the front, and these bytes are left
   pub read : List Batch
   pub left : Option (List ℕ)
-  pub frames_read : TakesFrames bytes left read
+  pub frames_read : TakesFrames reports bytes left read
   -- the log holds them once, in order; all of them if all is complete and the writer of records hasn't failed, whatever fault the
   -- file has
   pub batches : IsBeginning (part log proxy) read
@@ -84,13 +85,13 @@ pub record IsStreamedFor (window : ℤ) (log : List Step) (complete failed : Boo
 
 -- Of some file, a batch was read that the log doesn't take: it was the last that was read, and was not sent. The log holds those before
 -- it.
-pub record LeavesLast (files : List (Option (List ℕ))) (log : List Step) : Type 0 where
+pub record LeavesLast (reports : Reports) (files : List (Option (List ℕ))) (log : List Step) : Type 0 where
   pub proxy : ℕ
   pub bytes : Option (List ℕ)
   pub of_proxy : slice_get files proxy ≡ Some bytes
   pub batch : Batch
   pub left : Option (List ℕ)
-  pub read : TakesFrames bytes left (part log proxy ++ batch ∷ [])
+  pub read : TakesFrames reports bytes left (part log proxy ++ batch ∷ [])
 
 -- the proxies that have a writer of records have one of these, and no others
 abbrev pub HaveRecords : {X : Type 0} → List Bool → List (Option X) → Type 0
@@ -112,7 +113,7 @@ pub record IsStreamed (options : Options) (files : List (Option (List ℕ))) (ha
   pub each :
       (proxy : ℕ) (bytes : Option (List ℕ)) (failure : ProxyFailure) (r : Option Recorded) →
       slice_get files proxy ≡ Some bytes → slice_get failures proxy ≡ Some failure → slice_get recorded proxy ≡ Some r →
-      IsStreamedFor options.window log complete failed stop bytes proxy (printed_for proxy printed) failure r
+      IsStreamedFor options.reports options.window log complete failed stop bytes proxy (printed_for proxy printed) failure r
   -- standard output was given the lines of the answers that were printed, each if it is shown, or a prefix of them if it has failed
   pub text : TookText failed before after (stream_text options.style printed)
   -- what was processed follows the chain of versions
@@ -123,6 +124,6 @@ pub record IsStreamed (options : Options) (files : List (Option (List ℕ))) (ha
   pub finish : stop ≡ None → FinishesLast log
   -- if all is complete, no stop was met; if neither is so, a batch that was read was not sent
   pub no_stop : complete ≡ true → stop ≡ None
-  pub incomplete : complete ≡ false → stop ≡ None → LeavesLast files log
+  pub incomplete : complete ≡ false → stop ≡ None → LeavesLast options.reports files log
   -- the stop is that of the log
   pub met : IfSome stop (IsStopOf options.limit options.window log)

@@ -3,7 +3,6 @@
 ghost use Rattle.std.specs.Prelude.{◌≡◌, ◌≤◌, List, [], map, option_map, vec_len, vec_capacity};
 ghost use Rattle.std.specs.Prelude.{IfOk};
 ghost use Rattle.std.specs.List.{All, AllZip};
-ghost use Rattle.lane.specs.declared.ends.TheConstants.{MAX_CAPACITY};
 ghost use Rattle.replay_stream.specs.Outlet.{HavePassedAll, IsClosed};
 ghost use Rattle.replay_stream.specs.Proxies.{AreEnds, IsJoined, IsNewOutlet, IsStreamedOf};
 ghost use Rattle.replay_stream.specs.Proxies.{Joined, JoinsRecorder, given_proxies, given_with};
@@ -57,7 +56,7 @@ pub fn connect_all<S: Drop, W: Drop, G: Drop>(
     requires records { vec_len records ≡ vec_len clients }
     ensures given { IfOk result (λ tasks.
         map (λ task. given_with task.outlet (threads_by task)) tasks.items
-        ≡ given_proxies 0 clients.items readers.items records.items) }
+        ≡ given_proxies options.reports 0 clients.items readers.items records.items) }
     ensures new { IfOk result (λ tasks. All (λ task.
         IsNewOutlet task.outlet (threads_by task).answers) tasks.items) }
 {
@@ -80,7 +79,7 @@ pub fn connect_all<S: Drop, W: Drop, G: Drop>(
         let gatekeeper = Arc::try_clone(gatekeeper)?;
         let task = connect(
             alloc,
-            options.capacity,
+            options,
             assignment,
             client,
             reader,
@@ -95,19 +94,18 @@ pub fn connect_all<S: Drop, W: Drop, G: Drop>(
 // Makes the outlet of a proxy. If it has a writer of records, a lane leads to its recorder.
 fn connect<S: Drop, W: Drop, G: Drop>(
     alloc: Global,
-    capacity: usize,
+    options: Options,
     assignment: Assignment,
     client: Client,
     reader: S,
     out: Option<W>,
     gatekeeper: Arc<G, Global>,
 ) -> Result<Task<S, W, G>, AllocError>
-    requires least_capacity { 1 ≤ capacity }
-    requires most_capacity { capacity ≤ MAX_CAPACITY }
     ensures given { IfOk result (λ task. given_with task.outlet (threads_by task) ≡ record {
       proxy = assignment.proxy;
       client = client;
       reader = reader;
+      reports = options.reports;
       out = out;
     }) }
     ensures new { IfOk result (λ task. IsNewOutlet task.outlet (threads_by task).answers) }
@@ -125,7 +123,7 @@ fn connect<S: Drop, W: Drop, G: Drop>(
     let recorder = match out {
         None => None,
         Some(out) => {
-            let Ok((port, answers)) = lane(alloc, capacity) else {
+            let Ok((port, answers)) = lane(alloc, options.capacity) else {
                 return Err(AllocError);
             };
             outlet.records = Some(port);
@@ -140,6 +138,7 @@ fn connect<S: Drop, W: Drop, G: Drop>(
         assignment,
         requests,
         reader,
+        reports: options.reports,
         gatekeeper,
         progress,
     };

@@ -71,6 +71,7 @@ pub fn run_stream<
         window,
         limit,
         style,
+        ..
     } = options;
     let (mut resolver, clients) = open(alloc, count, capacity, window, limit)?;
     let tasks = connect_all(alloc, options, readers, records, clients, gatekeeper)?;

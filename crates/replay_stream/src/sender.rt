@@ -5,18 +5,21 @@ ghost use Rattle.std.specs.Prelude.{IsTrue, OnOk, OnErr, IfErr};
 ghost use Rattle.flow.specs.Share.{unanswered};
 ghost use Rattle.lane.specs.Lane.{PortGoesOn};
 ghost use Rattle.lane.specs.Refused.{item_of};
-ghost use Rattle.wire.specs.Frames.{frames_reader, refusal_of};
-ghost use Rattle.replay_workers.specs.Worker.{SendsFrames, batch_of, fault_of, unsent_of};
+ghost use Rattle.replay_workers.specs.Reporting.{SendsFrames};
+ghost use Rattle.replay_workers.specs.Worker.{SendsBatches, batch_of, fault_of, unsent_of};
 ghost use Rattle.replay_stream.specs.Sender.{HasSent};
 
 use crate::progress::Progress;
 use flow::{Stand, is_below_share};
 use keyspace::Batch;
 use lane::{Port, Refused};
-use replay_workers::{Assignment, FileEnd, Gatekeeper, Leftover, ShareKeeper, pause};
+use replay_output::Reports;
+use replay_workers::{
+    Assignment, Batches, FileEnd, Gatekeeper, Leftover, ShareKeeper, pause, read_asking,
+};
 use std::alloc::Global;
 use std::sync::Wait;
-use wire::{Frames, Source, WireError, read_frames};
+use wire::{Source, WireError, read_frames};
 
 /// What a sender returns.
 #[derive(Drop)]
@@ -40,7 +43,8 @@ struct Sender {
 }
 
 /// Sends the batches of the frames of a file, in order, up to the file's end or its fault, and
-/// closes the lane. Once it is told to, it sends no more.
+/// closes the lane. Once it is told to, it sends no more. Their transactions ask for their reports
+/// as in the file, or all of them do.
 ///
 /// If as many of its batches are unanswered as its share, it stands: it sends the next one only if
 /// the gatekeeper lets it through, or once an answer was taken.
@@ -50,10 +54,11 @@ pub fn send_all<S: Source + Drop, G: Gatekeeper + ShareKeeper, R: Wait>(
     assignment: Assignment,
     requests: Port<Batch>,
     reader: S,
+    reports: Reports,
     gatekeeper: &G,
     progress: &Progress,
 ) -> Sent
-    ensures sent { HasSent (S.remaining reader) requests result }
+    ensures sent { HasSent reports (S.remaining reader) requests result }
 {
     let Assignment { proxy, share, .. } = assignment;
     let mut sender = Sender {
@@ -62,28 +67,54 @@ pub fn send_all<S: Source + Drop, G: Gatekeeper + ShareKeeper, R: Wait>(
         share,
         place: 0,
     };
-    let end = sender.send_frames(rt, gatekeeper, progress, &mut read_frames(alloc, reader));
+    let end = sender.send_file(rt, alloc, gatekeeper, progress, reader, reports);
     sender.requests.close();
     gatekeeper.closed(proxy);
     sender.finish(end)
 }
 
 impl Sender {
-    // Sends the batches of the frames, in order.
-    fn send_frames<S: Source, G: Gatekeeper + ShareKeeper, R: Wait>(
+    // Sends the batches of the file, in order.
+    fn send_file<S: Source + Drop, G: Gatekeeper + ShareKeeper, R: Wait>(
+        &mut self,
+        rt: &R,
+        alloc: Global,
+        gatekeeper: &G,
+        progress: &Progress,
+        reader: S,
+        reports: Reports,
+    ) -> FileEnd
+        ensures requests { PortGoesOn self.old.requests self.new.requests }
+        ensures sent { SendsFrames reports (S.remaining reader) self.old.requests.sent
+            self.new.requests.sent (fault_of result) (unsent_of result) }
+    {
+        match reports {
+            Reports::Asked => {
+                let mut frames = read_frames(alloc, reader);
+                self.send_batches(rt, gatekeeper, progress, &mut frames)
+            }
+            Reports::All => {
+                let mut asking = read_asking(alloc, reader);
+                self.send_batches(rt, gatekeeper, progress, &mut asking)
+            }
+        }
+    }
+
+    // Sends the batches of the stream, in order.
+    fn send_batches<B: Batches, G: Gatekeeper + ShareKeeper, R: Wait>(
         &mut self,
         rt: &R,
         gatekeeper: &G,
         progress: &Progress,
-        frames: &mut Frames<S>,
+        batches: &mut B,
     ) -> FileEnd
-        requires fresh { refusal_of frames.old ≡ None }
+        requires fresh { B.refusal batches.old ≡ None }
         ensures requests { PortGoesOn self.old.requests self.new.requests }
-        ensures sent { SendsFrames (S.remaining (frames_reader frames.old)) self.old.requests.sent
-            self.new.requests.sent (fault_of result) (unsent_of result) }
+        ensures sent { SendsBatches B.gives B.is_at_end B.is_at_fault batches.old
+            self.old.requests.sent self.new.requests.sent (fault_of result) (unsent_of result) }
     {
         for _ in rt.forever() {
-            match frames.next() {
+            match batches.next() {
                 Ok(Some(batch)) => {
                     if let Err(leftover) = self.send(rt, gatekeeper, progress, batch) {
                         return FileEnd::Leaves(leftover);

@@ -10,7 +10,7 @@ use crate::recorder::{Recorder, record_all};
 use crate::sender::{Sent, send_all};
 use keyspace::{Answer, Batch};
 use lane::{Intake, Port};
-use replay_output::StartError;
+use replay_output::{Reports, StartError};
 use replay_workers::{Assignment, Gatekeeper, ShareKeeper};
 use std::alloc::Global;
 use std::snapshot::Snapshot;
@@ -25,6 +25,7 @@ pub struct SenderTask<S, G> {
     pub assignment: Assignment,
     pub requests: Port<Batch>,
     pub reader: S,
+    pub reports: Reports,
     pub gatekeeper: Arc<G, Global>,
     pub progress: Arc<Progress, Global>,
 }
@@ -42,11 +43,12 @@ pub struct RecorderTask<W> {
 struct Sending<S> {
     requests: Snapshot<Port<Batch>>,
     reader: Snapshot<S>,
+    reports: Reports,
 }
 
 impl<S: Source> Promise<Sent> for Sending<S> {
     ghost kept_by = { λ work sent.
-        HasSent (S.remaining work.reader.value) work.requests.value sent };
+        HasSent work.reports (S.remaining work.reader.value) work.requests.value sent };
 }
 
 // Promises what a recorder does with its task.
@@ -75,12 +77,13 @@ pub struct StartedRecorder<W: Sink> {
 
 impl<S: Source + Drop, G: Gatekeeper + ShareKeeper + Drop> SenderTask<S, G> {
     fn run<R: Wait>(self, rt: &R, alloc: Global) -> Sent
-        ensures sent { HasSent (S.remaining self.reader) self.requests result }
+        ensures sent { HasSent self.reports (S.remaining self.reader) self.requests result }
     {
         let SenderTask {
             assignment,
             requests,
             reader,
+            reports,
             gatekeeper,
             progress,
         } = self;
@@ -90,6 +93,7 @@ impl<S: Source + Drop, G: Gatekeeper + ShareKeeper + Drop> SenderTask<S, G> {
             assignment,
             requests,
             reader,
+            reports,
             &*gatekeeper,
             &*progress,
         )
@@ -118,15 +122,17 @@ pub fn start_sender<
     ensures requests { IfOk result (λ sender. sender.handle.promise.requests.value
         ≡ task.requests) }
     ensures reader { IfOk result (λ sender. sender.handle.promise.reader.value ≡ task.reader) }
+    ensures reports { IfOk result (λ sender. sender.handle.promise.reports ≡ task.reports) }
     ensures thread { IfErr result (λ cause. cause ≡ StartError.Thread) }
 {
     let there = *rt;
     let promise = Sending {
         requests: Snapshot::of(&task.requests),
         reader: Snapshot::of(&task.reader),
+        reports: task.reports,
     };
     let run = move || -> Sent
-        ensures sent { HasSent (S.remaining task.reader) task.requests result }
+        ensures sent { HasSent task.reports (S.remaining task.reader) task.requests result }
     { task.run(&there, alloc) };
     match thread::spawn_with(rt, promise, run) {
         Ok(handle) => Ok(StartedSender { handle }),
@@ -162,8 +168,9 @@ pub fn start_recorder<W: Sink + Send + Drop + 'static, R: Threads + Wait + Copy 
 impl<S: Source> StartedSender<S> {
     /// Waits for the sender to end.
     pub fn join<R: Threads>(self, rt: &R) -> Sent
-        ensures sent { HasSent (S.remaining self.handle.promise.reader.value)
-            self.handle.promise.requests.value result }
+        ensures sent { HasSent self.handle.promise.reports
+            (S.remaining self.handle.promise.reader.value) self.handle.promise.requests.value
+            result }
     {
         self.handle.join(rt)
     }

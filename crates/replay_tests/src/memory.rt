@@ -6,7 +6,7 @@ use crate::rows::{
     SECOND_FILE_CONTINUES_CHAIN, SNAPSHOT_AT_WRITE,
 };
 use crate::runs::{Reader, file_of, reader, replay_into};
-use replay_program::{Options, Status, Style, Unshared};
+use replay_program::{Options, Reports, Status, Style, Unshared};
 use std::alloc::{AllocError, Global};
 use std::process::Abort;
 use std::str;
@@ -148,6 +148,16 @@ fn ends_as_promised<R: Threads + Wait + Copy + Send + 'static>(
     alloc: Global,
     row: &Row,
 ) -> Result<bool, Unmade> {
+    ends_with(rt, alloc, row, Reports::Asked)
+}
+
+// The same where these transactions report.
+fn ends_with<R: Threads + Wait + Copy + Send + 'static>(
+    rt: &R,
+    alloc: Global,
+    row: &Row,
+    reports: Reports,
+) -> Result<bool, Unmade> {
     let Run {
         readers,
         gatekeeper,
@@ -156,6 +166,7 @@ fn ends_as_promised<R: Threads + Wait + Copy + Send + 'static>(
     } = Run::new_at_last(alloc, row.files)?;
     let mut options = Options::default();
     options.style = Style::all(row.form);
+    options.reports = reports;
     let status = replay_into(
         rt,
         alloc,
@@ -187,6 +198,13 @@ fn snapshot_at_write_with_one_growth_refused(rt: HostRuntime) -> Result<(), Fail
 #[test]
 fn report_history_hits_with_one_growth_refused(rt: HostRuntime) -> Result<(), Fail> {
     assert!(rt; ends_as_promised(&rt, rt.alloc(), &REPORT_HISTORY_HITS)?);
+    Ok(())
+}
+
+// The transaction in conflict asks for its report, so the lines are the same.
+#[test]
+fn report_all_with_one_growth_refused(rt: HostRuntime) -> Result<(), Fail> {
+    assert!(rt; ends_with(&rt, rt.alloc(), &REPORT_HISTORY_HITS, Reports::All)?);
     Ok(())
 }
 

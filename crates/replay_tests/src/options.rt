@@ -45,6 +45,15 @@ fn window_largest(rt: HostRuntime) -> Result<(), Fail> {
 }
 
 #[test]
+fn report_all(rt: HostRuntime) -> Result<(), Fail> {
+    let batches = ["0>100: W[a,b)", "100>200: R[x,y) R[a,b) @99; m R[a,b) @99"];
+    let expected = "0 100 committed\n0 200 conflict:1 conflict:0\ndone: ";
+    gives(&rt, "--report-all file", &batches, expected)?;
+    let expected = "0 100 committed\n0 200 conflict conflict:0\ndone: ";
+    gives(&rt, "file", &batches, expected)
+}
+
+#[test]
 fn limit_three_stop(rt: HostRuntime) -> Result<(), Fail> {
     let batches = ["0>100: W[a,b)", "100>200: W[c,d) @100"];
     let expected = "0 100 committed\nfailed: replay: stop 3 ArenaFull\n";

@@ -5,3 +5,4 @@ pub mod Watching
 pub mod Runs
 pub mod Seen
 pub mod Keeping
+pub mod Reporting

@@ -14,47 +14,35 @@ use Rattle.replay_output.specs.declared.line.Line.{Line}
 use Rattle.replay_output.specs.declared.options.Options.{Options}
 use Rattle.replay_output.specs.declared.options.style.Style.{Style}
 use Rattle.replay_workers.specs.declared.worker.Finished.{Finished}
-use Rattle.replay_workers.specs.Batches.{GivesEach}
-use Rattle.replay_workers.specs.Worker.{HasWorkedOver, SendsBatches}
-use Rattle.replay_workers.specs.Run.{IsServedOver, LeavesBatchOver, IsRunOver}
+use Rattle.replay_workers.specs.Worker.{HasWorkedOver}
+use Rattle.replay_workers.specs.Run.{IsServedOver, IsRunOver}
 use Rattle.replay_workers.proofs.callers.Lists.{found, mapped_at}
+use Rattle.replay_workers.proofs.callers.Reading.{gives_seen, sends_seen}
 
 -- a view of a view
 pub map_twice : {X Y Z : Type 0} (f : X → Y) (g : Y → Z) (xs : List X) → map (λ x. g (f x)) xs ≡ map g (map f xs)
 map_twice f g [] = refl
 map_twice f g (x ∷ xs) = ap (λ rest. g (f x) ∷ rest) (map_twice f g xs)
 
-module _ {X Y : Type 0} (view : X → Y) (Gives : Y → Y → Batch → Type 0) (IsEnd : Y → Type 0) (IsFault : Y → WireError → Type 0) where
-  abbrev pub GivesBehind : X → X → Batch → Type 0
-  GivesBehind first last batch = Gives (view first) (view last) batch
-
+module _ {X Y : Type 0} (view : X → Y) (Gives : X → X → Batch → Type 0) (Viewed : Y → Y → Batch → Type 0) (IsEnd : Y → Type 0)
+    (IsFault : Y → WireError → Type 0) (seen : (old new : X) (batch : Batch) → Gives old new batch → Viewed (view old) (view new) batch)
+    where
   abbrev pub IsEndBehind : X → Type 0
   IsEndBehind now = IsEnd (view now)
 
   abbrev pub IsFaultBehind : X → WireError → Type 0
   IsFaultBehind now e = IsFault (view now) e
 
-  gives_seen : (first last : X) (batches : List Batch) → GivesEach GivesBehind first last batches
-      → GivesEach Gives (view first) (view last) batches
-  gives_seen first last [] same = ap view same
-  gives_seen first last (batch ∷ rest) given = (view given.0, given.1, gives_seen given.0 last rest given.2)
-
   -- what a worker has done
   pub worked_seen : (Kept : X → Type 0) (style : Style) (proxy : ℕ) (first : X) (given : Client) (finished : Finished)
-      → HasWorkedOver GivesBehind IsEndBehind IsFaultBehind Kept style proxy first given finished
-      → HasWorkedOver Gives IsEnd IsFault (λ _. Unit {0}) style proxy (view first) given finished
+      → HasWorkedOver Gives IsEndBehind IsFaultBehind Kept style proxy first given finished
+      → HasWorkedOver Viewed IsEnd IsFault (λ _. Unit {0}) style proxy (view first) given finished
   worked_seen Kept style proxy first given finished worked =
       let sends = worked.sends in
       record {
         client = worked.client;
-        sends = record {
-          batches = sends.batches;
-          left = view sends.left;
-          sent = sends.sent;
-          frames = gives_seen first sends.left _ sends.frames;
-          all = sends.all;
-          first_fault = sends.first_fault;
-        };
+        sends = sends_seen view Gives Viewed seen IsEnd IsFault first given.requests.sent finished.client.requests.sent
+            finished.fault finished.unsent sends;
         kept = tt;
         keeps = worked.keeps;
         leaves = worked.leaves;
@@ -63,12 +51,12 @@ module _ {X Y : Type 0} (view : X → Y) (Gives : Y → Y → Batch → Type 0) 
 
   served_seen : (Kept : X → Type 0) (window : ℤ) (style : Style) (log : List Step) (complete : Bool) (stop : Option Stop) (first : X)
       (proxy : ℕ) (lines : List Line) (failure : ProxyFailure)
-      → IsServedOver GivesBehind IsEndBehind IsFaultBehind Kept window style log complete stop first proxy lines failure
-      → IsServedOver Gives IsEnd IsFault (λ _. Unit {0}) window style log complete stop (view first) proxy lines failure
+      → IsServedOver Gives IsEndBehind IsFaultBehind Kept window style log complete stop first proxy lines failure
+      → IsServedOver Viewed IsEnd IsFault (λ _. Unit {0}) window style log complete stop (view first) proxy lines failure
   served_seen Kept window style log complete stop first proxy lines failure served = record {
     read = served.read;
     left = view served.left;
-    frames_read = gives_seen first served.left served.read served.frames_read;
+    frames_read = gives_seen view Gives Viewed seen first served.left served.read served.frames_read;
     kept = tt;
     batches = served.batches;
     all_batches = served.all_batches;
@@ -85,8 +73,8 @@ module _ {X Y : Type 0} (view : X → Y) (Gives : Y → Y → Batch → Type 0) 
   -- and a run
   pub run_seen : (Kept : ℕ → X → Type 0) (options : Options) (streams : List X) (received : List (List Line))
       (failures : List ProxyFailure) (complete : Bool) (stop : Option Stop)
-      → IsRunOver GivesBehind IsEndBehind IsFaultBehind Kept options streams received failures complete stop
-      → IsRunOver Gives IsEnd IsFault (λ _ _. Unit {0}) options (map view streams) received failures complete stop
+      → IsRunOver Gives IsEndBehind IsFaultBehind Kept options streams received failures complete stop
+      → IsRunOver Viewed IsEnd IsFault (λ _ _. Unit {0}) options (map view streams) received failures complete stop
   run_seen Kept options streams received failures complete stop run = record {
     log = run.log;
     proxies = subst (λ (n : ℕ). TakesOnlyFrom n run.log) (sym (length-map streams view)) run.proxies;
@@ -95,7 +83,7 @@ module _ {X Y : Type 0} (view : X → Y) (Gives : Y → Y → Batch → Type 0) 
     each = λ proxy bytes lines failure at lines_at failure_at.
         let first = found (map view streams) streams proxy bytes (sym (length-map streams view)) at in
         let same : view first.0 ≡ bytes = same_Some (view first.0) bytes (sym (mapped_at view streams proxy first.0 first.1) ∙ at) in
-        subst (λ (bytes : Y). IsServedOver Gives IsEnd IsFault (λ _. Unit {0}) options.window options.style run.log complete stop bytes
+        subst (λ (bytes : Y). IsServedOver Viewed IsEnd IsFault (λ _. Unit {0}) options.window options.style run.log complete stop bytes
         proxy lines failure) same
         (served_seen (Kept proxy) options.window options.style run.log complete stop first.0 proxy lines failure
         (run.each proxy first.0 lines failure first.1 lines_at failure_at));
@@ -111,7 +99,7 @@ module _ {X Y : Type 0} (view : X → Y) (Gives : Y → Y → Batch → Type 0) 
           of_proxy = mapped_at view streams leaves.proxy leaves.first leaves.of_proxy;
           batch = leaves.batch;
           left = view leaves.left;
-          read = gives_seen leaves.first leaves.left _ leaves.read;
+          read = gives_seen view Gives Viewed seen leaves.first leaves.left _ leaves.read;
           worn = leaves.worn;
         };
     met = run.met;
@@ -120,7 +108,7 @@ module _ {X Y : Type 0} (view : X → Y) (Gives : Y → Y → Batch → Type 0) 
   -- over the same log
   pub run_seen_log : (Kept : ℕ → X → Type 0) (options : Options) (streams : List X) (received : List (List Line))
       (failures : List ProxyFailure) (complete : Bool) (stop : Option Stop)
-      (run : IsRunOver GivesBehind IsEndBehind IsFaultBehind Kept options streams received failures complete stop)
+      (run : IsRunOver Gives IsEndBehind IsFaultBehind Kept options streams received failures complete stop)
       → (run_seen Kept options streams received failures complete stop run).log ≡ run.log
   unfolding run_seen
   run_seen_log Kept options streams received failures complete stop run = refl

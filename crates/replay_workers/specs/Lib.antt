@@ -3,6 +3,8 @@ pub mod Batches
 pub mod Ends
 pub mod Inbox
 pub mod Worker
+pub mod Reporting
+pub mod Asking
 pub mod Watch
 pub mod Threads
 pub mod Stops

@@ -12,7 +12,6 @@ use Rattle.serial.specs.Replies.{IsCommittedAt, ReportsCommitted}
 use Rattle.lane.specs.declared.port.TheConstants.{MAX_SENT}
 use Rattle.wire.specs.declared.error.WireError.{WireError}
 use Rattle.wire.specs.declared.error.WireError.TheVariants as wire
-use Rattle.wire.specs.NextFrame.{TakesFrame}
 use Rattle.resolver.specs.declared.client.Client.{Client}
 use Rattle.resolver.specs.declared.stop.Stop.{Stop}
 use Rattle.resolver.specs.declared.turn.Account.{Account}
@@ -23,10 +22,12 @@ use Rattle.replay_output.specs.declared.failures.ProxyFailure.{ProxyFailure}
 use Rattle.replay_output.specs.declared.options.style.Style.{Style}
 use Rattle.replay_output.specs.declared.line.Line.{Line}
 use Rattle.replay_output.specs.declared.options.Options.{Options}
+use Rattle.replay_output.specs.declared.options.reports.Reports.{Reports}
 use Rattle.replay_workers.specs.declared.outcome.Outcome.{Outcome}
 use Rattle.replay_output.specs.Line.{answers_of, IsLineOf}
 use Rattle.replay_workers.specs.Stops.{IsStopOf}
 use Rattle.replay_workers.specs.Batches.{GivesEach, EndsWith}
+use Rattle.replay_workers.specs.Reporting.{TakesResolved}
 use Rattle.replay_workers.specs.Worker.{IsFaultAt}
 
 -- every answer was taken, and every batch that was read was sent
@@ -117,17 +118,18 @@ module _ {X : Type 0} (Gives : X → X → Batch → Type 0) (IsEnd : X → Type
     pub run : IsRunOver Kept options streams received failures complete stop
     pub seen : HasSeen Seen stop options.window run.log
 
--- The same of files, whose readers told these bytes, and of the batches of their frames.
+-- The same of files, whose readers told these bytes, and of the batches that are resolved for those of their frames.
 
-abbrev pub IsServed : ℤ → Style → List Step → Bool → Option Stop → Option (List ℕ) → ℕ → List Line → ProxyFailure → Type 0
-IsServed = IsServedOver TakesFrame IsAtEnd IsFaultAt (λ _. Unit {0})
+abbrev pub IsServed : Reports → ℤ → Style → List Step → Bool → Option Stop → Option (List ℕ) → ℕ → List Line → ProxyFailure → Type 0
+IsServed reports = IsServedOver (TakesResolved reports) IsAtEnd IsFaultAt (λ _. Unit {0})
 
-abbrev pub LeavesBatch : List (Option (List ℕ)) → List Step → Type 0
-LeavesBatch = LeavesBatchOver TakesFrame
+abbrev pub LeavesBatch : Reports → List (Option (List ℕ)) → List Step → Type 0
+LeavesBatch reports = LeavesBatchOver (TakesResolved reports)
 
 abbrev pub IsRun : Options → List (Option (List ℕ)) → List (List Line) → List ProxyFailure → Bool → Option Stop → Type 0
-IsRun = IsRunOver TakesFrame IsAtEnd IsFaultAt (λ _ _. Unit {0})
+IsRun options = IsRunOver (TakesResolved options.reports) IsAtEnd IsFaultAt (λ _ _. Unit {0}) options
 
 abbrev pub IsObservedRun : (List Processed → Type 0) → Options → List (Option (List ℕ)) → List (List Line) → List ProxyFailure → Bool
     → Option Stop → Type 0
-IsObservedRun = IsObservedRunOver TakesFrame IsAtEnd IsFaultAt (λ _ _. Unit {0})
+IsObservedRun Seen options =
+    IsObservedRunOver (TakesResolved options.reports) IsAtEnd IsFaultAt (λ _ _. Unit {0}) Seen options

@@ -50,10 +50,6 @@ is_cut_short Reached = false
 is_cut_short (Fault e) = false
 is_cut_short (Leaves leftover) = was_cut_short leftover
 
--- the frames of these batches are at the front, in order, and just those frames leave
-abbrev pub TakesFrames : Option (List ℕ) → Option (List ℕ) → List Batch → Type 0
-TakesFrames = GivesEach TakesFrame
-
 -- the bytes left begin with this fault, if the reader reports them
 abbrev pub IsFaultAt : Option (List ℕ) → WireError → Type 0
 IsFaultAt left e = IfSome left (IsFaultOf e)
@@ -69,10 +65,6 @@ module _ {X : Type 0} (Gives : X → X → Batch → Type 0) (IsEnd : X → Type
     pub all : fault ≡ None → unsent ≡ None → IsEnd left
     -- a fault other than these two is that of what is left
     pub first_fault : IfSome fault (λ e. e ≢ wire.Memory → e ≢ wire.Read → IsFault left e)
-
--- the same of the frames at the front of the bytes
-abbrev pub SendsFrames : Option (List ℕ) → List Batch → List Batch → Option WireError → Option Batch → Type 0
-SendsFrames = SendsBatches TakesFrame IsAtEnd IsFaultAt
 
 -- why the batch can't be sent: the answers have ended, or the lane takes no more
 abbrev pub CannotSend : Leftover → PortView Batch → IntakeView Answer → Type 0

@@ -1,6 +1,6 @@
 //! The batches that a worker sends.
 
-ghost use Rattle.std.specs.Prelude.{◌≡◌, ◌≢◌, ℕ, ◌<◌, ◌↔◌, Option, Some, None, map};
+ghost use Rattle.std.specs.Prelude.{◌≡◌, ◌≢◌, ℕ, ◌<◌, ◌↔◌, Option, Some, None, Err, map};
 ghost use Rattle.std.specs.Prelude.{IfOk, IfErr, IfSome, IfNone, IsErrOf, OnErr, OnOk};
 ghost use Rattle.std.specs.Io.KnownBytes.{IsAtEnd};
 ghost use Rattle.std.specs.List.{All};
@@ -45,6 +45,8 @@ pub trait Batches {
         ensures stays { OnErr result (stays self.old self.new) }
         ensures read { refusal self.old ≡ None → (IsErrOf result WireError.Read
             ↔ (failures self.old < failures self.new)) }
+        ensures refused { IfSome (refusal self.old) (λ e. result ≡ Err e) }
+        ensures err { IfErr result (λ e. refusal self.new ≡ Some e) }
         ensures ok { OnOk result (refusal self.new ≡ None) }
         ensures steady { OnOk result (failures self.new ≡ failures self.old) };
 }

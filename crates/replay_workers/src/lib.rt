@@ -2,16 +2,20 @@
 //!
 //! [`run`] does so over any readers, and returns an [`Outcome`]: what the workers returned.
 //! [`run_observed`] also shows each batch that is processed to an observer, and [`run_over`] takes
-//! any streams of [`Batches`]. [`work`] is what one worker does: it reads the batches of its file,
+//! any streams of [`Batches`]. [`AskingFrames`] are the batches of a file, whose transactions all
+//! ask for their reports. [`work`] is what one worker does: it reads the batches of its file,
 //! sends them and takes the answers; [`work_over`] takes a stream. A [`Gatekeeper`] says when
 //! workers may send, and a [`ShareKeeper`] whose batch goes first where all have used up their
 //! share.
 //!
-//! In reading order: `running`, `threads`, `worker`, `batches`, `inbox`, `ends`, `gatekeeper`,
-//! `watch`, `outcome`, `rest`. What became of the files is `IsRun`, in `specs/Run.antt`, and of
-//! streams `IsRunOver`. What one worker has done is `HasWorked`, in `specs/Worker.antt`.
+//! In reading order: `running`, `threads`, `worker`, `batches`, `asking`, `inbox`, `ends`,
+//! `gatekeeper`, `watch`, `outcome`, `rest`. What became of the files is `IsRun`, in
+//! `specs/Run.antt`, and of streams `IsRunOver`. What one worker has done is `HasWorked`, in
+//! `specs/Worker.antt`. Which batches are resolved for those of a file is `resolved_for`, in
+//! `specs/Reporting.antt`.
 #![tactic(auto)]
 
+mod asking;
 mod batches;
 mod ends;
 mod gatekeeper;
@@ -23,6 +27,7 @@ mod threads;
 mod watch;
 mod worker;
 
+pub use asking::{AskingFrames, read_asking};
 pub use batches::Batches;
 pub use ends::MostUnanswered;
 pub use gatekeeper::{AlwaysOpen, Gatekeeper, ShareKeeper, Unshared};

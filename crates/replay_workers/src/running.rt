@@ -12,13 +12,14 @@ ghost use Rattle.replay_workers.specs.Run.{EndsAt, HasCapacity, is_complete};
 ghost use Rattle.replay_workers.specs.Run.{IsObservedRun, IsObservedRunOver, IsRun, IsRunOver};
 ghost use Rattle.replay_workers.specs.Stops.{IsAccountedFor, IsObserved};
 
+use crate::asking::asking_each;
 use crate::batches::{Batches, frames_each};
 use crate::gatekeeper::{Gatekeeper, ShareKeeper};
 use crate::outcome::Outcome;
 use crate::threads::{join_all, start_workers};
 use crate::watch::Watch;
 use observer::{Observer, Unobserved};
-use replay_output::{Options, StartError};
+use replay_output::{Options, Reports, StartError};
 use resolver::{Account, Resolver, Turn, open};
 use std::alloc::Global;
 use std::sync::{Arc, Wait};
@@ -54,7 +55,8 @@ pub fn run<
 
 /// Runs a worker for each reader, each in its own thread, and turns the resolver until it is done
 /// or has stopped. Returns what the workers return, and the account of the resolver. The observer
-/// sees the batches that are processed, in this thread.
+/// sees the batches that are processed, in this thread. The options say which transactions ask for
+/// their reports: those that do so in the files, or all.
 ///
 /// Once a thread was started, this one takes no memory but in turns, in starting threads and in the
 /// observer. After an error no thread is joined.
@@ -84,13 +86,25 @@ pub fn run_observed<
         (λ ended. All (HasCapacity options.capacity) ended.0.clients.items) }
     ensures setting { O.setting observer.new ≡ O.setting observer.old }
 {
-    let streams = frames_each(alloc, readers)?;
-    let (outcome, _, account) = run_over(rt, alloc, streams, options, gatekeeper, observer)?;
-    Ok((outcome, account))
+    match options.reports {
+        Reports::Asked => {
+            let streams = frames_each(alloc, readers)?;
+            let (outcome, _, account) =
+                run_over(rt, alloc, streams, options, gatekeeper, observer)?;
+            Ok((outcome, account))
+        }
+        Reports::All => {
+            let streams = asking_each(alloc, readers)?;
+            let (outcome, _, account) =
+                run_over(rt, alloc, streams, options, gatekeeper, observer)?;
+            Ok((outcome, account))
+        }
+    }
 }
 
 /// Runs a worker for each stream of batches, as [`run_observed`] does for those of readers. Returns
-/// the streams too, each at its proxy's number.
+/// the streams too, each at its proxy's number. The batches are resolved as the streams give them,
+/// whichever reports the options want.
 pub fn run_over<
     B: Batches + Send + Drop + 'static,
     G: Gatekeeper + ShareKeeper + Send + Sync + Drop + 'static,
@@ -125,6 +139,7 @@ pub fn run_over<
         window,
         limit,
         style,
+        ..
     } = options;
     let outcome = Outcome::with_room(alloc, proxies)?;
     let ended = Vec::with_capacity(alloc, proxies)?;

@@ -9,8 +9,9 @@ use crate::arguments::details::{Details, details_of};
 use crate::arguments::mistake::Mistake;
 use crate::arguments::names::{Names, names_of};
 use crate::arguments::printing::{Printing, printing_of};
+use crate::arguments::reporting::reports_of;
 use clap::ArgMatches;
-use replay_output::{Options, Style};
+use replay_output::{Options, Reports, Style};
 
 /// What the arguments ask for.
 #[derive(Clone, Copy, Debug)]
@@ -28,7 +29,10 @@ pub fn asked_of<'m, 'a>(matches: &'m ArgMatches<'a>) -> Result<Asked<'m, 'a>, Mi
 {
     let printing = printing_of(matches)?;
     let details = details_of(matches, printing)?;
-    let Some(options) = options_of(matches, printing.style) else {
+    let Some(reports) = reports_of(matches) else {
+        return Err(Mistake::ReportAll);
+    };
+    let Some(options) = options_of(matches, printing.style, reports) else {
         return Err(Mistake::Number);
     };
     let names = names_of(matches, printing)?;
@@ -40,11 +44,12 @@ pub fn asked_of<'m, 'a>(matches: &'m ArgMatches<'a>) -> Result<Asked<'m, 'a>, Mi
     })
 }
 
-// Returns the options with this style, unless a number is out of its range. `clap` refuses such
-// numbers itself.
-fn options_of(matches: &ArgMatches, style: Style) -> Option<Options>
+// Returns the options with this style and these reports, unless a number is out of its range. `clap`
+// refuses such numbers itself.
+fn options_of(matches: &ArgMatches, style: Style, reports: Reports) -> Option<Options>
     ensures numbers { IfSome result (HoldsNumbers (rows_of (found_of matches.now))) }
     ensures style { IfSome result (λ options. options.style ≡ style) }
+    ensures reports { IfSome result (λ options. options.reports ≡ reports) }
     ensures none { result ≡ None → ¬ HasNumbers (rows_of (found_of matches.now)) }
 {
     Options::new(
@@ -52,5 +57,6 @@ fn options_of(matches: &ArgMatches, style: Style) -> Option<Options>
         matches.get_one("window")?,
         matches.get_one("limit")?,
         style,
+        reports,
     )
 }

@@ -6,7 +6,8 @@ ghost use Rattle.replay_arguments.specs.Command.{capacity_rule, check_rule, expl
 ghost use Rattle.replay_arguments.specs.Command.{file_rule, frames_rule, json_rule, limit_rule};
 ghost use Rattle.replay_arguments.specs.Command.{number_rule};
 ghost use Rattle.replay_arguments.specs.Command.{only_rule, output_rule, quiet_rule, replay_app};
-ghost use Rattle.replay_arguments.specs.Command.{replies_rule, stream_rule, summary_rule};
+ghost use Rattle.replay_arguments.specs.Command.{replies_rule, report_all_rule, stream_rule};
+ghost use Rattle.replay_arguments.specs.Command.{summary_rule};
 ghost use Rattle.replay_arguments.specs.Command.{summary_to_rule, top_rule};
 ghost use Rattle.replay_arguments.specs.Command.{verbose_rule, versions_rule, window_rule};
 ghost use Rattle.replay_arguments.specs.Command.{with_files, with_printing, with_resolving};
@@ -46,7 +47,8 @@ fn add_resolving<'a>(alloc: Global, command: Command<'a>) -> Result<Command<'a>,
     command
         .arg(capacity(alloc))?
         .arg(window(alloc))?
-        .arg(limit(alloc))
+        .arg(limit(alloc))?
+        .arg(report_all(alloc))
 }
 
 // Adds the options that say what is printed.
@@ -105,6 +107,16 @@ fn limit<'a>(alloc: Global) -> Arg<'a>
     number(alloc, "limit", "1000000", parser).help(
         "Boundaries that the conflict set keeps at most, from 1 to 16777216",
     )
+}
+
+fn report_all<'a>(alloc: Global) -> Arg<'a>
+    ensures rule { rule_of result ≡ report_all_rule }
+    ensures local { result.global ≡ false }
+{
+    Arg::new(alloc, "report-all")
+        .long("report-all")
+        .action(ArgAction::SetTrue)
+        .help("Resolves every transaction as if it asked for its conflicting read ranges")
 }
 
 // An option `--name N`.

@@ -31,6 +31,8 @@ pub enum Mistake {
     Top,
     /// `--verbose` has a value. `clap` refuses it itself.
     Verbose,
+    /// `--report-all` has a value. `clap` refuses it itself.
+    ReportAll,
     /// A number is out of its range. `clap` refuses it itself.
     Number,
     /// There are no files, or too many.
@@ -76,6 +78,7 @@ impl Mistake {
             }
             Mistake::Top => "--top is wanted with --summary",
             Mistake::Verbose => "--verbose takes no value",
+            Mistake::ReportAll => "--report-all takes no value",
             Mistake::Number => "a number is out of its range",
             Mistake::Files => "from 1 to 64 files are wanted",
             Mistake::Input => "standard input (-) can be given only once",

@@ -8,15 +8,16 @@ use Rattle.keyspace.specs.declared.batch.Batch.{Batch}
 use Rattle.lane.specs.Lane.{PortView, IntakeView, HasEnded}
 use Rattle.wire.specs.declared.error.WireError.{WireError}
 use Rattle.wire.specs.declared.error.WireError.TheVariants as wire
-use Rattle.wire.specs.NextFrame.{TakesFrame}
 use Rattle.replay_output.specs.declared.line.Line.{Line}
+use Rattle.replay_output.specs.declared.options.reports.Reports.{Reports}
 use Rattle.replay_output.specs.declared.options.style.Style.{Style}
 use Rattle.replay_workers.specs.declared.worker.FileEnd.{FileEnd}
 use Rattle.replay_workers.specs.declared.worker.FileEnd.TheVariants.{Reached, Fault, Leaves}
 use Rattle.replay_workers.specs.declared.worker.Leftover.TheVariants.{CutShort, Worn}
 use Rattle.replay_workers.specs.Batches.{GivesEach}
 use Rattle.replay_workers.specs.Inbox.{KeepsLines}
-use Rattle.replay_workers.specs.Worker.{CannotSend, IfLeaves, IsFaultAt, LeavesLane, SendsBatches, SendsFrames, is_cut_short, unsent_of}
+use Rattle.replay_workers.specs.Reporting.{SendsFrames, TakesResolved}
+use Rattle.replay_workers.specs.Worker.{CannotSend, IfLeaves, IsFaultAt, LeavesLane, SendsBatches, is_cut_short, unsent_of}
 
 abbrev pub GivesUp : FileEnd → PortView Batch → IntakeView Answer → Type 0
 GivesUp end requests replies = IfLeaves end (λ leftover. CannotSend leftover requests replies)
@@ -63,12 +64,13 @@ module _ {X : Type 0} (Gives : X → X → Batch → Type 0) (IsEnd : X → Type
         sends.first_fault;
   }
 
-pub sends_moved : (bytes bytes' : Option (List ℕ)) (before before' now now' : List Batch) (fault fault' : Option WireError)
-    (unsent unsent' : Option Batch) → bytes ≡ bytes' → before ≡ before' → now ≡ now' → fault ≡ fault' → unsent ≡ unsent'
-    → SendsFrames bytes before now fault unsent → SendsFrames bytes' before' now' fault' unsent'
-sends_moved bytes bytes' before before' now now' fault fault' unsent unsent' a b c d e sends =
-    batches_moved TakesFrame IsAtEnd IsFaultAt bytes' before before' now now' fault fault' unsent unsent' b c d e
-    (subst (λ (y : Option (List ℕ)). SendsFrames y before now fault unsent) a sends)
+pub sends_moved : (reports : Reports) (bytes bytes' : Option (List ℕ)) (before before' now now' : List Batch)
+    (fault fault' : Option WireError) (unsent unsent' : Option Batch) → bytes ≡ bytes' → before ≡ before' → now ≡ now'
+    → fault ≡ fault' → unsent ≡ unsent' → SendsFrames reports bytes before now fault unsent
+    → SendsFrames reports bytes' before' now' fault' unsent'
+sends_moved reports bytes bytes' before before' now now' fault fault' unsent unsent' a b c d e sends =
+    batches_moved (TakesResolved reports) IsAtEnd IsFaultAt bytes' before before' now now' fault fault' unsent unsent' b c d e
+    (subst (λ (y : Option (List ℕ)). SendsFrames reports y before now fault unsent) a sends)
 
 pub keeps_moved : (style style' : Style) (proxy proxy' : ℕ) (before now now' : List Answer) (lines lines' : List Line)
     (lost lost' : Bool) → style ≡ style' → proxy ≡ proxy' → now ≡ now' → lines ≡ lines' → lost ≡ lost'

@@ -28,11 +28,11 @@ loop-client-preserved g c =
     first_of (search rules, grind (arith, common_steps)) in
     let counted : c.len-in-loop-client.result ≡ vec_len c.loop-client.tasks = first_of (search rules, grind (arith, common_steps)) in
     record {
-      given = given_also tasks after task (into_iter_items c.loop-client.client-iterator) rest_clients client
+      given = given_also c.args.options.reports tasks after task (into_iter_items c.loop-client.client-iterator) rest_clients client
           (into_iter_items c.loop-client.readers) rest_readers reader (into_iter_items c.loop-client.records) rest_outs out _
           (vec_len c.loop-client.tasks) (vec_len c.push_reserved.new.self) before.given c.in-Some.ensures.steps.0 readers_are outs_are
           c.push_reserved.ensures.items number
-          (c.in_ok-task.ensures.given ∙ ap (λ (n : ℕ). given_one n client reader out) counted);
+          (c.in_ok-task.ensures.given ∙ ap (λ (n : ℕ). given_one c.args.options.reports n client reader out) counted);
       new = All-same (λ (t : Task g.row.S.Denot g.row.W.Denot g.row.G.Denot). IsNewOutlet t.outlet (threads_by t).answers) _ _
           c.push_reserved.ensures.items
           (All-push (λ (t : Task g.row.S.Denot g.row.W.Denot g.row.G.Denot). IsNewOutlet t.outlet (threads_by t).answers) tasks task

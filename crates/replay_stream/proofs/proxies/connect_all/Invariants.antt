@@ -9,8 +9,8 @@ abbrev pub invariant-loop-client : goal.invariant-loop-client
 invariant-loop-client g l = record {
   given :
       map (λ task. given_with task.outlet (threads_by task)) l.tasks.items
-      ++ given_proxies (vec_len l.tasks) (into_iter_items l.client-iterator) (into_iter_items l.readers) (into_iter_items l.records)
-      ≡ given_proxies 0 l.fn.clients.items l.fn.readers.items l.fn.records.items;
+      ++ given_proxies l.fn.options.reports (vec_len l.tasks) (into_iter_items l.client-iterator) (into_iter_items l.readers) (into_iter_items l.records)
+      ≡ given_proxies l.fn.options.reports 0 l.fn.clients.items l.fn.readers.items l.fn.records.items;
   new : All (λ task. IsNewOutlet task.outlet (threads_by task).answers) l.tasks.items;
   room : vec_len l.tasks + into_iter_len l.client-iterator ≤ vec_capacity l.tasks;
   readers : into_iter_len l.readers ≡ into_iter_len l.client-iterator;

@@ -1,4 +1,4 @@
-use Rattle.std.proofs.Common.{◌≡◌, ℕ, List, ap, sym, subst, ◌∙◌, arith, rules, ℤ, length, w64, to_z, of_z}
+use Rattle.std.proofs.Common.{◌≡◌, ℕ, List, ap, refl, sym, subst, ◌∙◌, arith, rules, ℤ, length, w64, to_z, of_z}
 use Rattle.std.proofs.lemmas.Int.{ints, to_z-of_z}
 use Rattle.std.proofs.lemmas.List.{length-map}
 use Rattle.std.proofs.lemmas.Simd.{map-map}
@@ -37,7 +37,7 @@ turn_to_end-requires g c =
     let as_many : length outs ≡ length clients = omega (arith, same, c.requires.as_many) in
     record {
       numbered = subst AreNumbered (sym (ap outlets_of c.deref_mut.ensures.value ∙ c.in_ok-proxies.ensures.outlets))
-          (are_numbered readers outs clients tasks same as_many c.in_ok-tasks.ensures.given);
+          (are_numbered c.args.options.reports readers outs clients tasks same as_many c.in_ok-tasks.ensures.given);
     }
 
 pub join_all-streamed-requires-clause-empty : goal.join_all-streamed-requires-clause-empty
@@ -60,7 +60,7 @@ join_all-streamed-requires-clause-room g c =
     let started_count : length started ≡ length readers =
     sym (length-map started (λ (p : Proxy g.row.S.Denot g.row.W.Denot). p.outlet)) ∙ ap length c.in_ok-proxies.ensures.outlets
     ∙ length-map tasks (λ (t : Task g.row.S.Denot g.row.W.Denot g.row.G.Denot). t.outlet)
-    ∙ tasks_count readers outs clients tasks same as_many given ∙ sym same in
+    ∙ tasks_count c.args.options.reports readers outs clients tasks same as_many given ∙ sym same in
     omega (arith, started_count, c.in_ok-proxies.proxies.ok.0, c.in_ok-streamed.ensures.room, c.len-count.ensures)
 
 pub join_all-streamed-requires-clause-ends : goal.join_all-streamed-requires-clause-ends
@@ -95,7 +95,7 @@ join_all-streamed-requires-clause-ends g c =
     (subst (λ (f : Bool). StreamGoesOn style f has_failed before after first (outlets_of ended)) c.new-printer.ensures.failed streams) in
     let passed = c.turn_to_end.ensures.passed in
     All-same (λ (p : Proxy g.row.S.Denot g.row.W.Denot). AreEnds p.outlet.records (threads_of p).answers) _ _ back
-    (ends_each readers outs clients tasks same as_many given style has_failed before after ended fresh threads goes passed)
+    (ends_each c.args.options.reports readers outs clients tasks same as_many given style has_failed before after ended fresh threads goes passed)
 
 pub join_all-streamed-requires-clause-passed : goal.join_all-streamed-requires-clause-passed
 join_all-streamed-requires-clause-passed g c =
@@ -153,7 +153,7 @@ settle-account-requires g c =
       clients = subst (λ (clients : List Client). AreClients lanes clients) (sym (c.as_mut_slice.ensures.value ∙ joined.2.clients))
           (clients_go_on c.in_ok-resolver.resolver.lanes lanes clients (map client_of joined.0) c.in_ok-resolver.ensures.clients
           c.turn_to_end.ensures.lanes
-          (clients_joined readers outs clients tasks same as_many given style has_failed before after ended fresh threads goes passed g.S.Source.remaining records joined.0 worked));
+          (clients_joined c.args.options.reports readers outs clients tasks same as_many given style has_failed before after ended fresh threads goes passed g.S.Source.remaining records joined.0 worked));
     }
 
 pub returns : goal.returns
@@ -203,7 +203,7 @@ returns g c =
     (c.settle-account.ensures.settled (negsuc 0) told.log told.stands) in
     let settled = subst (λ (back : List Client). Settled c.args.options.window told.log resolver.lanes back account)
     handed_back windowed in
-    let all_ended = clients_ended readers outs clients tasks same as_many given style has_failed before after ended fresh threads goes passed g.S.Source.remaining records joined.0 worked in
+    let all_ended = clients_ended c.args.options.reports readers outs clients tasks same as_many given style has_failed before after ended fresh threads goes passed g.S.Source.remaining records joined.0 worked in
     let whole : account.stop ≡ None → account.complete ≡ true = λ none.
     c.settle-account.ensures.complete.1 (record {
       no_stop = sym c.settle-account.ensures.stop ∙ none;
@@ -222,14 +222,14 @@ returns g c =
       run = subst (λ (failed : Bool). IsStreamed c.args.options (map g.S.Source.remaining readers) (map is_some outs) before after failed
           streamed.failures.items (recorded_each records outs streamed.recorders.items) (account.complete && streamed.all_sent) account.stop)
           (sym c.join_all-streamed.ensures.failed)
-          (is_streamed readers outs clients tasks same as_many given style has_failed before after ended fresh threads goes passed
-          g.S.Source.remaining records joined.0 worked c.args.options c.new-printer.ensures.style told.log resolver.lanes account streamed
+          (is_streamed c.args.options.reports readers outs clients tasks same as_many given style has_failed before after ended fresh threads goes passed
+          g.S.Source.remaining records joined.0 worked c.args.options c.new-printer.ensures.style refl told.log resolver.lanes account streamed
           c.in_ok-resolver.ensures.new_clients settled whole joined.2 met);
       unwritten =
           joined.2.unwritten ∙ sym (map-map cause (λ (j : Joined g.row.W.Denot). j.recorder) joined.0)
           ∙ ap (map cause) (sym joined.2.recorders);
       recorders =
-          have_recorders readers outs clients tasks same as_many given style has_failed before after ended fresh threads goes passed
+          have_recorders c.args.options.reports readers outs clients tasks same as_many given style has_failed before after ended fresh threads goes passed
           g.S.Source.remaining records joined.0 worked streamed.recorders.items joined.2.recorders;
       nothing = tt;
     }

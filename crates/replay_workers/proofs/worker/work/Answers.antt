@@ -14,5 +14,5 @@ returns-clause-worked g c =
     let assignment = c.args.assignment in
     subst (λ (bytes : Option (List ℕ)). HasWorked assignment.style assignment.proxy bytes c.args.client c.work_over.result)
     (ap g.S.Source.remaining c.read_frames-frames.ensures.reader)
-    (worked_seen view TakesFrame IsAtEnd IsFaultAt _ assignment.style assignment.proxy c.read_frames-frames.result c.args.client
+    (worked_seen view (λ old new. TakesFrame (view old) (view new)) TakesFrame IsAtEnd IsFaultAt (λ _ _ _ takes. takes) _ assignment.style assignment.proxy c.read_frames-frames.result c.args.client
     c.work_over.result c.work_over.ensures.worked)

@@ -1,4 +1,7 @@
-use Rattle.replay_arguments.specs.Words.{IsOfNoUse}
+use Rattle.std.proofs.Common.{sym, subst}
+use Rattle.clap.specs.Words.{found_of, rows_of}
+use Rattle.replay_output.specs.declared.options.reports.Reports.{Reports}
+use Rattle.replay_arguments.specs.Words.{HoldsReports, IsOfNoUse}
 use Rattle.replay_arguments.proofs.Refusals.{on_err}
 use Rattle.replay_arguments.proofs.arguments.asked.asked_of.Goals as goal
 
@@ -11,7 +14,10 @@ returns-in_err-details-clause-none c =
     on_err _ (IsOfNoUse.no_details (c.in_err-details.ensures.none printing.summary))
 
 pub returns-in_default-clause-none : goal.returns-in_default-clause-none
-returns-in_default-clause-none c = IsOfNoUse.no_numbers (c.options_of.ensures.none c.in_default.is)
+returns-in_default-clause-none c = IsOfNoUse.no_reports (c.reports_of.ensures.none c.in_default.is)
+
+pub returns-in_default-options_of-clause-none : goal.returns-in_default-options_of-clause-none
+returns-in_default-options_of-clause-none c = IsOfNoUse.no_numbers (c.options_of.ensures.none c.in_default-options_of.is)
 
 pub returns-in_err-names-clause-none : goal.returns-in_err-names-clause-none
 returns-in_err-names-clause-none c =
@@ -24,7 +30,9 @@ returns-clause-asked c =
     record {
       printing = printing;
       details = c.in_ok-details.ensures.details printing.summary;
-      numbers = c.in-Some.ensures.numbers;
-      style = c.in-Some.ensures.style;
+      numbers = c.in-Some-options_of.ensures.numbers;
+      style = c.in-Some-options_of.ensures.style;
+      reports = subst (λ (reports : Reports). HoldsReports (rows_of (found_of c.args.matches.now)) reports)
+          (sym c.in-Some-options_of.ensures.reports) c.in-Some.ensures.reports;
       names = c.in_ok-names.ensures.names printing.form printing.stream printing.summary printing.explain;
     }
