@@ -68,8 +68,8 @@ where
 {
     let rt = HostRuntime::new();
     match way {
-        Way::Sorted => replay_over(&rt, Global, readers.into(), options, gatekeeper, out, error),
-        Way::Explained => explain_over(&rt, Global, readers.into(), options, gatekeeper, out, error),
+        Way::Sorted => replay_over(&rt, Global, readers.into(), options, gatekeeper, out, error).status,
+        Way::Explained => explain_over(&rt, Global, readers.into(), options, gatekeeper, out, error).status,
         Way::Streamed => {
             let records: Vec<Option<StdSink<Vec<u8>>>> = vec![None];
             stream_over(&rt, Global, readers.into(), records.into(), options, gatekeeper, out, error).status
