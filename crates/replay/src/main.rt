@@ -26,11 +26,21 @@ use wire::{Sink, StdSink};
 fn main(rt: HostRuntime) -> Status {
     let out = BufWriter::new(rt.alloc(), rt.stdout());
     let terminal = terminal(rt.stderr());
-    start(&rt, rt.stdin(), terminal, out, &mut StdSink::new(rt.stderr()))
+    start(
+        &rt,
+        rt.stdin(),
+        terminal,
+        out,
+        &mut StdSink::new(rt.stderr()),
+    )
 }
 
 fn terminal(error: Stderr) -> Option<Stderr> {
-    if error.is_terminal() { Some(error) } else { None }
+    if error.is_terminal() {
+        Some(error)
+    } else {
+        None
+    }
 }
 
 // Runs the program on the words and the files of the process. On a terminal, the progress through a

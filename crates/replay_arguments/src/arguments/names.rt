@@ -9,9 +9,9 @@ ghost use Rattle.replay_arguments.specs.Words.{HoldsForm, HoldsStream, HoldsSumm
 ghost use Rattle.replay_arguments.specs.Words.{NamesNothing, named};
 
 use crate::arguments::input::has_input_once;
+use crate::arguments::kept_inputs::writes_input;
 use crate::arguments::mistake::Mistake;
 use crate::arguments::printing::Printing;
-use crate::arguments::kept_inputs::writes_input;
 use crate::arguments::summary_file::{SummaryFile, summary_file};
 use clap::ArgMatches;
 use replay_output::Form;
