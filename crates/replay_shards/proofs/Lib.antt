@@ -1,0 +1,15 @@
+mod Versions
+mod Left
+mod Cursors
+mod Matches
+mod NotedLists
+mod Replied
+mod Lines
+mod NoteOrder
+mod Samples
+mod Requests
+mod OneReply
+mod Cases
+mod Completes
+mod Combining
+mod Merged

@@ -1,0 +1,59 @@
+-- The answers to a proxy, combined.
+use Rattle.std.specs.Prelude.{◌≡◌, ℕ, suc, ◌<◌, List, [], ◌∷◌, ◌++◌, length, map, vec_items, Vec, All}
+use Rattle.std.proofs.Common.{refl, sym, ap, ◌∙◌, subst}
+use Rattle.std.specs.List.{AllZip}
+use Rattle.std.proofs.lemmas.List.Elements.{All-nil, All-cons, All-head, All-tail}
+use Rattle.keyspace.specs.declared.answer.Answer.{Answer}
+use Rattle.keyspace.specs.Answer.{version_of_answer}
+use Rattle.checking.specs.InOrder.{Rise}
+use Rattle.replay_shards.specs.declared.note.Note.{Note}
+use Rattle.replay_shards.specs.declared.matching.Matched.{Matched}
+use Rattle.replay_shards.specs.Matching.{IsComplete, match_all, match_of}
+use Rattle.replay_shards.specs.Merging.{AreFirstMerged, AreMatched, AreMerged, AreOfFirst, IsOfMatch, Match}
+use Rattle.replay_shards.proofs.Matches.{matched_all}
+use Rattle.replay_shards.proofs.Completes.{complete_all}
+
+-- in order, seen as lists
+pub views : (each : List (Vec Answer)) → All (λ own. Rise version_of_answer own.items) each
+    → All (λ own. Rise version_of_answer own) (map vec_items each)
+views [] all = All-nil (λ own. Rise version_of_answer own)
+views (own ∷ each) all =
+    let P = λ (own : Vec Answer). Rise version_of_answer own.items in
+    All-cons (λ own. Rise version_of_answer own) own.items (map vec_items each) (All-head P own each all)
+    (views each (All-tail P own each all))
+
+long : (each : List (Vec Answer)) → length (map vec_items each) ≡ length each
+long [] = refl
+long (own ∷ each) = ap suc (long each)
+
+all_matched : (each : List (Vec Answer)) → 0 < length each → All (λ own. Rise version_of_answer own.items) each
+    → AreMatched (map vec_items each) (match_all (map vec_items each))
+all_matched each some rise =
+    matched_all (map vec_items each) (subst (λ n. 0 < n) (sym (long each)) some) (views each rise)
+
+pub complete_for : (each : List (Vec Answer)) (notes : List (Vec Note)) (matched : List Matched)
+    → map match_of matched ≡ match_all (map vec_items each) → length each ≡ length notes
+    → All (IsComplete (length notes)) (map match_of matched)
+complete_for each notes matched is as_many =
+    subst (λ (l : List Match). All (IsComplete (length notes)) l) (sym is)
+    (subst (λ n. All (IsComplete n) (match_all (map vec_items each))) (long each ∙ as_many) (complete_all (map vec_items each)))
+
+pub none_merged : (each : List (Vec Answer)) (notes : List (List Note)) (together : List Answer) → 0 < length each
+    → All (λ own. Rise version_of_answer own.items) each → together ≡ [] → AreFirstMerged (map vec_items each) notes together
+none_merged each notes together some rise empty =
+    (match_all (map vec_items each), all_matched each some rise,
+     ([], match_all (map vec_items each), refl, subst (λ (l : List Answer). AllZip (IsOfMatch notes) [] l) (sym empty) tt))
+
+pub first_merged : (each : List (Vec Answer)) (notes : List (List Note)) (matched : List Matched) (together : List Answer)
+    → 0 < length each → All (λ own. Rise version_of_answer own.items) each
+    → map match_of matched ≡ match_all (map vec_items each) → AreOfFirst notes (map match_of matched) together
+    → AreFirstMerged (map vec_items each) notes together
+first_merged each notes matched together some rise is first =
+    (map match_of matched, subst (λ (l : List Match). AreMatched (map vec_items each) l) (sym is) (all_matched each some rise), first)
+
+pub merged : (each : List (Vec Answer)) (notes : List (List Note)) (matched : List Matched) (together : List Answer)
+    → 0 < length each → All (λ own. Rise version_of_answer own.items) each
+    → map match_of matched ≡ match_all (map vec_items each) → AllZip (IsOfMatch notes) (map match_of matched) together
+    → AreMerged (map vec_items each) notes together
+merged each notes matched together some rise is all =
+    (map match_of matched, subst (λ (l : List Match). AreMatched (map vec_items each) l) (sym is) (all_matched each some rise), all)
