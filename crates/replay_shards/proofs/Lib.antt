@@ -17,3 +17,5 @@ mod Keeping
 mod Sorted
 mod Together
 mod Clipping
+mod Streams
+mod FirstOnes

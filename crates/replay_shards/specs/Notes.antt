@@ -1,6 +1,6 @@
 -- What is kept beside clips, so that reports get the indices of the batches as they were sent. This project's own.
 use Rattle.std.specs.Prelude.{◌≡◌, ℕ, ℤ, Bool, if◌then◌else◌, List, [], ◌∷◌, map, Option, None, Some}
-use Rattle.std.specs.List.{list_any}
+use Rattle.std.specs.List.{flat_map, list_any}
 use Rattle.std.specs.Ordering.{int_eq}
 use Rattle.keyspace.specs.declared.batch.Batch.{Batch}
 use Rattle.keyspace.specs.declared.txn.Txn.{Txn}
@@ -22,6 +22,10 @@ note_with reads batch =
 -- the note of a batch: per transaction, the indices of its read ranges that go to the shard
 abbrev pub note_in : Shard → Batch → List Note
 note_in shard batch = note_with (map (read_indices shard) batch.txns) batch
+
+-- the notes of batches, in order
+abbrev pub notes_of : Shard → List Batch → List Note
+notes_of shard batches = flat_map (note_in shard) batches
 
 -- the indices of a note that may be there, if it has this version
 abbrev pub reads_at : ℤ → Option Note → Option (List (List ℕ))

@@ -9,14 +9,16 @@
 //!
 //! `specs/` says, in reading order, which split points a file has (`Points`) and by which batches
 //! they are chosen (`Sampling`), what a stream of clips gives (`Clips`), what is kept for reports
-//! (`Notes`), the answer of all shards to one batch (`Answers`), and those to one proxy (`Merging`,
-//! `Answered`).
+//! (`Notes`), the answer of all shards to one batch (`Answers`), those to one proxy (`Merging`,
+//! `Answered`), and what failed of all shards together (`Failures`).
 #![tactic(auto)]
 
 mod answer;
 mod answered;
 mod clips;
 mod entries;
+mod failures;
+pub mod laws;
 mod matching;
 mod merging;
 mod note;
@@ -26,6 +28,7 @@ mod sampling;
 
 pub use answered::{Answered, combine_answered};
 pub use clips::{Clips, clips_each};
+pub use failures::{ShardStop, failure_together, first_stop};
 pub use note::Note;
 pub use points::{PointsError, fail_to_read_points, read_points};
 pub use sampling::{SAMPLE, points_of_sample};
