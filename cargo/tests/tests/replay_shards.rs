@@ -4,10 +4,11 @@ use crate::shards::{Keys, combined, indices, keys, points, shards_of, split};
 use keyspace::{Batch, Verdict};
 use rattle_std::alloc::Global;
 use rattle_std::sync::Arc;
-use replay_output::{Form, Line, Style};
-use replay_shards::{Answered, Clips, Note, PointsError, clips_each, combine_answered, points_of_sample, read_points};
+use replay_output::{Form, Line, ProxyFailure, Style};
+use replay_shards::{Answered, Clips, Note, PointsError, ShardStop, clips_each, combine_answered, failure_together, first_stop, points_of_sample, read_points};
 use replay_summary::Outcome;
 use replay_workers::Batches;
+use resolver::Stop;
 use shards::{ReadIndices, SplitPoints, number_all};
 use std::io::Cursor;
 use tests::cases::{count, run};
@@ -16,7 +17,7 @@ use tests::plain::{PlainAnswer, PlainBatch, PlainEntry, PlainRange, PlainReply, 
 use tests::playing::{Reader, reader};
 use tests::random::Random;
 use tests::spelling::batch_frame;
-use wire::{StdSource, read_frames};
+use wire::{StdSource, WireError, read_frames};
 
 type Reads = Vec<Vec<u16>>;
 
@@ -211,7 +212,7 @@ fn file(random: &mut Random) -> (Vec<PlainBatch>, Vec<u8>) {
     (batches, file)
 }
 
-fn read_all<B: Batches>(stream: &mut B) -> (Vec<PlainBatch>, Option<wire::WireError>) {
+fn read_all<B: Batches>(stream: &mut B) -> (Vec<PlainBatch>, Option<WireError>) {
     let mut found = Vec::new();
     loop {
         match stream.next() {
@@ -259,7 +260,7 @@ fn points_of_lines() {
     assert_eq!(points_in(b"g\np\n", 3).ok(), Some(keys(["g", "p"])));
     assert_eq!(points_in(b"g\np", 3).ok(), Some(keys(["g", "p"])));
     assert_eq!(points_in(b"", 1).ok(), Some(keys([])));
-    let refused = |text, shards| points_in(text, shards).expect_err("they are refused").to_string();
+    let refused = |text: &[u8], shards| points_in(text, shards).expect_err("they are refused").to_string();
     assert_eq!(refused(b"g\np\n", 2), "1 split points are wanted, the file has 2");
     assert_eq!(refused(b"g\np\n", 4), "3 split points are wanted, the file has 2");
     assert_eq!(refused(b"p\ng\n", 3), "line 2: the split point isn't after the one before");
@@ -284,4 +285,16 @@ fn points_of_samples() {
         assert_eq!(format!("{:?}", found.points()), format!("{:?}", expected.points()));
         1
     });
+}
+
+#[test]
+fn failures_by_hand() {
+    let failure = |fault, lost| ProxyFailure { fault, lost };
+    let each = [failure(None, false), failure(Some(WireError::Read), false), failure(Some(WireError::Memory), true), failure(None, false)];
+    assert_eq!(failure_together(&each), failure(Some(WireError::Read), true));
+    assert_eq!(failure_together(&each[..2]), failure(Some(WireError::Read), false));
+    assert_eq!(failure_together(&[]), failure(None, false));
+    let stops = [None, Some(Stop::ArenaFull), Some(Stop::GateFull)];
+    assert_eq!(first_stop(&stops), Some(ShardStop { stop: Stop::ArenaFull, shard: 1 }));
+    assert_eq!(first_stop(&stops[..1]), None);
 }

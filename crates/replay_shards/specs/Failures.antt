@@ -1,5 +1,6 @@
 -- What failed of all shards together. This project's own.
-use Rattle.std.specs.Prelude.{◌≡◌, Bool, List, [], ◌∷◌, map, take, Option, None, Some, option_or, slice_get}
+use Rattle.std.specs.Prelude.{◌≡◌, Bool, List, [], ◌∷◌, map, take, Option, None, Some, slice_get}
+use Rattle.std.specs.Option.{option_or}
 use Rattle.std.specs.List.{All, list_any}
 use Rattle.wire.specs.declared.error.WireError.{WireError}
 use Rattle.resolver.specs.declared.stop.Stop.{Stop}
