@@ -16,7 +16,7 @@ use Rattle.replay_shards.proofs.Sorted.{at_in_order, at_sorted}
 use Rattle.replay_shards.proofs.Versions.{at_kept, at_dropped}
 
 -- the indices of the first of these notes
-first_reads : List Note → Option (List (List ℕ))
+abbrev first_reads : List Note → Option (List (List ℕ))
 first_reads [] = None
 first_reads (note ∷ notes) = Some note.reads
 
