@@ -1,3 +1,4 @@
+pub mod callers
 mod ShardList
 mod Counts
 mod Reached
@@ -5,11 +6,13 @@ mod ClipKeys
 mod ClipLists
 mod Appended
 mod IndexLists
-mod Leasts
-mod Reports
+pub mod Leasts
+pub mod Reports
 mod Misfits
 mod Together
 mod Going
+mod Among
+mod AmongOthers
 mod NoMore
 mod BuiltTables
 mod Kept

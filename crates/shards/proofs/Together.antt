@@ -13,6 +13,7 @@ use Rattle.keyspace.specs.declared.reply.Verdict.TheVariants.{Committed}
 use Rattle.keyspace.specs.declared.reply.Entry.{Entry}
 use Rattle.keyspace.specs.declared.reply.Reply.{Reply}
 use Rattle.keyspace.specs.Processed.{Processed}
+use Rattle.keyspace.specs.Chain.{IsChain}
 use Rattle.serial.specs.Commits.{holds}
 use Rattle.serial.specs.Stores.{in_ranges}
 use Rattle.serial.specs.Shards.{Shard, ends_above, has_key, SameInShard, IsTxnClip as IsTxnClipOf, IsBatchClip as IsBatchClipOf, SaysCommitted, AreByShards}
@@ -20,7 +21,7 @@ use Rattle.serial.proofs.callers.Reading.{some_at, the_value}
 use Rattle.shards.specs.declared.shard_reply.ShardReply.{ShardReply}
 use Rattle.shards.specs.Clips.{goes_to, IsClip, AreClips, IsTxnClip, IsBatchClip}
 use Rattle.shards.specs.Combined.{rank, OfEntry}
-use Rattle.shards.specs.Laws.{AreRepliesTo, AreCombined}
+use Rattle.shards.specs.Laws.{AreRepliesTo, AreCombinedBy, AreCombined}
 use Rattle.shards.proofs.Leasts.{greatest}
 
 -- a range that holds a key below an end isn't empty
@@ -110,20 +111,29 @@ all_said i j (own ∷ each) (s ∷ replies) zipped all =
     (all_said i j each replies zipped.1 (All-tail P s replies all))
 
 -- the combined replies commit only what every shard commits
+pub all_commit : (IsOfShard : List Processed → Type 0) (points : List (List ℕ)) (each : List (List Processed)) (ps : List Processed)
+    → AreCombinedBy IsOfShard points each ps → (i j : ℕ) → SaysCommitted i j ps → All (SaysCommitted i j) each
+all_commit IsOfShard points each ps are i j says =
+    let p = the_value (λ (p : Processed). IsSomeAnd (slice_get p.reply.entries j) (λ e. e.verdict ≡ Committed)) (slice_get ps i) says in
+    let e = the_value (λ (e : Entry). e.verdict ≡ Committed) (slice_get p.0.reply.entries j) p.2 in
+    let found = are.replies i p.0 p.1 in
+    let least = (found.2.entries j e.0 e.1).verdict.least in
+    all_said i j each found.0 found.1
+    (subst (λ (verdict : Verdict). All (OfEntry j (λ own. rank verdict ≤ rank own.verdict)) found.0) e.2 least)
+
+-- the clips of batches are clips as the laws of `serial` have them
+pub clips_of : (shard : Shard) (ps own : List Processed) → AllZip (λ p c. IsBatchClip shard p.batch c.batch) ps own
+    → AllZip (λ p c. IsBatchClipOf shard p.batch c.batch) ps own
+clips_of shard ps own clips =
+    zip_weaker (λ p c. IsBatchClip shard p.batch c.batch) (λ p c. IsBatchClipOf shard p.batch c.batch) (batch_clip shard) ps own clips
+
+-- so the combined replies are by shards
 pub are_by_shards : (window : ℤ) (points : List (List ℕ)) (each : List (List Processed)) (ps : List Processed)
     → AreCombined window points each ps → AreByShards window points each ps
 are_by_shards window points each ps are = record {
   rising = are.rising;
   one_each = are.one_each;
   chains = are.chains;
-  clips = λ m shard own here there.
-      zip_weaker (λ p c. IsBatchClip shard p.batch c.batch) (λ p c. IsBatchClipOf shard p.batch c.batch) (batch_clip shard) ps own
-      (are.clips m shard own here there);
-  verdicts = λ i j says.
-      let p = the_value (λ (p : Processed). IsSomeAnd (slice_get p.reply.entries j) (λ e. e.verdict ≡ Committed)) (slice_get ps i) says in
-      let e = the_value (λ (e : Entry). e.verdict ≡ Committed) (slice_get p.0.reply.entries j) p.2 in
-      let found = are.replies i p.0 p.1 in
-      let least = (found.2.entries j e.0 e.1).verdict.least in
-      all_said i j each found.0 found.1
-      (subst (λ (verdict : Verdict). All (OfEntry j (λ own. rank verdict ≤ rank own.verdict)) found.0) e.2 least);
+  clips = λ m shard own here there. clips_of shard ps own (are.clips m shard own here there);
+  verdicts = all_commit (IsChain window) points each ps are;
 }

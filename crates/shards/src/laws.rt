@@ -5,7 +5,9 @@ ghost use Rattle.keyspace.specs.Processed.{Processed};
 ghost use Rattle.serial.specs.Commits.{Current};
 ghost use Rattle.serial.specs.Serial.{EachIsIsolated, Serializable, EffectsAreSerializable};
 ghost use Rattle.serial.specs.Serial.{SnapshotsArePlaces, RealTime};
+ghost use Rattle.serial.specs.Serial.{IsSerializable};
 ghost use Rattle.shards.specs.Laws.{GoesToIsComputed, EachRangeGoes, AreCombined, CommitsNoMore};
+ghost use Rattle.shards.specs.Laws.{AreCombinedAmongOthers};
 
 /// A range goes to each shard that has a key of it, and an empty range to the shard of its begin
 /// key: the test by ends says the same. Each range goes to some shard.
@@ -38,6 +40,18 @@ pub fn serializable()
 {
     serial::laws::serializable_by_shards();
 }
+
+/// Of the batches that all shards have processed, the transactions that all of them commit are
+/// serializable. Each shard may have processed other batches between them, as runs do that don't
+/// wait for each other: what these wrote only makes conflicts.
+pub fn serializable_among_others()
+    ensures current { (window : ℤ) (points : List (List ℕ))
+        (each : List (List Processed)) (ps : List Processed)
+        → AreCombinedAmongOthers window points each ps → Current ps }
+    ensures all { (window : ℤ) (points : List (List ℕ))
+        (each : List (List Processed)) (ps : List Processed)
+        → AreCombinedAmongOthers window points each ps → IsSerializable ps }
+{}
 
 /// What all shards commit, one resolver commits too, if it remembers just the writes that clients
 /// received as committed.
