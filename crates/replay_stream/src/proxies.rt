@@ -77,15 +77,7 @@ pub fn connect_all<S: Drop, W: Drop, G: Drop>(
             style: options.style,
         };
         let gatekeeper = Arc::try_clone(gatekeeper)?;
-        let task = connect(
-            alloc,
-            options,
-            assignment,
-            client,
-            reader,
-            out,
-            gatekeeper,
-        )?;
+        let task = connect(alloc, options, assignment, client, reader, out, gatekeeper)?;
         tasks.push_reserved(task);
     }
     Ok(tasks)

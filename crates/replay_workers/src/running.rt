@@ -89,14 +89,16 @@ pub fn run_observed<
     match options.reports {
         Reports::Asked => {
             let streams = frames_each(alloc, readers)?;
-            let (outcome, _, account) =
-                run_over(rt, alloc, streams, options, gatekeeper, observer)?;
+            let (outcome, _, account) = run_over(
+                rt, alloc, streams, options, gatekeeper, observer,
+            )?;
             Ok((outcome, account))
         }
         Reports::All => {
             let streams = asking_each(alloc, readers)?;
-            let (outcome, _, account) =
-                run_over(rt, alloc, streams, options, gatekeeper, observer)?;
+            let (outcome, _, account) = run_over(
+                rt, alloc, streams, options, gatekeeper, observer,
+            )?;
             Ok((outcome, account))
         }
     }
