@@ -54,304 +54,303 @@ use Rattle.replay_stream.proofs.Streams.{ends_of, recorded_of, streamed_for}
 
 module _ {S W G : Type 0} (reports : Reports) (readers : List S) (outs : List (Option W)) (clients : List Client) (tasks : List (Task S W G))
     (same : length readers ≡ length clients) (as_many : length outs ≡ length clients)
-    (given : map (λ (t : Task S W G). given_with t.outlet (threads_by t)) tasks ≡ given_proxies reports 0 clients readers outs)
-  where
-    pub tasks_count : length tasks ≡ length clients
-    tasks_count = sym (length-map tasks (λ (t : Task S W G). given_with t.outlet (threads_by t))) ∙ ap length given
-        ∙ length_given reports 0 clients readers outs same as_many
+    (given : map (λ (t : Task S W G). given_with t.outlet (threads_by t)) tasks ≡ given_proxies reports 0 clients readers outs) where
+  pub tasks_count : length tasks ≡ length clients
+  tasks_count = sym (length-map tasks (λ (t : Task S W G). given_with t.outlet (threads_by t))) ∙ ap length given
+      ∙ length_given reports 0 clients readers outs same as_many
 
-    -- what one proxy was given
-    pub record Place (proxy : ℕ) (task : Task S W G) : Type 0 where
-      pub client : Client
-      pub at_client : slice_get clients proxy ≡ Some client
-      pub reader : S
-      pub at_reader : slice_get readers proxy ≡ Some reader
-      pub out : Option W
-      pub at_out : slice_get outs proxy ≡ Some out
-      pub was_given : given_with task.outlet (threads_by task) ≡ record { proxy = proxy; client = client; reader = reader; reports = reports; out = out }
+  -- what one proxy was given
+  pub record Place (proxy : ℕ) (task : Task S W G) : Type 0 where
+    pub client : Client
+    pub at_client : slice_get clients proxy ≡ Some client
+    pub reader : S
+    pub at_reader : slice_get readers proxy ≡ Some reader
+    pub out : Option W
+    pub at_out : slice_get outs proxy ≡ Some out
+    pub was_given : given_with task.outlet (threads_by task) ≡ record { proxy = proxy; client = client; reader = reader; reports = reports; out = out }
 
-    given_here : (proxy : ℕ) (task : Task S W G) → slice_get tasks proxy ≡ Some task
-        → slice_get (given_proxies reports 0 clients readers outs) proxy ≡ Some (given_with task.outlet (threads_by task))
-    given_here proxy task at =
-        ap (λ l. slice_get l proxy) (sym given)
-        ∙ mapped_at (λ (t : Task S W G). given_with t.outlet (threads_by t)) tasks proxy task at
+  given_here : (proxy : ℕ) (task : Task S W G) → slice_get tasks proxy ≡ Some task
+      → slice_get (given_proxies reports 0 clients readers outs) proxy ≡ Some (given_with task.outlet (threads_by task))
+  given_here proxy task at =
+      ap (λ l. slice_get l proxy) (sym given)
+      ∙ mapped_at (λ (t : Task S W G). given_with t.outlet (threads_by t)) tasks proxy task at
 
-    pub place_of : (proxy : ℕ) (task : Task S W G) → slice_get tasks proxy ≡ Some task → Place proxy task
-    place_of proxy task at =
-        let c = found tasks clients proxy task (sym tasks_count) at in
-        let r = found clients readers proxy c.0 same c.1 in
-        let o = found clients outs proxy c.0 as_many c.1 in
-        let number : 0 + proxy ≡ proxy = omega arith in
+  pub place_of : (proxy : ℕ) (task : Task S W G) → slice_get tasks proxy ≡ Some task → Place proxy task
+  place_of proxy task at =
+      let c = found tasks clients proxy task (sym tasks_count) at in
+      let r = found clients readers proxy c.0 same c.1 in
+      let o = found clients outs proxy c.0 as_many c.1 in
+      let number : 0 + proxy ≡ proxy = omega arith in
+      record {
+        client = c.0;
+        at_client = c.1;
+        reader = r.0;
+        at_reader = r.1;
+        out = o.0;
+        at_out = o.1;
+        was_given =
+            same_Some _ _ (sym (given_here proxy task at) ∙ given_at reports 0 clients readers outs same as_many proxy c.0 r.0 o.0 c.1 r.1 o.1)
+            ∙ ap (λ (n : ℕ). given_one reports n c.0 r.0 o.0) number;
+      }
+
+  pub are_numbered : AreNumbered (map (λ (t : Task S W G). t.outlet) tasks)
+  are_numbered proxy l at =
+      let t = from_map (λ (t : Task S W G). t.outlet) tasks proxy l at in
+      let number : 0 + proxy ≡ proxy = omega arith in
+      ap (λ (l : Outlet). l.proxy) (sym t.2)
+      ∙ given_number reports 0 clients readers outs proxy (given_with t.0.outlet (threads_by t.0)) (given_here proxy t.0 t.1) ∙ number
+
+  module _ (style : Style) (has_failed : Bool) (before after : SinkState) (ended : List (Proxy S W))
+      (fresh : All (λ (t : Task S W G). IsNewOutlet t.outlet (threads_by t).answers) tasks)
+      (threads : map threads_of ended ≡ map (λ (t : Task S W G). threads_by t) tasks)
+      (goes : StreamGoesOn style false has_failed before after (map (λ (t : Task S W G). t.outlet) tasks) (outlets_of ended))
+      (passed : HavePassedAll (outlets_of ended)) where
+    pub ended_count : length ended ≡ length clients
+    ended_count = sym (length-map ended threads_of) ∙ ap length threads ∙ length-map tasks (λ (t : Task S W G). threads_by t)
+        ∙ tasks_count
+
+    -- a proxy whose outlet has ended, and the task that it was started with
+    pub record Ran (proxy : ℕ) (running : Proxy S W) : Type 0 where
+      pub task : Task S W G
+      pub at_task : slice_get tasks proxy ≡ Some task
+      pub same_threads : threads_of running ≡ threads_by task
+      pub is_new : IsNewOutlet task.outlet (threads_by task).answers
+      pub dropped : List Answer
+      pub goes_on :
+          OutletGoesOn (printed_for proxy goes.printed) dropped (is_whole task.outlet.lost false)
+          (is_whole running.outlet.lost has_failed) task.outlet running.outlet
+      pub has_passed : HasPassedAll running.outlet
+
+    pub ran_at : (proxy : ℕ) (running : Proxy S W) → slice_get ended proxy ≡ Some running → Ran proxy running
+    ran_at proxy running at =
+        let t = found ended tasks proxy running (tasks_count ∙ sym ended_count) at in
+        let outlet_at = mapped_at (λ (t : Task S W G). t.outlet) tasks proxy t.0 t.1 in
+        let ended_at = mapped_at (λ (p : Proxy S W). p.outlet) ended proxy running at in
+        let goes_on = goes.each.each proxy t.0.outlet running.outlet outlet_at ended_at in
         record {
-          client = c.0;
-          at_client = c.1;
-          reader = r.0;
-          at_reader = r.1;
-          out = o.0;
-          at_out = o.1;
-          was_given =
-              same_Some _ _ (sym (given_here proxy task at) ∙ given_at reports 0 clients readers outs same as_many proxy c.0 r.0 o.0 c.1 r.1 o.1)
-              ∙ ap (λ (n : ℕ). given_one reports n c.0 r.0 o.0) number;
+          task = t.0;
+          at_task = t.1;
+          same_threads =
+              same_Some (threads_of running) (threads_by t.0) (sym (mapped_at threads_of ended proxy running at)
+              ∙ ap (λ l. slice_get l proxy) threads ∙ mapped_at (λ (t : Task S W G). threads_by t) tasks proxy t.0 t.1);
+          is_new = all_at (λ (t : Task S W G). IsNewOutlet t.outlet (threads_by t).answers) tasks proxy t.0 fresh t.1;
+          dropped = goes_on.0;
+          goes_on = goes_on.1;
+          has_passed = passed proxy running.outlet ended_at;
         }
 
-    pub are_numbered : AreNumbered (map (λ (t : Task S W G). t.outlet) tasks)
-    are_numbered proxy l at =
-        let t = from_map (λ (t : Task S W G). t.outlet) tasks proxy l at in
-        let number : 0 + proxy ≡ proxy = omega arith in
-        ap (λ (l : Outlet). l.proxy) (sym t.2)
-        ∙ given_number reports 0 clients readers outs proxy (given_with t.0.outlet (threads_by t.0)) (given_here proxy t.0 t.1) ∙ number
+    -- the two ends of the lane to each recorder are of one lane
+    pub ends_each : All (λ (p : Proxy S W). AreEnds p.outlet.records (threads_of p).answers) ended
+    ends_each = all_of (λ (p : Proxy S W). AreEnds p.outlet.records (threads_of p).answers) ended (λ place p at.
+        let ran = ran_at place p at in
+        subst (λ (t : GivenThreads S W). AreEnds p.outlet.records t.answers) (sym ran.same_threads)
+        (ends_of ran.task.outlet.records p.outlet.records (threads_by ran.task).answers ran.task.outlet.waiting p.outlet.waiting _
+        ran.is_new.ends ran.goes_on.passed))
 
-    module _ (style : Style) (has_failed : Bool) (before after : SinkState) (ended : List (Proxy S W))
-        (fresh : All (λ (t : Task S W G). IsNewOutlet t.outlet (threads_by t).answers) tasks)
-        (threads : map threads_of ended ≡ map (λ (t : Task S W G). threads_by t) tasks)
-        (goes : StreamGoesOn style false has_failed before after (map (λ (t : Task S W G). t.outlet) tasks) (outlets_of ended))
-        (passed : HavePassedAll (outlets_of ended)) where
-      pub ended_count : length ended ≡ length clients
-      ended_count = sym (length-map ended threads_of) ∙ ap length threads ∙ length-map tasks (λ (t : Task S W G). threads_by t)
-          ∙ tasks_count
+    module _ (remaining : S → Option (List ℕ)) (state_of : W → SinkState) (joined : List (Joined W))
+        (worked : AllZip (IsJoined remaining state_of) ended joined) where
+      pub joined_count : length joined ≡ length clients
+      joined_count = AllZip-long (IsJoined remaining state_of) ended joined worked ∙ ended_count
 
-      -- a proxy whose outlet has ended, and the task that it was started with
-      pub record Ran (proxy : ℕ) (running : Proxy S W) : Type 0 where
-        pub task : Task S W G
-        pub at_task : slice_get tasks proxy ≡ Some task
-        pub same_threads : threads_of running ≡ threads_by task
-        pub is_new : IsNewOutlet task.outlet (threads_by task).answers
-        pub dropped : List Answer
-        pub goes_on :
-            OutletGoesOn (printed_for proxy goes.printed) dropped (is_whole task.outlet.lost false)
-            (is_whole running.outlet.lost has_failed) task.outlet running.outlet
-        pub has_passed : HasPassedAll running.outlet
+      -- all that is known of one proxy
+      pub record Known (proxy : ℕ) (j : Joined W) : Type 0 where
+        pub running : Proxy S W
+        pub ran : Ran proxy running
+        pub place : Place proxy ran.task
+        pub has : HasJoined remaining state_of running.outlet (threads_by ran.task) j
+        pub requests : (threads_by ran.task).requests ≡ place.client.requests
+        pub replies : ran.task.outlet.replies ≡ place.client.replies
+        pub reader : (threads_by ran.task).reader ≡ place.reader
+        pub reports_are : (threads_by ran.task).reports ≡ reports
+        pub out : (threads_by ran.task).out ≡ place.out
 
-      pub ran_at : (proxy : ℕ) (running : Proxy S W) → slice_get ended proxy ≡ Some running → Ran proxy running
-      ran_at proxy running at =
-          let t = found ended tasks proxy running (tasks_count ∙ sym ended_count) at in
-          let outlet_at = mapped_at (λ (t : Task S W G). t.outlet) tasks proxy t.0 t.1 in
-          let ended_at = mapped_at (λ (p : Proxy S W). p.outlet) ended proxy running at in
-          let goes_on = goes.each.each proxy t.0.outlet running.outlet outlet_at ended_at in
+      pub known_at : (proxy : ℕ) (j : Joined W) → slice_get joined proxy ≡ Some j → Known proxy j
+      known_at proxy j at =
+          let p = found joined ended proxy j (ended_count ∙ sym joined_count) at in
+          let ran = ran_at proxy p.0 p.1 in
+          let place = place_of proxy ran.task ran.at_task in
           record {
-            task = t.0;
-            at_task = t.1;
-            same_threads =
-                same_Some (threads_of running) (threads_by t.0) (sym (mapped_at threads_of ended proxy running at)
-                ∙ ap (λ l. slice_get l proxy) threads ∙ mapped_at (λ (t : Task S W G). threads_by t) tasks proxy t.0 t.1);
-            is_new = all_at (λ (t : Task S W G). IsNewOutlet t.outlet (threads_by t).answers) tasks proxy t.0 fresh t.1;
-            dropped = goes_on.0;
-            goes_on = goes_on.1;
-            has_passed = passed proxy running.outlet ended_at;
+            running = p.0;
+            ran = ran;
+            place = place;
+            has =
+                subst (λ (given : GivenThreads S W). HasJoined remaining state_of p.0.outlet given j) ran.same_threads
+                (zip_at (IsJoined remaining state_of) ended joined proxy p.0 j worked p.1 at);
+            requests = ap (λ (g : GivenProxy S W). g.client.requests) place.was_given;
+            replies = ap (λ (g : GivenProxy S W). g.client.replies) place.was_given;
+            reader = ap (λ (g : GivenProxy S W). g.reader) place.was_given;
+            reports_are = ap (λ (g : GivenProxy S W). g.reports) place.was_given;
+            out = ap (λ (g : GivenProxy S W). g.out) place.was_given;
           }
 
-      -- the two ends of the lane to each recorder are of one lane
-      pub ends_each : All (λ (p : Proxy S W). AreEnds p.outlet.records (threads_of p).answers) ended
-      ends_each = all_of (λ (p : Proxy S W). AreEnds p.outlet.records (threads_of p).answers) ended (λ place p at.
-          let ran = ran_at place p at in
-          subst (λ (t : GivenThreads S W). AreEnds p.outlet.records t.answers) (sym ran.same_threads)
-          (ends_of ran.task.outlet.records p.outlet.records (threads_by ran.task).answers ran.task.outlet.waiting p.outlet.waiting _
-          ran.is_new.ends ran.goes_on.passed))
+      -- the clients are those that were given
+      pub clients_joined : AllZip ClientGoesOn clients (map client_of joined)
+      clients_joined =
+          zip_of ClientGoesOn clients (map client_of joined) (length-map joined client_of ∙ joined_count) (λ proxy c d at there.
+          let j = from_map client_of joined proxy d there in
+          let known = known_at proxy j.0 j.1 in
+          let is : known.place.client ≡ c = same_Some _ c (sym known.place.at_client ∙ at) in
+          let replies = ap (λ (o : Outlet). o.replies) known.has.outlet_is in
+          subst (λ (c : Client). ClientGoesOn c d) is
+          (subst (λ (d : Client). ClientGoesOn known.place.client d) j.2
+          (record {
+            requests = subst (λ (p : PortView Batch). PortGoesOn p j.0.sent.requests) known.requests known.has.sent.requests;
+            replies =
+                subst (λ (i : IntakeView Answer). IntakeGoesOn known.place.client.replies i) (sym replies)
+                (subst (λ (i : IntakeView Answer). IntakeGoesOn i known.running.outlet.replies) known.replies
+                known.ran.goes_on.replies);
+          })))
 
-      module _ (remaining : S → Option (List ℕ)) (state_of : W → SinkState) (joined : List (Joined W))
-          (worked : AllZip (IsJoined remaining state_of) ended joined) where
-        pub joined_count : length joined ≡ length clients
-        joined_count = AllZip-long (IsJoined remaining state_of) ended joined worked ∙ ended_count
+      -- and each has taken its answers to their end
+      pub clients_ended : (proxy : ℕ) (c : Client) → slice_get (map client_of joined) proxy ≡ Some c → HasEnded c.replies
+      clients_ended proxy c at =
+          let j = from_map client_of joined proxy c at in
+          let known = known_at proxy j.0 j.1 in
+          subst (λ (c : Client). HasEnded c.replies) j.2
+          (subst (λ (i : IntakeView Answer). HasEnded i) (sym (ap (λ (o : Outlet). o.replies) known.has.outlet_is))
+          known.ran.has_passed.ended)
 
-        -- all that is known of one proxy
-        pub record Known (proxy : ℕ) (j : Joined W) : Type 0 where
-          pub running : Proxy S W
-          pub ran : Ran proxy running
-          pub place : Place proxy ran.task
-          pub has : HasJoined remaining state_of running.outlet (threads_by ran.task) j
-          pub requests : (threads_by ran.task).requests ≡ place.client.requests
-          pub replies : ran.task.outlet.replies ≡ place.client.replies
-          pub reader : (threads_by ran.task).reader ≡ place.reader
-          pub reports_are : (threads_by ran.task).reports ≡ reports
-          pub out : (threads_by ran.task).out ≡ place.out
+      -- the proxies that have a writer have a recorder, and no others
+      pub have_recorders : (recorders : List (Option (Recorder W))) → recorders ≡ map (λ (j : Joined W). j.recorder) joined
+          → HaveRecords (map is_some outs) recorders
+      have_recorders recorders are proxy has r has_at r_at =
+          let j = from_map (λ (j : Joined W). j.recorder) joined proxy r (ap (λ l. slice_get l proxy) (sym are) ∙ r_at) in
+          let known = known_at proxy j.0 j.1 in
+          let o = from_map is_some outs proxy has has_at in
+          let out_is : known.place.out ≡ o.0 = same_Some _ o.0 (sym known.place.at_out ∙ o.1) in
+          ap is_some (sym j.2)
+          ∙ has_recorder state_of (threads_by known.ran.task).out (threads_by known.ran.task).answers _ _ j.0.recorder known.has.recorder
+          ∙ ap is_some (known.out ∙ out_is) ∙ o.2
 
-        pub known_at : (proxy : ℕ) (j : Joined W) → slice_get joined proxy ≡ Some j → Known proxy j
-        known_at proxy j at =
-            let p = found joined ended proxy j (ended_count ∙ sym joined_count) at in
-            let ran = ran_at proxy p.0 p.1 in
-            let place = place_of proxy ran.task ran.at_task in
+      module _ (options : Options) (style_is : style ≡ options.style) (reports_is : reports ≡ options.reports) (log : List Step)
+          (lanes : List Lanes) (account : Account) (streamed : Streamed W) (new : All (IsNewClient options.capacity) clients)
+          (settled : Settled options.window log lanes (map client_of joined) account)
+          (whole : account.stop ≡ None → account.complete ≡ true) (of_joined : IsStreamedOf joined streamed) where
+        abbrev complete : Bool
+        complete = account.complete && streamed.all_sent
+
+        abbrev bytes_of : (proxy : ℕ) (j : Joined W) → Known proxy j → Option (List ℕ)
+        bytes_of proxy j known = remaining known.place.reader
+
+        streamed_at : (proxy : ℕ) (j : Joined W) (at : slice_get joined proxy ≡ Some j) (known : Known proxy j)
+            → IsStreamedFor options.reports options.window log complete has_failed account.stop (bytes_of proxy j known) proxy
+            (printed_for proxy goes.printed) (failure_with j) (recorded_of state_of known.place.out j.recorder)
+        streamed_at proxy j at known =
+            let ran = known.ran in
+            let client = all_at (IsNewClient options.capacity) clients proxy known.place.client new known.place.at_client in
+            let here = mapped_at client_of joined proxy j at in
+            subst (λ (o : Option W). IsStreamedFor options.reports options.window log complete has_failed account.stop (bytes_of proxy j known)
+            proxy (printed_for proxy goes.printed) (failure_with j) (recorded_of state_of o j.recorder)) known.out
+            (subst (λ (r : S). IsStreamedFor options.reports options.window log complete has_failed account.stop (remaining r)
+            proxy (printed_for proxy goes.printed) (failure_with j) (recorded_of state_of (threads_by ran.task).out j.recorder))
+            known.reader
+            (subst (λ (r : Reports). IsStreamedFor r options.window log complete has_failed account.stop
+            (remaining (threads_by ran.task).reader) proxy (printed_for proxy goes.printed) (failure_with j)
+            (recorded_of state_of (threads_by ran.task).out j.recorder)) (known.reports_are ∙ reports_is)
+            (streamed_for state_of remaining options.window log (has_ended lanes proxy) streamed.all_sent has_failed (sent_to lanes proxy) account
+            proxy (threads_by ran.task) ran.task.outlet known.running.outlet j (printed_for proxy goes.printed) ran.dropped
+            (ap (λ (p : PortView Batch). p.sent) (known.requests ∙ client.requests))
+            (ap (λ (i : IntakeView Answer). i.taken) (known.replies ∙ client.replies)) ran.is_new.none_waits ran.is_new.ends ran.goes_on
+            ran.has_passed known.has (settled.each proxy (client_of j) here) (settled.reported proxy (client_of j) here)
+            (λ all. all_at SendsAll joined proxy j (of_joined.all_sent all) at) whole)))
+
+        -- the reader at a place is that of its proxy
+        bytes_are : (proxy : ℕ) (bytes : Option (List ℕ)) (j : Joined W) (known : Known proxy j)
+            → slice_get (map remaining readers) proxy ≡ Some bytes → bytes_of proxy j known ≡ bytes
+        bytes_are proxy bytes j known at =
+            same_Some _ bytes (sym (mapped_at remaining readers proxy known.place.reader known.place.at_reader) ∙ at)
+
+        -- without a stop, what is missing is a batch that was not sent
+        leaves : complete ≡ false → account.stop ≡ None → LeavesLast options.reports (map remaining readers) log
+        leaves not_all no_stop =
+            let yes = whole no_stop in
+            let not_sent : streamed.all_sent ≡ false = sym (ap (λ (b : Bool). b && streamed.all_sent) yes) ∙ not_all in
+            let back = of_joined.unsent not_sent in
+            let known = known_at back.place back.worker back.at in
+            let client = all_at (IsNewClient options.capacity) clients back.place known.place.client new known.place.at_client in
+            let sends = known.has.sent.sends in
+            let settled_for = settled.each back.place (client_of back.worker) (mapped_at client_of joined back.place back.worker back.at) in
+            let sent : sends.batches ≡ part log back.place =
+            sym (ap (λ (l : List Batch). l ++ sends.batches) (ap (λ (p : PortView Batch). p.sent) (known.requests ∙ client.requests)))
+            ∙ sym sends.sent ∙ sym (settled_for.all_batches (settled_for.all_ended yes)) in
             record {
-              running = p.0;
-              ran = ran;
-              place = place;
-              has =
-                  subst (λ (given : GivenThreads S W). HasJoined remaining state_of p.0.outlet given j) ran.same_threads
-                  (zip_at (IsJoined remaining state_of) ended joined proxy p.0 j worked p.1 at);
-              requests = ap (λ (g : GivenProxy S W). g.client.requests) place.was_given;
-              replies = ap (λ (g : GivenProxy S W). g.client.replies) place.was_given;
-              reader = ap (λ (g : GivenProxy S W). g.reader) place.was_given;
-              reports_are = ap (λ (g : GivenProxy S W). g.reports) place.was_given;
-              out = ap (λ (g : GivenProxy S W). g.out) place.was_given;
+              proxy = back.place;
+              bytes = remaining known.place.reader;
+              of_proxy = mapped_at remaining readers back.place known.place.reader known.place.at_reader;
+              batch = back.batch;
+              left = sends.left;
+              read =
+                  subst (λ (r : S). TakesFrames options.reports (remaining r) sends.left (part log back.place ++ back.batch ∷ []))
+                  known.reader
+                  (subst (λ (r : Reports). TakesFrames r (remaining (threads_by known.ran.task).reader) sends.left
+                  (part log back.place ++ back.batch ∷ [])) (known.reports_are ∙ reports_is)
+                  (subst (λ (l : List Batch). TakesFrames (threads_by known.ran.task).reports (remaining (threads_by known.ran.task).reader)
+                  sends.left (l ++ back.batch ∷ [])) sent
+                  (subst (λ (u : Option Batch). TakesFrames (threads_by known.ran.task).reports
+                  (remaining (threads_by known.ran.task).reader) sends.left (sends.batches ++ option_to_list u)) back.unsent
+                  sends.frames)));
             }
 
-        -- the clients are those that were given
-        pub clients_joined : AllZip ClientGoesOn clients (map client_of joined)
-        clients_joined =
-            zip_of ClientGoesOn clients (map client_of joined) (length-map joined client_of ∙ joined_count) (λ proxy c d at there.
-            let j = from_map client_of joined proxy d there in
-            let known = known_at proxy j.0 j.1 in
-            let is : known.place.client ≡ c = same_Some _ c (sym known.place.at_client ∙ at) in
-            let replies = ap (λ (o : Outlet). o.replies) known.has.outlet_is in
-            subst (λ (c : Client). ClientGoesOn c d) is
-            (subst (λ (d : Client). ClientGoesOn known.place.client d) j.2
-            (record {
-              requests = subst (λ (p : PortView Batch). PortGoesOn p j.0.sent.requests) known.requests known.has.sent.requests;
-              replies =
-                  subst (λ (i : IntakeView Answer). IntakeGoesOn known.place.client.replies i) (sym replies)
-                  (subst (λ (i : IntakeView Answer). IntakeGoesOn i known.running.outlet.replies) known.replies
-                  known.ran.goes_on.replies);
-            })))
+        recorded_here : (proxy : ℕ) (j : Joined W) → slice_get joined proxy ≡ Some j → (known : Known proxy j)
+            → slice_get (recorded_each state_of outs streamed.recorders.items) proxy
+            ≡ Some (recorded_of state_of known.place.out j.recorder)
+        recorded_here proxy j at known =
+            recorded_at state_of outs streamed.recorders.items proxy known.place.out j.recorder known.place.at_out
+            (ap (λ l. slice_get l proxy) of_joined.recorders ∙ mapped_at (λ (j : Joined W). j.recorder) joined proxy j at)
 
-        -- and each has taken its answers to their end
-        pub clients_ended : (proxy : ℕ) (c : Client) → slice_get (map client_of joined) proxy ≡ Some c → HasEnded c.replies
-        clients_ended proxy c at =
-            let j = from_map client_of joined proxy c at in
-            let known = known_at proxy j.0 j.1 in
-            subst (λ (c : Client). HasEnded c.replies) j.2
-            (subst (λ (i : IntakeView Answer). HasEnded i) (sym (ap (λ (o : Outlet). o.replies) known.has.outlet_is))
-            known.ran.has_passed.ended)
+        -- the proxy's place among those that were joined
+        joined_for : {X : Type 0} (xs : List X) (proxy : ℕ) (x : X) → length xs ≡ length clients → slice_get xs proxy ≡ Some x
+            → (j : Joined W) × (slice_get joined proxy ≡ Some j)
+        joined_for xs proxy x count at = found xs joined proxy x (joined_count ∙ sym count) at
 
-        -- the proxies that have a writer have a recorder, and no others
-        pub have_recorders : (recorders : List (Option (Recorder W))) → recorders ≡ map (λ (j : Joined W). j.recorder) joined
-            → HaveRecords (map is_some outs) recorders
-        have_recorders recorders are proxy has r has_at r_at =
-            let j = from_map (λ (j : Joined W). j.recorder) joined proxy r (ap (λ l. slice_get l proxy) (sym are) ∙ r_at) in
-            let known = known_at proxy j.0 j.1 in
-            let o = from_map is_some outs proxy has has_at in
-            let out_is : known.place.out ≡ o.0 = same_Some _ o.0 (sym known.place.at_out ∙ o.1) in
-            ap is_some (sym j.2)
-            ∙ has_recorder state_of (threads_by known.ran.task).out (threads_by known.ran.task).answers _ _ j.0.recorder known.has.recorder
-            ∙ ap is_some (known.out ∙ out_is) ∙ o.2
+        recorded_count : length (recorded_each state_of outs streamed.recorders.items) ≡ length clients
+        recorded_count =
+            length_recorded state_of outs streamed.recorders.items
+            (ap length of_joined.recorders ∙ length-map joined (λ (j : Joined W). j.recorder) ∙ joined_count ∙ sym as_many)
+            ∙ as_many
 
-        module _ (options : Options) (style_is : style ≡ options.style) (reports_is : reports ≡ options.reports) (log : List Step)
-            (lanes : List Lanes) (account : Account) (streamed : Streamed W) (new : All (IsNewClient options.capacity) clients)
-            (settled : Settled options.window log lanes (map client_of joined) account)
-            (whole : account.stop ≡ None → account.complete ≡ true) (of_joined : IsStreamedOf joined streamed) where
-          abbrev complete : Bool
-          complete = account.complete && streamed.all_sent
-
-          abbrev bytes_of : (proxy : ℕ) (j : Joined W) → Known proxy j → Option (List ℕ)
-          bytes_of proxy j known = remaining known.place.reader
-
-          streamed_at : (proxy : ℕ) (j : Joined W) (at : slice_get joined proxy ≡ Some j) (known : Known proxy j)
-              → IsStreamedFor options.reports options.window log complete has_failed account.stop (bytes_of proxy j known) proxy
-              (printed_for proxy goes.printed) (failure_with j) (recorded_of state_of known.place.out j.recorder)
-          streamed_at proxy j at known =
-              let ran = known.ran in
-              let client = all_at (IsNewClient options.capacity) clients proxy known.place.client new known.place.at_client in
-              let here = mapped_at client_of joined proxy j at in
-              subst (λ (o : Option W). IsStreamedFor options.reports options.window log complete has_failed account.stop (bytes_of proxy j known)
-              proxy (printed_for proxy goes.printed) (failure_with j) (recorded_of state_of o j.recorder)) known.out
-              (subst (λ (r : S). IsStreamedFor options.reports options.window log complete has_failed account.stop (remaining r)
-              proxy (printed_for proxy goes.printed) (failure_with j) (recorded_of state_of (threads_by ran.task).out j.recorder))
-              known.reader
-              (subst (λ (r : Reports). IsStreamedFor r options.window log complete has_failed account.stop
-              (remaining (threads_by ran.task).reader) proxy (printed_for proxy goes.printed) (failure_with j)
-              (recorded_of state_of (threads_by ran.task).out j.recorder)) (known.reports_are ∙ reports_is)
-              (streamed_for state_of remaining options.window log (has_ended lanes proxy) streamed.all_sent has_failed (sent_to lanes proxy) account
-              proxy (threads_by ran.task) ran.task.outlet known.running.outlet j (printed_for proxy goes.printed) ran.dropped
-              (ap (λ (p : PortView Batch). p.sent) (known.requests ∙ client.requests))
-              (ap (λ (i : IntakeView Answer). i.taken) (known.replies ∙ client.replies)) ran.is_new.none_waits ran.is_new.ends ran.goes_on
-              ran.has_passed known.has (settled.each proxy (client_of j) here) (settled.reported proxy (client_of j) here)
-              (λ all. all_at SendsAll joined proxy j (of_joined.all_sent all) at) whole)))
-
-          -- the reader at a place is that of its proxy
-          bytes_are : (proxy : ℕ) (bytes : Option (List ℕ)) (j : Joined W) (known : Known proxy j)
-              → slice_get (map remaining readers) proxy ≡ Some bytes → bytes_of proxy j known ≡ bytes
-          bytes_are proxy bytes j known at =
-              same_Some _ bytes (sym (mapped_at remaining readers proxy known.place.reader known.place.at_reader) ∙ at)
-
-          -- without a stop, what is missing is a batch that was not sent
-          leaves : complete ≡ false → account.stop ≡ None → LeavesLast options.reports (map remaining readers) log
-          leaves not_all no_stop =
-              let yes = whole no_stop in
-              let not_sent : streamed.all_sent ≡ false = sym (ap (λ (b : Bool). b && streamed.all_sent) yes) ∙ not_all in
-              let back = of_joined.unsent not_sent in
-              let known = known_at back.place back.worker back.at in
-              let client = all_at (IsNewClient options.capacity) clients back.place known.place.client new known.place.at_client in
-              let sends = known.has.sent.sends in
-              let settled_for = settled.each back.place (client_of back.worker) (mapped_at client_of joined back.place back.worker back.at) in
-              let sent : sends.batches ≡ part log back.place =
-              sym (ap (λ (l : List Batch). l ++ sends.batches) (ap (λ (p : PortView Batch). p.sent) (known.requests ∙ client.requests)))
-              ∙ sym sends.sent ∙ sym (settled_for.all_batches (settled_for.all_ended yes)) in
-              record {
-                proxy = back.place;
-                bytes = remaining known.place.reader;
-                of_proxy = mapped_at remaining readers back.place known.place.reader known.place.at_reader;
-                batch = back.batch;
-                left = sends.left;
-                read =
-                    subst (λ (r : S). TakesFrames options.reports (remaining r) sends.left (part log back.place ++ back.batch ∷ []))
-                    known.reader
-                    (subst (λ (r : Reports). TakesFrames r (remaining (threads_by known.ran.task).reader) sends.left
-                    (part log back.place ++ back.batch ∷ [])) (known.reports_are ∙ reports_is)
-                    (subst (λ (l : List Batch). TakesFrames (threads_by known.ran.task).reports (remaining (threads_by known.ran.task).reader)
-                    sends.left (l ++ back.batch ∷ [])) sent
-                    (subst (λ (u : Option Batch). TakesFrames (threads_by known.ran.task).reports
-                    (remaining (threads_by known.ran.task).reader) sends.left (sends.batches ++ option_to_list u)) back.unsent
-                    sends.frames)));
-              }
-
-          recorded_here : (proxy : ℕ) (j : Joined W) → slice_get joined proxy ≡ Some j → (known : Known proxy j)
-              → slice_get (recorded_each state_of outs streamed.recorders.items) proxy
-              ≡ Some (recorded_of state_of known.place.out j.recorder)
-          recorded_here proxy j at known =
-              recorded_at state_of outs streamed.recorders.items proxy known.place.out j.recorder known.place.at_out
-              (ap (λ l. slice_get l proxy) of_joined.recorders ∙ mapped_at (λ (j : Joined W). j.recorder) joined proxy j at)
-
-          -- the proxy's place among those that were joined
-          joined_for : {X : Type 0} (xs : List X) (proxy : ℕ) (x : X) → length xs ≡ length clients → slice_get xs proxy ≡ Some x
-              → (j : Joined W) × (slice_get joined proxy ≡ Some j)
-          joined_for xs proxy x count at = found xs joined proxy x (joined_count ∙ sym count) at
-
-          recorded_count : length (recorded_each state_of outs streamed.recorders.items) ≡ length clients
-          recorded_count =
-              length_recorded state_of outs streamed.recorders.items
-              (ap length of_joined.recorders ∙ length-map joined (λ (j : Joined W). j.recorder) ∙ joined_count ∙ sym as_many)
-              ∙ as_many
-
-          pub is_streamed : IfSome account.stop (IsStopOf options.limit options.window log)
-              → IsStreamed options (map remaining readers) (map is_some outs) before after has_failed streamed.failures.items
-              (recorded_each state_of outs streamed.recorders.items) complete account.stop
-          is_streamed met =
-              let clients_same : length clients ≡ length (map remaining readers) = sym same ∙ sym (length-map readers remaining) in
-              let tasks_same : length (map (λ (t : Task S W G). t.outlet) tasks) ≡ length (map remaining readers) =
-              length-map tasks (λ (t : Task S W G). t.outlet) ∙ tasks_count ∙ clients_same in
-              record {
-                log = log;
-                printed = goes.printed;
-                proxies =
-                    subst (λ (n : ℕ). TakesOnlyFrom n log) (length-map joined client_of ∙ joined_count ∙ clients_same) settled.proxies;
-                failures_count = ap length of_joined.failures ∙ length-map joined failure_with ∙ joined_count ∙ clients_same;
-                recorded_count = recorded_count ∙ clients_same;
-                writers = λ proxy has r has_at r_at.
-                    let j = joined_for (recorded_each state_of outs streamed.recorders.items) proxy r recorded_count r_at in
-                    let known = known_at proxy j.0 j.1 in
-                    let o = from_map is_some outs proxy has has_at in
-                    let out_is : known.place.out ≡ o.0 = same_Some _ o.0 (sym known.place.at_out ∙ o.1) in
-                    ap is_some (same_Some r _ (sym r_at ∙ recorded_here proxy j.0 j.1 known))
-                    ∙ ap (λ (o : Option W). is_some (recorded_of state_of o j.0.recorder)) (sym known.out)
-                    ∙ is_recorded state_of (threads_by known.ran.task).out (threads_by known.ran.task).answers _ _ j.0.recorder
-                    known.has.recorder ∙ ap is_some (known.out ∙ out_is) ∙ o.2;
-                known = subst (λ (n : ℕ). All (λ (p : Printed). p.proxy < n) goes.printed) tasks_same goes.known;
-                each = λ proxy bytes failure r at failure_at r_at.
-                    let j = joined_for (map remaining readers) proxy bytes (sym clients_same) at in
-                    let known = known_at proxy j.0 j.1 in
-                    let failure_here : slice_get streamed.failures.items proxy ≡ Some (failure_with j.0) =
-                    ap (λ l. slice_get l proxy) of_joined.failures ∙ mapped_at failure_with joined proxy j.0 j.1 in
-                    subst (λ (r : Option Recorded). IsStreamedFor options.reports options.window log complete has_failed account.stop bytes proxy
-                    (printed_for proxy goes.printed) failure r) (same_Some _ r (sym (recorded_here proxy j.0 j.1 known) ∙ r_at))
-                    (subst (λ (failure : ProxyFailure). IsStreamedFor options.reports options.window log complete has_failed account.stop bytes proxy
-                    (printed_for proxy goes.printed) failure (recorded_of state_of known.place.out j.0.recorder))
-                    (same_Some (failure_with j.0) failure (sym failure_here ∙ failure_at))
-                    (subst (λ (bytes : Option (List ℕ)). IsStreamedFor options.reports options.window log complete has_failed account.stop bytes proxy
-                    (printed_for proxy goes.printed) (failure_with j.0) (recorded_of state_of known.place.out j.0.recorder))
-                    (bytes_are proxy bytes j.0 known at) (streamed_at proxy j.0 j.1 known)));
-                text = subst (λ (f : Style). TookText has_failed before after (stream_text f goes.printed)) style_is (goes.text refl);
-                chain = settled.chain;
-                serializable = settled.serializable;
-                finish = λ none. settled.finish (whole none);
-                no_stop = λ all. settled.no_stop (both account.complete streamed.all_sent all).0;
-                incomplete = leaves;
-                met = met;
-              }
+        pub is_streamed : IfSome account.stop (IsStopOf options.limit options.window log)
+            → IsStreamed options (map remaining readers) (map is_some outs) before after has_failed streamed.failures.items
+            (recorded_each state_of outs streamed.recorders.items) complete account.stop
+        is_streamed met =
+            let clients_same : length clients ≡ length (map remaining readers) = sym same ∙ sym (length-map readers remaining) in
+            let tasks_same : length (map (λ (t : Task S W G). t.outlet) tasks) ≡ length (map remaining readers) =
+            length-map tasks (λ (t : Task S W G). t.outlet) ∙ tasks_count ∙ clients_same in
+            record {
+              log = log;
+              printed = goes.printed;
+              proxies =
+                  subst (λ (n : ℕ). TakesOnlyFrom n log) (length-map joined client_of ∙ joined_count ∙ clients_same) settled.proxies;
+              failures_count = ap length of_joined.failures ∙ length-map joined failure_with ∙ joined_count ∙ clients_same;
+              recorded_count = recorded_count ∙ clients_same;
+              writers = λ proxy has r has_at r_at.
+                  let j = joined_for (recorded_each state_of outs streamed.recorders.items) proxy r recorded_count r_at in
+                  let known = known_at proxy j.0 j.1 in
+                  let o = from_map is_some outs proxy has has_at in
+                  let out_is : known.place.out ≡ o.0 = same_Some _ o.0 (sym known.place.at_out ∙ o.1) in
+                  ap is_some (same_Some r _ (sym r_at ∙ recorded_here proxy j.0 j.1 known))
+                  ∙ ap (λ (o : Option W). is_some (recorded_of state_of o j.0.recorder)) (sym known.out)
+                  ∙ is_recorded state_of (threads_by known.ran.task).out (threads_by known.ran.task).answers _ _ j.0.recorder
+                  known.has.recorder ∙ ap is_some (known.out ∙ out_is) ∙ o.2;
+              known = subst (λ (n : ℕ). All (λ (p : Printed). p.proxy < n) goes.printed) tasks_same goes.known;
+              each = λ proxy bytes failure r at failure_at r_at.
+                  let j = joined_for (map remaining readers) proxy bytes (sym clients_same) at in
+                  let known = known_at proxy j.0 j.1 in
+                  let failure_here : slice_get streamed.failures.items proxy ≡ Some (failure_with j.0) =
+                  ap (λ l. slice_get l proxy) of_joined.failures ∙ mapped_at failure_with joined proxy j.0 j.1 in
+                  subst (λ (r : Option Recorded). IsStreamedFor options.reports options.window log complete has_failed account.stop bytes proxy
+                  (printed_for proxy goes.printed) failure r) (same_Some _ r (sym (recorded_here proxy j.0 j.1 known) ∙ r_at))
+                  (subst (λ (failure : ProxyFailure). IsStreamedFor options.reports options.window log complete has_failed account.stop bytes proxy
+                  (printed_for proxy goes.printed) failure (recorded_of state_of known.place.out j.0.recorder))
+                  (same_Some (failure_with j.0) failure (sym failure_here ∙ failure_at))
+                  (subst (λ (bytes : Option (List ℕ)). IsStreamedFor options.reports options.window log complete has_failed account.stop bytes proxy
+                  (printed_for proxy goes.printed) (failure_with j.0) (recorded_of state_of known.place.out j.0.recorder))
+                  (bytes_are proxy bytes j.0 known at) (streamed_at proxy j.0 j.1 known)));
+              text = subst (λ (f : Style). TookText has_failed before after (stream_text f goes.printed)) style_is (goes.text refl);
+              chain = settled.chain;
+              serializable = settled.serializable;
+              finish = λ none. settled.finish (whole none);
+              no_stop = λ all. settled.no_stop (both account.complete streamed.all_sent all).0;
+              incomplete = leaves;
+              met = met;
+            }
