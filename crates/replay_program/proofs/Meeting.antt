@@ -1,5 +1,5 @@
 -- What a run met, from what became of its files and from what an observer has seen of them.
-use Rattle.std.specs.Prelude.{◌≡◌, ℕ, ℤ, Bool, true, false, List, Option, None, Some, IfSome, Result, Ok, Err, OnErr, is_err, is_some}
+use Rattle.std.specs.Prelude.{◌≡◌, ℕ, ℤ, Bool, true, false, List, Option, None, Some, IfSome, Result, Ok, Err, OnErr, is_err}
 use Rattle.std.proofs.Common.{sym, subst, ◌∙◌}
 use Rattle.std.proofs.lemmas.Bool.{false≢true}
 use Rattle.keyspace.specs.Processed.{Processed, version_of}
