@@ -5,8 +5,8 @@ ghost use Rattle.std.specs.Io.KnownBytes.{Keeps};
 ghost use Rattle.replay_arguments.specs.Asks.{Asks};
 ghost use Rattle.replay_program.specs.Met.{HasMet};
 ghost use Rattle.replay_program.specs.Program.{IsLineDone, LineFails, LineFailsAndSays};
-ghost use Rattle.replay_program.specs.Program.{LineFindsDifferences, OfOutput, SaysFurther, bytes_of};
-ghost use Rattle.replay_program.specs.Program.{named_files};
+ghost use Rattle.replay_program.specs.Program.{LineFindsDifferences, OfOutput, SaysFurther};
+ghost use Rattle.replay_program.specs.Program.{bytes_of, named_files};
 ghost use Rattle.replay_program.specs.Replayed.{HasFailed, written};
 ghost use Rattle.replay_stream.specs.Sinks.{state_by};
 
