@@ -51,7 +51,8 @@ pub fn replay_over<
     ensures quiet { result.status ≡ Status.Done → Keeps (E.given error.old) (E.given error.new) }
 
     // Something failed, and its lines were written, or the writer failed.
-    ensures failed { result.status ≡ Status.Failed → FailsToReplay options (map S.remaining readers.items)
+    ensures failed { result.status ≡ Status.Failed
+        → FailsToReplay options (map S.remaining readers.items)
         (written (O.given out.old) (O.given out.new) (O.failures out.old) (O.failures out.new))
         (written (E.given error.old) (E.given error.new) (E.failures error.old)
         (E.failures error.new)) }

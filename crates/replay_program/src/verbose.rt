@@ -21,9 +21,9 @@ use wire::Sink;
 mod files;
 
 /// Opens the files of batches of a command line once more, and writes one line about the first that
-/// can't be opened or has something else than frames of batches. If there is none, the line is about
-/// the run, which met this. Writes nothing if there is no finding, or if memory is refused. A failed
-/// write changes nothing.
+/// can't be opened or has something else than frames of batches. If there is none, the line is
+/// about the run, which met this. Writes nothing if there is no finding, or if memory is refused. A
+/// failed write changes nothing.
 pub fn explain_failure<F: Files, E: Sink>(
     alloc: Global,
     files: &F,
