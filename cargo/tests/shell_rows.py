@@ -501,7 +501,7 @@ VERBOSE = (
     ShellRow(
         ("--verbose", "-o", "/dev/full", "first"),
         "",
-        "  standard output can't be written: free its disk, or read it to its end\n",
+        "  the output can't be written: free its disk, or read it to its end\n",
         1,
     ),
     ShellRow(("--verbose", "first", "--check", "short"), "", "replay: replies 0: wire 1 Short\n", 1),

@@ -267,7 +267,7 @@ fn lines_about_runs() {
             RunFinding::ArenaFull { version: -1, limit: 16_777_216 },
             "version -1 was reached with a limit of 16777216 boundaries: raise `--limit`, or use a smaller `--window`",
         ),
-        (RunFinding::Output, "standard output can't be written: free its disk, or read it to its end"),
+        (RunFinding::Output, "the output can't be written: free its disk, or read it to its end"),
     ] {
         assert_eq!(run_remedy(&finding), format!("  {text}\n"));
     }

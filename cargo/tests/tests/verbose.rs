@@ -187,7 +187,7 @@ fn stream_says_no_version() {
     assert_eq!(told(&["--verbose", "--stream", "--limit", "3", "writes"]), "failed: replay: stop 3 ArenaFull\n");
 }
 
-const OUTPUT: &str = "  standard output can't be written: free its disk, or read it to its end\n";
+const OUTPUT: &str = "  the output can't be written: free its disk, or read it to its end\n";
 
 /// A failed write has no fixed line.
 #[test]

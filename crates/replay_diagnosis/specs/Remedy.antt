@@ -61,7 +61,7 @@ run_finding_text run.GateFull =
 run_finding_text (run.ArenaFull version limit) =
     codes "version " ++ signed_decimal version ++ codes " was reached with a limit of " ++ decimal limit
     ++ codes " boundaries: raise `--limit`, or use a smaller `--window`"
-run_finding_text run.Output = codes "standard output can't be written: free its disk, or read it to its end"
+run_finding_text run.Output = codes "the output can't be written: free its disk, or read it to its end"
 
 abbrev pub run_remedy_line : RunFinding → List ℕ
 run_remedy_line finding = codes "  " ++ run_finding_text finding ++ codes "\n"

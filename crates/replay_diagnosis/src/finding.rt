@@ -46,6 +46,6 @@ pub enum RunFinding {
         /// The most boundaries, as `--limit` gives them.
         limit: usize,
     },
-    /// Standard output couldn't be written.
+    /// The output couldn't be written: standard output, or the file for it.
     Output,
 }

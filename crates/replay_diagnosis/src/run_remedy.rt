@@ -72,7 +72,7 @@ fn put_finding(out: &mut Vec<u8>, finding: &RunFinding) -> io::Result<()>
         ),
         RunFinding::ArenaFull { version, limit } => put_arena_full(out, *version, *limit),
         RunFinding::Output => out.write_all(
-            b"standard output can't be written: free its disk, or read it to its end",
+            b"the output can't be written: free its disk, or read it to its end",
         ),
     }
 }

@@ -1,12 +1,17 @@
 -- What a run met, from what became of its files and from what an observer has seen of them.
-use Rattle.std.specs.Prelude.{◌≡◌, ℕ, ℤ, Bool, true, false, List, Option, None, Some, IfSome, Result, Ok, Err, OnErr, is_err, is_some}
-use Rattle.std.proofs.Common.{sym, subst, ◌∙◌}
+use Rattle.std.specs.Prelude.{◌≡◌, ◌≢◌, ◌⊎◌, ◌++◌, ℕ, ℤ, Bool, true, false, List, Option, None, Some, IfSome, IsErr, Result, Ok, Err, OnErr, OnOk, is_err}
+use Rattle.std.proofs.Common.{append_assoc, inl, inr, refl, sym, subst, ◌∙◌}
 use Rattle.std.proofs.lemmas.Bool.{false≢true}
 use Rattle.keyspace.specs.Processed.{Processed, version_of}
 use Rattle.keyspace.specs.Run.{Step}
 use Rattle.resolver.specs.declared.stop.Stop.{Stop}
 use Rattle.resolver.specs.Observed.{HasSeen}
+use Rattle.replay_output.specs.declared.failures.Ending.{Ending}
+use Rattle.replay_output.specs.declared.failures.Ending.TheVariants.{Stopped}
 use Rattle.replay_output.specs.declared.failures.ProxyFailure.{ProxyFailure}
+use Rattle.replay_output.specs.declared.status.Status.{Status}
+use Rattle.replay_output.specs.declared.status.Status.TheVariants.{Done, Failed, Usage, Differs}
+use Rattle.replay_output.specs.Failures.{ending_line, failure_lines, proxy_lines}
 use Rattle.replay_output.specs.declared.line.Line.{Line}
 use Rattle.replay_output.specs.declared.options.Options.{Options}
 use Rattle.replay_stream.specs.Sinks.{SinkState}
@@ -14,12 +19,37 @@ use Rattle.replay_stream.specs.Streaming.{IsStreamed, Recorded}
 use Rattle.replay_workers.specs.Run.{IsObservedRun}
 use Rattle.replay_workers.proofs.callers.Lists.{found}
 use Rattle.replay_program.specs.declared.met.Met.{Met}
-use Rattle.replay_program.specs.Met.{HasMet, MetStop}
+use Rattle.replay_program.specs.Met.{HasMet, MetStop, TellsStop}
+use Rattle.replay_program.specs.Replayed.{HasFailed, Took, Written, ending_of}
 
 -- a run that was not begun met nothing
-pub met_nothing : (limit : ℕ) (window : ℤ) (files : List (Option (List ℕ))) (met : Met) → met.stop ≡ None → HasMet limit window files met
-met_nothing limit window files met none =
-    subst (λ (s : Option Stop). IfSome s (λ stop. MetStop limit window files stop met.version)) (sym none) tt
+pub met_nothing : (limit : ℕ) (window : ℤ) (files : List (Option (List ℕ))) (met : Met) (error : Written) → met.stop ≡ None
+    → HasMet limit window files met error
+met_nothing limit window files met error none =
+    subst (λ (s : Option Stop). IfSome s (λ stop. MetStop limit window files stop met.version × TellsStop stop error)) (sym none) tt
+
+-- the last of the lines names the stop
+pub stop_told : {T E : Type 0} (first : List ℕ) (wrote : Result T E) (error : Written) (failures : List ProxyFailure) (complete : Bool)
+    (stop : Option Stop) → OnOk wrote (Took error (first ++ failure_lines failures (ending_of complete stop)))
+    → (IsErr wrote → HasFailed error) → (s : Stop) → stop ≡ Some s → TellsStop s error
+stop_told first (Ok x) error failures complete stop lines failed s is =
+    let last = subst (λ (o : Option Stop). Took error (first ++ failure_lines failures (ending_of complete o))) is lines in
+    inr (first ++ proxy_lines failures, subst (Took error) (sym (append_assoc first (proxy_lines failures) (ending_line (Stopped s)))) last)
+stop_told first (Err e) error failures complete stop lines failed s is = inl (failed refl)
+
+-- the same of lines with another ending
+pub tells_as : (error : Written) (told : List ProxyFailure) (ending : Ending) (s : Stop) → ending ≡ Stopped s
+    → HasFailed error ⊎ Took error (failure_lines told ending) → TellsStop s error
+tells_as error told ending s is (inl failed) = inl failed
+tells_as error told ending s is (inr took) =
+    inr (proxy_lines told, subst (λ (e : Ending). Took error (proxy_lines told ++ ending_line e)) is took)
+
+-- it ends in no other way
+pub is_failed : (status : Status) → status ≢ Usage → status ≢ Differs → status ≢ Done → status ≡ Failed
+is_failed Done usage differs done = absurd (done refl)
+is_failed Failed usage differs done = refl
+is_failed Usage usage differs done = absurd (usage refl)
+is_failed Differs usage differs done = absurd (differs refl)
 
 -- what is false is not true
 pub not_failed : {P : Type 0} (failed : Bool) → failed ≡ false → failed ≡ true → P
@@ -64,14 +94,15 @@ module _ (options : Options) (files : List (Option (List ℕ))) (received : List
       }
 
   -- the stop and the version
-  pub has_met : (stop : Option Stop) (output_failed : Bool)
+  pub has_met : (stop : Option Stop) (output_failed : Bool) (error : Written)
       → IsObservedRun (λ ps. Seen ps × (version ≡ Some (version_of ps))) options files received failures complete stop
-      → HasMet options.limit options.window files (record { stop = stop; version = version; output_failed = output_failed })
-  has_met None output_failed observed = tt
-  has_met (Some s) output_failed observed =
+      → ((s : Stop) → stop ≡ Some s → TellsStop s error)
+      → HasMet options.limit options.window files (record { stop = stop; version = version; output_failed = output_failed }) error
+  has_met None output_failed error observed told = tt
+  has_met (Some s) output_failed error observed told =
       let run = observed.run in
       let saw = observed.seen in
-      record {
+      let met : MetStop options.limit options.window files s version = record {
         log = run.log;
         proxies = run.proxies;
         each_file = λ proxy bytes at.
@@ -87,22 +118,26 @@ module _ (options : Options) (files : List (Option (List ℕ))) (received : List
           all = saw.all;
           all_before_last = saw.all_before_last;
         });
-      }
+      } in
+      (met, told s refl)
 
 -- the same of a stream, of which the version isn't known
 pub stream_has_met : (options : Options) (files : List (Option (List ℕ))) (has_writer : List Bool) (before after : SinkState)
     (failed : Bool) (failures : List ProxyFailure) (recorded : List (Option Recorded)) (complete : Bool) (stop : Option Stop)
-    → IsStreamed options files has_writer before after failed failures recorded complete stop
-    → HasMet options.limit options.window files (record { stop = stop; version = None; output_failed = failed })
-stream_has_met options files has_writer before after failed failures recorded complete None streamed = tt
-stream_has_met options files has_writer before after failed failures recorded complete (Some s) streamed = record {
-  log = streamed.log;
-  proxies = streamed.proxies;
-  each_file = λ proxy bytes at.
-      let failure = found files failures proxy bytes streamed.failures_count at in
-      let r = found files recorded proxy bytes streamed.recorded_count at in
-      let one = streamed.each proxy bytes failure.0 r.0 at failure.1 r.1 in
-      (one.read, one.left, one.frames_read, one.batches);
-  met = streamed.met;
-  reached = tt;
-}
+    (error : Written) → IsStreamed options files has_writer before after failed failures recorded complete stop
+    → ((s : Stop) → stop ≡ Some s → TellsStop s error)
+    → HasMet options.limit options.window files (record { stop = stop; version = None; output_failed = failed }) error
+stream_has_met options files has_writer before after failed failures recorded complete None error streamed told = tt
+stream_has_met options files has_writer before after failed failures recorded complete (Some s) error streamed told =
+    let met : MetStop options.limit options.window files s None = record {
+      log = streamed.log;
+      proxies = streamed.proxies;
+      each_file = λ proxy bytes at.
+          let failure = found files failures proxy bytes streamed.failures_count at in
+          let r = found files recorded proxy bytes streamed.recorded_count at in
+          let one = streamed.each proxy bytes failure.0 r.0 at failure.1 r.1 in
+          (one.read, one.left, one.frames_read, one.batches);
+      met = streamed.met;
+      reached = tt;
+    } in
+    (met, told s refl)

@@ -1,13 +1,11 @@
 -- What is said of a failure: what was found in files, and the line about it.
-use Rattle.std.specs.Prelude.{◌≡◌, ◌≢◌, ◌⊎◌, ℕ, zero, suc, ◌+◌, ◌<◌, ◌≤◌, ℤ, List, [], ◌∷◌, ◌++◌, length, map, take, Option, None, Some, IfErr, IfSome, OnOk, Result, Ok, Err, slice_get, slice_index_or}
+use Rattle.std.specs.Prelude.{◌≡◌, ◌⊎◌, ℕ, zero, suc, ◌+◌, ◌<◌, ◌≤◌, ℤ, List, [], ◌∷◌, ◌++◌, length, map, take, Option, None, Some, IfErr, IfSome, OnOk, Result, Ok, Err, slice_get, slice_index_or}
 use Rattle.std.specs.Borrow.{Bor}
 use Rattle.std.proofs.Common.{refl, sym, ap, subst, ◌∙◌, append-nil, append_assoc, inl, inr, arith}
 use Rattle.keyspace.specs.declared.batch.Batch.{Batch}
 use Rattle.resolver.specs.declared.stop.Stop.TheVariants as stop
 use Rattle.wire.specs.declared.error.WireError.{WireError}
 use Rattle.wire.specs.declared.error.WireError.TheVariants.{Memory, Write}
-use Rattle.replay_arguments.specs.declared.opening.files.FileError.{FileError}
-use Rattle.replay_arguments.specs.declared.opening.files.FileError.TheVariants as file_error
 use Rattle.replay_diagnosis.specs.declared.finding.Finding.{Finding}
 use Rattle.replay_diagnosis.specs.declared.finding.Finding.TheVariants as found
 use Rattle.replay_diagnosis.specs.declared.finding.RunFinding.{RunFinding}

@@ -1,5 +1,5 @@
 -- What a run met, beside the reference resolver. This project's own.
-use Rattle.std.specs.Prelude.{◌≡◌, ℕ, ℤ, List, length, Option, Some, IfSome, slice_get}
+use Rattle.std.specs.Prelude.{◌≡◌, ◌⊎◌, ◌++◌, ℕ, ℤ, List, length, Option, Some, IfSome, slice_get}
 use Rattle.keyspace.specs.declared.batch.Batch.{Batch}
 use Rattle.keyspace.specs.Processed.{Processed, version_of}
 use Rattle.keyspace.specs.Run.{Step, part}
@@ -7,10 +7,13 @@ use Rattle.resolver.specs.declared.stop.Stop.{Stop}
 use Rattle.resolver.specs.Core.{IsBeginning}
 use Rattle.resolver.specs.Observed.{HasSeen}
 use Rattle.resolver.specs.Resolver.{TakesOnlyFrom}
+use Rattle.replay_output.specs.declared.failures.Ending.TheVariants.{Stopped}
+use Rattle.replay_output.specs.Failures.{ending_line}
 use Rattle.replay_workers.specs.Stops.{IsStopOf}
 use Rattle.replay_workers.specs.Worker.{TakesFrames}
 use Rattle.replay_program.specs.declared.met.Met.{Met}
 use Rattle.replay_program.specs.declared.reached.Reached.{Reached}
+use Rattle.replay_program.specs.Replayed.{HasFailed, Took, Written}
 
 -- The other observer has seen these batches, and the version is that of the last one.
 abbrev pub HasReached : {O : Type 0} → (O → List Processed → Type 0) → Reached O → List Processed → Type 0
@@ -33,6 +36,11 @@ pub record MetStop (limit : ℕ) (window : ℤ) (files : List (Option (List ℕ)
   pub met : IsStopOf limit window log stop
   pub reached : IfSome version (λ v. HasSeen (λ seen. v ≡ version_of seen) (Some stop) window log)
 
--- The stop, if there is one, was met in a replay of these files, and the version is the one that it had reached.
-abbrev pub HasMet : ℕ → ℤ → List (Option (List ℕ)) → Met → Type 0
-HasMet limit window files met = IfSome met.stop (λ stop. MetStop limit window files stop met.version)
+-- The last line that standard error was given names this stop, unless standard error has failed.
+abbrev pub TellsStop : Stop → Written → Type 0
+TellsStop stop error = HasFailed error ⊎ ((others : List ℕ) × Took error (others ++ ending_line (Stopped stop)))
+
+-- The stop, if there is one, was met in a replay of these files, the version is the one that it had reached, and standard error says so.
+abbrev pub HasMet : ℕ → ℤ → List (Option (List ℕ)) → Met → Written → Type 0
+HasMet limit window files met error =
+    IfSome met.stop (λ stop. MetStop limit window files stop met.version × TellsStop stop error)

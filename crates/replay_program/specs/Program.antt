@@ -275,8 +275,11 @@ pub record LineFailsAndSays {W : Type 0} (state_of : W → SinkState) (files : N
   pub given : Option (List ℕ)
   pub failures : ℕ
   pub failed : LineFails state_of files line report standard (written error.before given error.failures_before failures)
-  -- what the run met: its stop and the version are those of a replay of these files, and if the output has failed, so has its writer
-  pub met : HasMet line.options.limit line.options.window (bytes_of files line) report.met
+  -- what the run met: its stop and the version are those of a replay of these files, and the last of the fixed lines names the stop; if the
+  -- output has failed, so has its writer
+  pub met :
+      HasMet line.options.limit line.options.window (bytes_of files line) report.met
+      (written error.before given error.failures_before failures)
   pub output_failed : report.met.output_failed ≡ true → OfOutput state_of files line report standard HasFailed
   pub further :
       SaysFurther line.verbose files.contents files.cannot_open line report.met

@@ -77,7 +77,9 @@ pub fn summarize_over<
         (written (O.given out.old) (O.given out.new) (O.failures out.old) (O.failures out.new))
         (written (E.given error.old) (E.given error.new) (E.failures error.old)
         (E.failures error.new)) }
-    ensures met { HasMet options.limit options.window (map S.remaining readers.items) result.met }
+    ensures met { HasMet options.limit options.window (map S.remaining readers.items) result.met
+        (written (E.given error.old) (E.given error.new) (E.failures error.old)
+        (E.failures error.new)) }
     ensures output_failed { result.met.output_failed ≡ true
         → O.failures out.old < O.failures out.new }
     ensures ends { result.status ≢ Status.Usage }
@@ -121,7 +123,9 @@ fn summarize_alone<
         (written (O.given out.old) (O.given out.new) (O.failures out.old) (O.failures out.new))
         (written (E.given error.old) (E.given error.new) (E.failures error.old)
         (E.failures error.new)) }
-    ensures met { HasMet options.limit options.window (map S.remaining readers.items) result.met }
+    ensures met { HasMet options.limit options.window (map S.remaining readers.items) result.met
+        (written (E.given error.old) (E.given error.new) (E.failures error.old)
+        (E.failures error.new)) }
     ensures output_failed { result.met.output_failed ≡ true
         → O.failures out.old < O.failures out.new }
     ensures ends { result.status ≢ Status.Usage }
@@ -189,7 +193,9 @@ fn summarize_with_top<
         (written (O.given out.old) (O.given out.new) (O.failures out.old) (O.failures out.new))
         (written (E.given error.old) (E.given error.new) (E.failures error.old)
         (E.failures error.new)) }
-    ensures met { HasMet options.limit options.window (map S.remaining readers.items) result.met }
+    ensures met { HasMet options.limit options.window (map S.remaining readers.items) result.met
+        (written (E.given error.old) (E.given error.new) (E.failures error.old)
+        (E.failures error.new)) }
     ensures output_failed { result.met.output_failed ≡ true
         → O.failures out.old < O.failures out.new }
     ensures ends { result.status ≢ Status.Usage }

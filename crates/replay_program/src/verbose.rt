@@ -21,8 +21,8 @@ use wire::Sink;
 mod files;
 
 /// Opens the files of batches of a command line once more, and writes one line about the first that
-/// can't be opened or has something else than frames of batches. If there is none, the line is about
-/// the run, which met this. Writes nothing if there is nothing to say, or if memory is refused. A
+/// can't be opened or has something else than frames of batches. If there is none, the line is
+/// about the run, which met this. Writes nothing if there is no finding, or if memory is refused. A
 /// failed write changes nothing.
 pub fn explain_failure<F: Files, E: Sink>(
     alloc: Global,
@@ -64,8 +64,8 @@ fn say_of_run<E: Sink>(alloc: Global, error: &mut E, finding: &RunFinding)
     let _ = write_run_remedy(alloc, error, finding);
 }
 
-// Returns what is to be said about a run that met this, over files with these batches and this limit
-// of boundaries.
+// Returns the finding of a run that met this, over files with these batches and with this limit of
+// boundaries.
 fn run_finding(met: Met, batches: &Batches, limit: usize) -> Option<RunFinding>
     ensures found { IfSome result (λ finding. (all : List BatchValue)
         → HasLeast all batches.now.least_previous → IsFoundOf limit met all finding) }
@@ -80,7 +80,7 @@ fn run_finding(met: Met, batches: &Batches, limit: usize) -> Option<RunFinding>
     }
 }
 
-// Returns what is to be said about a gate that was full, if the files have these batches.
+// Returns the finding about a full gate, if the files have these batches.
 fn gate_finding(batches: &Batches) -> RunFinding
     ensures found { (all : List BatchValue) → HasLeast all batches.now.least_previous
         → IsGateFinding all result }
@@ -91,8 +91,8 @@ fn gate_finding(batches: &Batches) -> RunFinding
     }
 }
 
-// Returns what is to be said about a run that exceeded the limit of boundaries, if the version that
-// it reached is known.
+// Returns the finding about the limit of boundaries, if the version that the run reached is known.
+// Otherwise returns that about the output.
 fn arena_finding(met: Met, limit: usize) -> Option<RunFinding>
     requires stop { met.stop ≡ Some Stop.ArenaFull }
     ensures found { IfSome result (λ finding. (all : List BatchValue)
@@ -104,7 +104,7 @@ fn arena_finding(met: Met, limit: usize) -> Option<RunFinding>
     }
 }
 
-// Returns what is to be said about a run whose output has failed.
+// Returns the finding about the output, if it has failed.
 fn output_finding(met: Met) -> Option<RunFinding>
     ensures found { (limit : ℕ) → IfSome result (λ finding. (all : List BatchValue)
         → IsFoundOf limit met all finding) }

@@ -52,7 +52,9 @@ pub fn check_replies<R: Threads + Wait + Copy + Send + 'static, F: Files, O: Sin
         (written (E.given error.old) (E.given error.new) (E.failures error.old)
         (E.failures error.new)) }
     ensures met { HasMet options.limit options.window
-        (map F.Reader.remaining opened.readers.items) result.met }
+        (map F.Reader.remaining opened.readers.items) result.met
+        (written (E.given error.old) (E.given error.new) (E.failures error.old)
+        (E.failures error.new)) }
     ensures output_failed { result.met.output_failed ≡ true
         → O.failures out.old < O.failures out.new }
     ensures ends { result.status ≢ Status.Usage }

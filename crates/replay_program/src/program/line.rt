@@ -5,8 +5,8 @@ ghost use Rattle.std.specs.Io.KnownBytes.{Keeps};
 ghost use Rattle.replay_arguments.specs.Asks.{Asks};
 ghost use Rattle.replay_program.specs.Met.{HasMet};
 ghost use Rattle.replay_program.specs.Program.{IsLineDone, LineFails, LineFailsAndSays};
-ghost use Rattle.replay_program.specs.Program.{LineFindsDifferences, OfOutput, SaysFurther, bytes_of};
-ghost use Rattle.replay_program.specs.Program.{named_files};
+ghost use Rattle.replay_program.specs.Program.{LineFindsDifferences, OfOutput, SaysFurther};
+ghost use Rattle.replay_program.specs.Program.{bytes_of, named_files};
 ghost use Rattle.replay_program.specs.Replayed.{HasFailed, written};
 ghost use Rattle.replay_stream.specs.Sinks.{state_by};
 
@@ -97,7 +97,9 @@ fn do_line<R: Threads + Wait + Copy + Send + 'static, F: Files, O: Sink, E: Sink
     ensures met { HasMet line.now.options.limit line.now.options.window
         (bytes_of (named_files (F.contents files.now) (F.has_opened files.now)
         (F.cannot_open files.now) (F.begun files.now) (F.has_created files.now)
-        (F.cannot_create files.now)) line.now) result.met }
+        (F.cannot_create files.now)) line.now) result.met
+        (written (E.given error.old) (E.given error.new) (E.failures error.old)
+        (E.failures error.new)) }
     ensures output_failed { result.met.output_failed ≡ true
         → OfOutput (state_by F.Writer.given F.Writer.failures)
         (named_files (F.contents files.now) (F.has_opened files.now) (F.cannot_open files.now)

@@ -50,7 +50,9 @@ pub fn print_and_summarize<R: Threads + Wait + Copy + Send + 'static, F: Files, 
         (written (E.given error.old) (E.given error.new) (E.failures error.old)
         (E.failures error.new)) }
     ensures met { HasMet line.now.options.limit line.now.options.window
-        (map F.Reader.remaining opened.readers.items) result.met }
+        (map F.Reader.remaining opened.readers.items) result.met
+        (written (E.given error.old) (E.given error.new) (E.failures error.old)
+        (E.failures error.new)) }
     ensures output_failed { result.met.output_failed ≡ true
         → O.failures out.old < O.failures out.new }
     ensures output { result.output ≡ None }

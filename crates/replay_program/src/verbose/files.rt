@@ -62,7 +62,7 @@ fn examine_file<F: Files>(alloc: Global, files: &F, name: &str) -> Result<Batche
     examine(alloc, &mut reader)
 }
 
-// Returns what is to be said about a file that was not opened.
+// Returns the finding about a file that was not opened.
 fn unopened(error: FileError) -> Finding
     ensures cannot_open { result ≡ Finding.CannotOpen → error ≡ FileError.CannotOpen }
     ensures either { (result ≡ Finding.CannotOpen) ⊎ (result ≡ Finding.Memory) }

@@ -15,7 +15,7 @@ use Rattle.replay_workers.specs.Run.{IsObservedRun, is_complete}
 use Rattle.replay_program.specs.Explained.{Explained, TakesToExplain, explained_line, explained_lines, explanation_form, explanations_of}
 use Rattle.replay_program.specs.Replayed.{written, Took, TookBeginning}
 use Rattle.replay_program.proofs.Explaining.{seen_as, texts_are}
-use Rattle.replay_program.proofs.Meeting.{has_met, met_nothing, not_failed, seen_by_other}
+use Rattle.replay_program.proofs.Meeting.{has_met, met_nothing, not_failed, seen_by_other, stop_told}
 use Rattle.replay_program.proofs.Replaying.{complete_from, ending_is, held_ok, are_lines, is_replayed_over, ran_as_and_failed}
 use Rattle.replay_program.proofs.explain.explain_over.Goals.{then-account, else-account}
 use Rattle.replay_program.proofs.explain.explain_over.Goals as goal
@@ -30,7 +30,8 @@ returns-in-Err g c = record {
     told = c.fail_to_start.ensures.line;
   });
   met = met_nothing c.args.options.limit c.args.options.window (map g.S.Source.remaining c.args.readers.items) c.unstarted.result.met
-      c.unstarted.ensures.stop;
+      (written (g.E.Sink.given c.args.error.now) (g.E.Sink.given c.fail_to_start.new.error) (g.E.Sink.failures c.args.error.now)
+      (g.E.Sink.failures c.fail_to_start.new.error)) c.unstarted.ensures.stop;
   output_failed = not_failed c.unstarted.result.met.output_failed c.unstarted.ensures.output_failed;
   ends = λ is. cc (c.fail_to_start.ensures.status, c.unstarted.ensures.status, is);
   same = λ is. cc (c.fail_to_start.ensures.status, c.unstarted.ensures.status, is);
@@ -127,7 +128,10 @@ returns g c =
                 cc (done, is));
           });
       met = has_met options files lines_taken outcome.failures.items (is_complete outcome account) Seen reached.version account.stop
-          c.is_unwritten.result both;
+          c.is_unwritten.result error both
+          (stop_told [] c.print_explained-report.result.told error told complete account.stop
+          (subst (λ (e : Ending). OnOk c.print_explained-report.result.told (Took error (failure_lines told e))) ending report.failure_lines)
+          report.told.0);
       output_failed = λ is. report.write.0 (c.is_unwritten.ensures.write is);
       ends = report.ends;
       same = report.same;

@@ -8,7 +8,7 @@ use Rattle.replay_stream.specs.Sinks.{SinkState, state_by}
 use Rattle.replay_stream.specs.Streaming.{IsStreamed, recorded_each}
 use Rattle.replay_program.specs.Replayed.{ending_of, written, Took}
 use Rattle.replay_program.specs.Streamed.{unwritten_each}
-use Rattle.replay_program.proofs.Meeting.{met_nothing, not_failed, stream_has_met}
+use Rattle.replay_program.proofs.Meeting.{met_nothing, not_failed, stop_told, stream_has_met}
 use Rattle.replay_program.proofs.Replaying.{ending_is, held_ok}
 use Rattle.replay_program.proofs.Streaming.{clean_as, is_stream_done, keeps_error, streamed_and_failed, told_as}
 use Rattle.replay_program.proofs.stream.stream_over.Goals.{then-account, else-account}
@@ -24,7 +24,8 @@ returns-in-Err g c = record {
     told = c.fail_to_start.ensures.line;
   });
   met = met_nothing c.args.options.limit c.args.options.window (map g.S.Source.remaining c.args.readers.items) c.unstarted.result.met
-      c.unstarted.ensures.stop;
+      (written (g.E.Sink.given c.args.error.now) (g.E.Sink.given c.fail_to_start.new.error) (g.E.Sink.failures c.args.error.now)
+      (g.E.Sink.failures c.fail_to_start.new.error)) c.unstarted.ensures.stop;
   output_failed = not_failed c.unstarted.result.met.output_failed c.unstarted.ensures.output_failed;
   output = c.unstarted.ensures.output;
   ends = λ is. cc (c.fail_to_start.ensures.status, c.unstarted.ensures.status, is);
@@ -86,7 +87,8 @@ returns g c =
           let done = ends.done.1 (clean.1 all.0, all.1, all.2) in
           cc (done, is)));
       met = stream_has_met options files writers before after streamed.failed failures (recorded_each state outs recorders) complete
-          account.stop run;
+          account.stop error run
+          (stop_told (unwritten_lines unwritten) told error failures complete account.stop lines c.print_all-told.ensures.failed.0);
       output_failed = λ is. (subst (λ (b : Bool). TookText b before after (stream_text options.style run.printed)) is run.text).0;
       output = refl;
       ends = ends.ends;

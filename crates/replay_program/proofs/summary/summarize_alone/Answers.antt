@@ -11,7 +11,7 @@ use Rattle.replay_output.specs.Line.{answers_of}
 use Rattle.replay_workers.specs.Run.{IsRun, is_complete}
 use Rattle.replay_program.specs.Replayed.{written, Took, TookBeginning}
 use Rattle.replay_program.specs.Summarized.{TakesToSummarize, run_summary, with_ranges}
-use Rattle.replay_program.proofs.Meeting.{has_met, met_nothing, not_failed}
+use Rattle.replay_program.proofs.Meeting.{has_met, met_nothing, not_failed, stop_told}
 use Rattle.replay_program.proofs.Ranges.{no_ranges}
 use Rattle.replay_program.proofs.Replaying.{ending_is, held_ok, are_lines, is_replayed, ran_and_failed}
 use Rattle.replay_program.proofs.summary.summarize_alone.Goals.{then-account, else-account}
@@ -27,7 +27,8 @@ returns-in-Err g c = record {
     told = c.fail_to_start.ensures.line;
   });
   met = met_nothing c.args.options.limit c.args.options.window (map g.S.Source.remaining c.args.readers.items) c.unstarted.result.met
-      c.unstarted.ensures.stop;
+      (written (g.E.Sink.given c.args.error.now) (g.E.Sink.given c.fail_to_start.new.error) (g.E.Sink.failures c.args.error.now)
+      (g.E.Sink.failures c.fail_to_start.new.error)) c.unstarted.ensures.stop;
   output_failed = not_failed c.unstarted.result.met.output_failed c.unstarted.ensures.output_failed;
   ends = λ is. cc (c.fail_to_start.ensures.status, c.unstarted.ensures.status, is);
   same = λ is. cc (c.fail_to_start.ensures.status, c.unstarted.ensures.status, is);
@@ -94,8 +95,11 @@ returns g c =
           report.done.1 (all.0, all.1, subst (λ (e : Ending). NothingFailed failures e) (sym ending) all.2) in
           cc (done, is)));
       met = has_met options files (map (vec_items {X = Line} {Z = Global}) outcome.lines.items) outcome.failures.items
-          (is_complete outcome account) (λ _. Unit {0}) c.run_observed-run.new.observer.version account.stop c.is_unwritten.result
-          (c.in-Ok.ensures.observed (tt, c.new-reached.ensures.none));
+          (is_complete outcome account) (λ _. Unit {0}) c.run_observed-run.new.observer.version account.stop c.is_unwritten.result error
+          (c.in-Ok.ensures.observed (tt, c.new-reached.ensures.none))
+          (stop_told [] c.print_summary-report.result.told error told complete account.stop
+          (subst (λ (e : Ending). OnOk c.print_summary-report.result.told (Took error (failure_lines told e))) ending report.failure_lines)
+          report.told.0);
       output_failed = λ is. report.write.0 (c.is_unwritten.ensures.write is);
       ends = report.ends;
       same = report.same;

@@ -20,7 +20,7 @@ use Rattle.replay_workers.specs.Run.{IsObservedRun, is_complete}
 use Rattle.replay_program.specs.Replayed.{written, Took, TookBeginning}
 use Rattle.replay_program.specs.Summarized.{TakesToSummarize, run_summary, summary_and_top, with_ranges}
 use Rattle.replay_program.proofs.Counting.{ran_and_lost, seen_are, seen_chain}
-use Rattle.replay_program.proofs.Meeting.{has_met, met_nothing, not_failed, seen_by_other}
+use Rattle.replay_program.proofs.Meeting.{has_met, met_nothing, not_failed, seen_by_other, stop_told}
 use Rattle.replay_program.proofs.Replaying.{complete_from, ending_is, held_ok, are_lines, is_replayed_over, ran_as_and_failed}
 use Rattle.replay_program.proofs.summary.summarize_with_top.Goals as goal
 
@@ -34,7 +34,8 @@ returns-in-Err g c = record {
     told = c.fail_to_start.ensures.line;
   });
   met = met_nothing c.args.options.limit c.args.options.window (map g.S.Source.remaining c.args.readers.items) c.unstarted.result.met
-      c.unstarted.ensures.stop;
+      (written (g.E.Sink.given c.args.error.now) (g.E.Sink.given c.fail_to_start.new.error) (g.E.Sink.failures c.args.error.now)
+      (g.E.Sink.failures c.fail_to_start.new.error)) c.unstarted.ensures.stop;
   output_failed = not_failed c.unstarted.result.met.output_failed c.unstarted.ensures.output_failed;
   ends = λ is. cc (c.fail_to_start.ensures.status, c.unstarted.ensures.status, is);
   same = λ is. cc (c.fail_to_start.ensures.status, c.unstarted.ensures.status, is);
@@ -229,12 +230,20 @@ pub returns-in-Ok-text_of_top-clause-met : goal.returns-in-Ok-text_of_top-clause
 returns-in-Ok-text_of_top-clause-met g c =
     let outcome = c.in-Ok.ended.0 in
     let account = c.in-Ok.ended.1 in
+    let complete = c.is_complete-complete.result in
+    let ending = ending_is complete account.stop c.new-ending.result c.new-ending.ensures.ending in
+    let error = written (g.E.Sink.given c.args.error.now) (g.E.Sink.given c.print_summary-report.new.error)
+    (g.E.Sink.failures c.args.error.now) (g.E.Sink.failures c.print_summary-report.new.error) in
     let reached = c.run_observed-run.new.observer in
     let start : HasSeen c.new-reached.result.observer [] =
     subst (λ (h : HotRanges). HasSeen h []) (sym c.new-reached.ensures.observer) c.new-hot.ensures.none in
     has_met c.args.options (map g.S.Source.remaining c.args.readers.items) (map (vec_items {X = Line} {Z = Global}) outcome.lines.items)
     outcome.failures.items (is_complete outcome account) (HasSeen reached.observer) reached.version account.stop c.is_unwritten.result
-    (c.in-Ok.ensures.observed (start, c.new-reached.ensures.none))
+    error (c.in-Ok.ensures.observed (start, c.new-reached.ensures.none))
+    (stop_told [] c.print_summary-report.result.told error c.print_summary-report.new.failures complete account.stop
+    (subst (λ (e : Ending). OnOk c.print_summary-report.result.told (Took error (failure_lines c.print_summary-report.new.failures e))) ending
+    c.print_summary-report.ensures.failure_lines)
+    c.print_summary-report.ensures.told.0)
 
 pub returns-in-Ok-text_of_top-clause-output_failed : goal.returns-in-Ok-text_of_top-clause-output_failed
 returns-in-Ok-text_of_top-clause-output_failed g c = λ is. c.print_summary-report.ensures.write.0 (c.is_unwritten.ensures.write is)
@@ -243,9 +252,17 @@ pub returns-clause-met : goal.returns-clause-met
 returns-clause-met g c =
     let outcome = c.in-Ok.ended.0 in
     let account = c.in-Ok.ended.1 in
+    let complete = c.is_complete-complete.result in
+    let ending = ending_is complete account.stop c.new-ending.result c.new-ending.ensures.ending in
+    let error = written (g.E.Sink.given c.args.error.now) (g.E.Sink.given c.report_last_loss.new.error)
+    (g.E.Sink.failures c.args.error.now) (g.E.Sink.failures c.report_last_loss.new.error) in
     let reached = c.run_observed-run.new.observer in
     let start : HasSeen c.new-reached.result.observer [] =
     subst (λ (h : HotRanges). HasSeen h []) (sym c.new-reached.ensures.observer) c.new-hot.ensures.none in
     has_met c.args.options (map g.S.Source.remaining c.args.readers.items) (map (vec_items {X = Line} {Z = Global}) outcome.lines.items)
     outcome.failures.items (is_complete outcome account) (HasSeen reached.observer) reached.version account.stop false
-    (c.in-Ok.ensures.observed (start, c.new-reached.ensures.none))
+    error (c.in-Ok.ensures.observed (start, c.new-reached.ensures.none))
+    (stop_told [] c.report_last_loss.result.told error c.report_last_loss.new.failures complete account.stop
+    (subst (λ (e : Ending). OnOk c.report_last_loss.result.told (Took error (failure_lines c.report_last_loss.new.failures e))) ending
+    c.report_last_loss.ensures.failure_lines)
+    c.report_last_loss.ensures.told.0)

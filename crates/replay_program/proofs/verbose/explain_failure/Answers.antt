@@ -1,5 +1,4 @@
-use Rattle.std.proofs.Common.{◌≡◌, List, ℕ, Bor, inl, inr, refl, subst}
-use Rattle.std.specs.Prelude.{Option}
+use Rattle.std.proofs.Common.{List, ℕ, Bor, inl, inr, refl, subst}
 use Rattle.replay_diagnosis.specs.Remedy.{remedy_line, run_remedy_line}
 use Rattle.replay_program.specs.Program.{texts}
 use Rattle.replay_program.specs.Replayed.{written}

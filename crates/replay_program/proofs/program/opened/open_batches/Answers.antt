@@ -1,4 +1,4 @@
-use Rattle.std.proofs.Common.{◌∙◌, List, ℕ, Bor, Err, ap, arith, length, map, refl, subst}
+use Rattle.std.proofs.Common.{◌∙◌, List, ℕ, Bor, Err, ap, arith, length, refl, subst}
 use Rattle.std.proofs.lemmas.List.{length-map}
 use Rattle.std.specs.List.{All}
 use Rattle.replay_arguments.specs.declared.opening.OpeningError.TheVariants as opening

@@ -1,14 +1,18 @@
 use Rattle.std.proofs.Common.{◌≡◌, Bool, ◌&&◌, List, map, refl, ap, sym, subst, inl, inr, ◌∙◌, Vec, Global}
-use Rattle.std.specs.Prelude.{vec_items}
+use Rattle.std.specs.Prelude.{◌≢◌, Option, Some, vec_items}
 use Rattle.replay_output.specs.declared.failures.Ending.{Ending}
 use Rattle.replay_output.specs.declared.failures.ProxyFailure.{ProxyFailure}
 use Rattle.replay_output.specs.declared.line.Line.{Line}
 use Rattle.replay_output.specs.Lines.{lines as lines_of}
 use Rattle.replay_output.specs.Failures.{NothingFailed}
 use Rattle.replay_workers.specs.Run.{IsRun, is_complete}
-use Rattle.replay_program.specs.Replayed.{written, Took}
+use Rattle.resolver.specs.declared.stop.Stop.{Stop}
+use Rattle.replay_output.specs.declared.failures.Ending.TheVariants.{Complete, Stopped}
+use Rattle.replay_output.specs.declared.status.Status.TheVariants.{Done}
+use Rattle.replay_program.specs.Met.{TellsStop}
+use Rattle.replay_program.specs.Replayed.{written, Took, ending_of}
 use Rattle.replay_program.specs.Summarized.{BothFailed, run_summary}
-use Rattle.replay_program.proofs.Meeting.{has_met, met_nothing, not_failed}
+use Rattle.replay_program.proofs.Meeting.{has_met, is_failed, met_nothing, not_failed, tells_as}
 use Rattle.replay_program.proofs.Replaying.{ending_is, are_lines, is_replayed}
 use Rattle.replay_program.proofs.replay.beside.replay_and_summarize_over.Goals.{then-account, else-account}
 use Rattle.replay_program.proofs.replay.beside.replay_and_summarize_over.Goals as goal
@@ -26,7 +30,8 @@ returns-in-Err g c = record {
     refl,
   );
   met = met_nothing c.args.options.limit c.args.options.window (map g.S.Source.remaining c.args.readers.items) c.unstarted.result.met
-      c.unstarted.ensures.stop;
+      (written (g.E.Sink.given c.args.error.now) (g.E.Sink.given c.fail_to_start.new.error) (g.E.Sink.failures c.args.error.now)
+      (g.E.Sink.failures c.fail_to_start.new.error)) c.unstarted.ensures.stop;
   output_failed = not_failed c.unstarted.result.met.output_failed c.unstarted.ensures.output_failed;
   ends = λ is. cc (c.fail_to_start.ensures.status, c.unstarted.ensures.status, is);
   same = λ is. cc (c.fail_to_start.ensures.status, c.unstarted.ensures.status, is);
@@ -63,6 +68,13 @@ returns g c =
     let error = written (g.E.Sink.given c.args.error.now) (g.E.Sink.given c.print_with_summary-report.new.error)
     (g.E.Sink.failures c.args.error.now) (g.E.Sink.failures c.print_with_summary-report.new.error) in
     let are = are_lines options files received failures complete account.stop run in
+    let status = c.print_with_summary-report.result.status in
+    let stopped : (s : Stop) → account.stop ≡ Some s → TellsStop s error =
+    λ s is.
+    let by : c.new-ending.result ≡ Stopped s = ending ∙ ap (λ (o : Option Stop). ending_of complete o) is in
+    let not_done : status ≢ Done = λ done. let bad : Complete ≡ Stopped s = sym (report.nothing_failed done).complete ∙ by in cc in
+    let both = report.failed options.style are (is_failed status report.ends report.same not_done) in
+    tells_as error both.told c.new-ending.result s by both.lines_of_failures in
     record {
       done = λ is.
           is_replayed options files received failures complete account.stop run
@@ -83,7 +95,7 @@ returns g c =
           });
       met = has_met options files (map (vec_items {X = Line} {Z = Global}) outcome.lines.items) outcome.failures.items
           (is_complete outcome account) (λ _. Unit {0}) c.run_observed-run.new.observer.version account.stop c.print_with_summary-report.result.output_failed
-          (c.in-Ok.ensures.observed (tt, c.new-reached.ensures.none));
+          error (c.in-Ok.ensures.observed (tt, c.new-reached.ensures.none)) stopped;
       output_failed = report.output_failed;
       ends = report.ends;
       same = report.same;

@@ -1,8 +1,6 @@
-use Rattle.std.proofs.Common.{◌≡◌, ◌∙◌, List, ℕ, Err, ap, inl, inr, subst, sym, rules}
+use Rattle.std.proofs.Common.{◌∙◌, List, ℕ, Err, ap, inl, inr, subst, sym}
 use Rattle.std.specs.Prelude.{Option}
 use Rattle.std.proofs.lemmas.Result.{IfErr-weaker, IfOk-weaker}
-use Rattle.replay_arguments.specs.Words.{standard_input}
-use Rattle.replay_diagnosis.specs.declared.finding.Finding.{Finding}
 use Rattle.replay_diagnosis.specs.Content.{ContainsBatches, FoundIn}
 use Rattle.replay_program.specs.Verbose.{IsFoundIn}
 use Rattle.replay_program.proofs.Saying.{found_as}
