@@ -23,10 +23,10 @@ use Rattle.replay_program.specs.Met.{HasMet, MetStop, TellsStop}
 use Rattle.replay_program.specs.Replayed.{HasFailed, Took, Written, ending_of}
 
 -- a run that was not begun met nothing
-pub met_nothing : (limit : ℕ) (window : ℤ) (files : List (Option (List ℕ))) (met : Met) (error : Written) → met.stop ≡ None
-    → HasMet limit window files met error
-met_nothing limit window files met error none =
-    subst (λ (s : Option Stop). IfSome s (λ stop. MetStop limit window files stop met.version × TellsStop stop error)) (sym none) tt
+pub met_nothing : (options : Options) (files : List (Option (List ℕ))) (met : Met) (error : Written) → met.stop ≡ None
+    → HasMet options files met error
+met_nothing options files met error none =
+    subst (λ (s : Option Stop). IfSome s (λ stop. MetStop options files stop met.version × TellsStop stop error)) (sym none) tt
 
 -- the last of the lines names the stop
 pub stop_told : {T E : Type 0} (first : List ℕ) (wrote : Result T E) (error : Written) (failures : List ProxyFailure) (complete : Bool)
@@ -97,12 +97,12 @@ module _ (options : Options) (files : List (Option (List ℕ))) (received : List
   pub has_met : (stop : Option Stop) (output_failed : Bool) (error : Written)
       → IsObservedRun (λ ps. Seen ps × (version ≡ Some (version_of ps))) options files received failures complete stop
       → ((s : Stop) → stop ≡ Some s → TellsStop s error)
-      → HasMet options.limit options.window files (record { stop = stop; version = version; output_failed = output_failed }) error
+      → HasMet options files (record { stop = stop; version = version; output_failed = output_failed }) error
   has_met None output_failed error observed told = tt
   has_met (Some s) output_failed error observed told =
       let run = observed.run in
       let saw = observed.seen in
-      let met : MetStop options.limit options.window files s version = record {
+      let met : MetStop options files s version = record {
         log = run.log;
         proxies = run.proxies;
         each_file = λ proxy bytes at.
@@ -126,10 +126,10 @@ pub stream_has_met : (options : Options) (files : List (Option (List ℕ))) (has
     (failed : Bool) (failures : List ProxyFailure) (recorded : List (Option Recorded)) (complete : Bool) (stop : Option Stop)
     (error : Written) → IsStreamed options files has_writer before after failed failures recorded complete stop
     → ((s : Stop) → stop ≡ Some s → TellsStop s error)
-    → HasMet options.limit options.window files (record { stop = stop; version = None; output_failed = failed }) error
+    → HasMet options files (record { stop = stop; version = None; output_failed = failed }) error
 stream_has_met options files has_writer before after failed failures recorded complete None error streamed told = tt
 stream_has_met options files has_writer before after failed failures recorded complete (Some s) error streamed told =
-    let met : MetStop options.limit options.window files s None = record {
+    let met : MetStop options files s None = record {
       log = streamed.log;
       proxies = streamed.proxies;
       each_file = λ proxy bytes at.

@@ -278,7 +278,7 @@ pub record LineFailsAndSays {W : Type 0} (state_of : W → SinkState) (files : N
   -- what the run met: its stop and the version are those of a replay of these files, and the last of the fixed lines names the stop; if the
   -- output has failed, so has its writer
   pub met :
-      HasMet line.options.limit line.options.window (bytes_of files line) report.met
+      HasMet line.options (bytes_of files line) report.met
       (written error.before given error.failures_before failures)
   pub output_failed : report.met.output_failed ≡ true → OfOutput state_of files line report standard HasFailed
   pub further :

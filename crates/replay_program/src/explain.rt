@@ -58,7 +58,7 @@ pub fn explain_over<
         (written (O.given out.old) (O.given out.new) (O.failures out.old) (O.failures out.new))
         (written (E.given error.old) (E.given error.new) (E.failures error.old)
         (E.failures error.new)) }
-    ensures met { HasMet options.limit options.window (map S.remaining readers.items) result.met
+    ensures met { HasMet options (map S.remaining readers.items) result.met
         (written (E.given error.old) (E.given error.new) (E.failures error.old)
         (E.failures error.new)) }
     ensures output_failed { result.met.output_failed ≡ true

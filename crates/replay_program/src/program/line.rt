@@ -94,7 +94,7 @@ fn do_line<R: Threads + Wait + Copy + Send + 'static, F: Files, O: Sink, E: Sink
         (written (O.given out.old) (O.given out.new) (O.failures out.old) (O.failures out.new))
         (written (E.given error.old) (E.given error.new) (E.failures error.old)
         (E.failures error.new)) }
-    ensures met { HasMet line.now.options.limit line.now.options.window
+    ensures met { HasMet line.now.options
         (bytes_of (named_files (F.contents files.now) (F.has_opened files.now)
         (F.cannot_open files.now) (F.begun files.now) (F.has_created files.now)
         (F.cannot_create files.now)) line.now) result.met

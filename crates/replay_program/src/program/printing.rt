@@ -49,7 +49,7 @@ pub fn print_and_summarize<R: Threads + Wait + Copy + Send + 'static, F: Files, 
         (written (O.given out.old) (O.given out.new) (O.failures out.old) (O.failures out.new))
         (written (E.given error.old) (E.given error.new) (E.failures error.old)
         (E.failures error.new)) }
-    ensures met { HasMet line.now.options.limit line.now.options.window
+    ensures met { HasMet line.now.options
         (map F.Reader.remaining opened.readers.items) result.met
         (written (E.given error.old) (E.given error.new) (E.failures error.old)
         (E.failures error.new)) }

@@ -51,7 +51,7 @@ pub fn stream_and_record<R: Threads + Wait + Copy + Send + 'static, F: Files, O:
         (written (O.given out.old) (O.given out.new) (O.failures out.old) (O.failures out.new))
         (written (E.given error.old) (E.given error.new) (E.failures error.old)
         (E.failures error.new)) }
-    ensures met { HasMet options.limit options.window
+    ensures met { HasMet options
         (map F.Reader.remaining opened.readers.items) result.met
         (written (E.given error.old) (E.given error.new) (E.failures error.old)
         (E.failures error.new)) }

@@ -59,7 +59,7 @@ pub fn replay_and_summarize_over<
         (T.failures summary.old.writer) (T.failures summary.new.writer))
         (written (E.given error.old) (E.given error.new) (E.failures error.old)
         (E.failures error.new)) }
-    ensures met { HasMet options.limit options.window (map S.remaining readers.items) result.met
+    ensures met { HasMet options (map S.remaining readers.items) result.met
         (written (E.given error.old) (E.given error.new) (E.failures error.old)
         (E.failures error.new)) }
     ensures output_failed { result.met.output_failed ≡ true

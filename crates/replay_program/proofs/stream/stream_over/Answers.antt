@@ -23,7 +23,7 @@ returns-in-Err g c = record {
     nothing_printed = ap (λ (s : SinkState). s.given) c.in-Err.ensures.nothing;
     told = c.fail_to_start.ensures.line;
   });
-  met = met_nothing c.args.options.limit c.args.options.window (map g.S.Source.remaining c.args.readers.items) c.unstarted.result.met
+  met = met_nothing c.args.options (map g.S.Source.remaining c.args.readers.items) c.unstarted.result.met
       (written (g.E.Sink.given c.args.error.now) (g.E.Sink.given c.fail_to_start.new.error) (g.E.Sink.failures c.args.error.now)
       (g.E.Sink.failures c.fail_to_start.new.error)) c.unstarted.ensures.stop;
   output_failed = not_failed c.unstarted.result.met.output_failed c.unstarted.ensures.output_failed;

@@ -5,7 +5,7 @@ use Rattle.replay_program.proofs.program.comparison.check_replies.Goals as goal
 
 pub returns-in-Err-clause-met : goal.returns-in-Err-clause-met
 returns-in-Err-clause-met g c =
-    met_nothing c.args.options.limit c.args.options.window (map g.F.Reader.Source.remaining c.args.opened.readers.items)
+    met_nothing c.args.options (map g.F.Reader.Source.remaining c.args.opened.readers.items)
     c.unstarted.result.met
     (written (g.E.Sink.given c.args.error.now) (g.E.Sink.given c.fail_to_read_replies.new.error) (g.E.Sink.failures c.args.error.now)
     (g.E.Sink.failures c.fail_to_read_replies.new.error)) c.unstarted.ensures.stop

@@ -46,7 +46,7 @@ returns-in-None g c =
       failed = λ is. inr (inr (inr (to_standard state files line report standard error
           (λ (out : Written). TaskFails state files bytes line line.task report out error) c.in-None.is ran.output
           (subst (λ (b : List (Option (List ℕ))). TaskFails state files b line line.task report standard error) are (ran.failed is)))));
-      met = subst (λ (b : List (Option (List ℕ))). HasMet line.options.limit line.options.window b report.met error) are ran.met;
+      met = subst (λ (b : List (Option (List ℕ))). HasMet line.options b report.met error) are ran.met;
       output_failed = λ is. to_standard state files line report standard error HasFailed c.in-None.is ran.output (ran.output_failed is);
       ends = ran.ends;
     }
@@ -85,7 +85,7 @@ returns-in-Ok-create g c =
           (λ (out : Written). TaskFails state files bytes line line.task report out error) name opened last c.in-Some.is refl new refl refl
           (fails_alike state files bytes line line.task first report out error refl refl
           (subst (λ (b : List (Option (List ℕ))). TaskFails state files b line line.task first out error) are (ran.failed is))))));
-      met = subst (λ (b : List (Option (List ℕ))). HasMet line.options.limit line.options.window b report.met error) are ran.met;
+      met = subst (λ (b : List (Option (List ℕ))). HasMet line.options b report.met error) are ran.met;
       output_failed = λ is. to_file state files line report standard error HasFailed name opened last c.in-Some.is refl new refl refl
           (ran.output_failed is);
       ends = ran.ends;
@@ -110,7 +110,7 @@ returns-in-Err-clause-met g c =
     let line = c.args.line.now in
     let files = named_files (g.F.Files.contents f) (g.F.Files.has_opened f) (g.F.Files.cannot_open f)
     (g.F.Files.begun f) (g.F.Files.has_created f) (g.F.Files.cannot_create f) in
-    met_nothing line.options.limit line.options.window (bytes_of files line) c.unstarted.result.met
+    met_nothing line.options (bytes_of files line) c.unstarted.result.met
     (written (g.E.Sink.given c.args.error.now) (g.E.Sink.given c.fail_to_open.new.error) (g.E.Sink.failures c.args.error.now)
     (g.E.Sink.failures c.fail_to_open.new.error)) c.unstarted.ensures.stop
 
@@ -123,7 +123,7 @@ returns-in-Err-create-clause-met g c =
     let line = c.args.line.now in
     let files = named_files (g.F.Files.contents f) (g.F.Files.has_opened f) (g.F.Files.cannot_open f)
     (g.F.Files.begun f) (g.F.Files.has_created f) (g.F.Files.cannot_create f) in
-    met_nothing line.options.limit line.options.window (bytes_of files line) c.unstarted-in-Err-create.result.met
+    met_nothing line.options (bytes_of files line) c.unstarted-in-Err-create.result.met
     (written (g.E.Sink.given c.args.error.now) (g.E.Sink.given c.fail_to_create_file-status.new.error) (g.E.Sink.failures c.args.error.now)
     (g.E.Sink.failures c.fail_to_create_file-status.new.error)) c.unstarted-in-Err-create.ensures.stop
 

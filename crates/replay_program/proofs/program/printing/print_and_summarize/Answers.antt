@@ -32,7 +32,7 @@ returns-in-None g c =
       failed = λ is.
           subst (λ (file : Option SummaryFile). AreNotPrinted state files bytes options file report.summary out error) (sym c.in-None.is)
           (replayed.failed (sym status ∙ is));
-      met = subst (λ (m : Met). HasMet options.limit options.window bytes m error) (sym c.without_files.ensures.met) replayed.met;
+      met = subst (λ (m : Met). HasMet options bytes m error) (sym c.without_files.ensures.met) replayed.met;
       output_failed = λ is. replayed.output_failed (sym (ap (λ (m : Met). m.output_failed) c.without_files.ensures.met) ∙ is);
       output = c.without_files.ensures.output;
       ends = λ is. replayed.ends (sym status ∙ is);
@@ -58,7 +58,7 @@ returns-in-Err-clause-failed g c = λ is.
 
 pub returns-in-Err-clause-met : goal.returns-in-Err-clause-met
 returns-in-Err-clause-met g c =
-    met_nothing c.args.line.now.options.limit c.args.line.now.options.window (map g.F.Reader.Source.remaining c.args.opened.readers.items)
+    met_nothing c.args.line.now.options (map g.F.Reader.Source.remaining c.args.opened.readers.items)
     c.unstarted.result.met
     (written (g.E.Sink.given c.args.error.now) (g.E.Sink.given c.fail_to_create_file-status.new.error) (g.E.Sink.failures c.args.error.now)
     (g.E.Sink.failures c.fail_to_create_file-status.new.error)) c.unstarted.ensures.stop

@@ -19,7 +19,7 @@ returns-in-Err-clause-failed g c = λ is.
 
 pub returns-in-Err-clause-met : goal.returns-in-Err-clause-met
 returns-in-Err-clause-met g c =
-    met_nothing c.args.options.limit c.args.options.window (map g.F.Reader.Source.remaining c.args.opened.readers.items)
+    met_nothing c.args.options (map g.F.Reader.Source.remaining c.args.opened.readers.items)
     c.unstarted.result.met
     (written (g.E.Sink.given c.args.error.now) (g.E.Sink.given c.fail_to_create.new.error) (g.E.Sink.failures c.args.error.now)
     (g.E.Sink.failures c.fail_to_create.new.error)) c.unstarted.ensures.stop

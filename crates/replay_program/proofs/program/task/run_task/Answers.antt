@@ -67,7 +67,7 @@ returns-in-Explain g c =
       quiet = λ other. ran.quiet (is_done c.explain_over-ended.result.status (λ is. other (status ∙ is)) ran.ends ran.same);
       failed = λ is.
           subst (λ (t : Task). TaskFails state files bytes line t report out error) (sym c.in-Explain.is) (ran.failed (sym status ∙ is));
-      met = subst (λ (m : Met). HasMet line.options.limit line.options.window bytes m error) (sym c.without_files.ensures.met) ran.met;
+      met = subst (λ (m : Met). HasMet line.options bytes m error) (sym c.without_files.ensures.met) ran.met;
       output_failed = λ is. ran.output_failed (sym (ap (λ (m : Met). m.output_failed) c.without_files.ensures.met) ∙ is);
       output = c.without_files.ensures.output;
       ends = λ is. ran.ends (sym status ∙ is);
@@ -88,7 +88,7 @@ returns-in-Summarize g c =
     (g.O.Sink.failures c.args.out.now) (g.O.Sink.failures c.summarize_over-ended.new.out) in
     let error = written (g.E.Sink.given c.args.error.now) (g.E.Sink.given c.summarize_over-ended.new.error)
     (g.E.Sink.failures c.args.error.now) (g.E.Sink.failures c.summarize_over-ended.new.error) in
-    let summed = subst (λ (o : Options). HasMet o.limit o.window bytes c.summarize_over-ended.result.met error) c.quieted-options.ensures.quieted
+    let summed = subst (λ (o : Options). HasMet o bytes c.summarize_over-ended.result.met error) c.quieted-options.ensures.quieted
     ran.met in
     record {
       done = λ is. subst (λ (t : Task). IsTaskDone state files bytes line t report out) (sym c.in-Summarize.is)
@@ -100,7 +100,7 @@ returns-in-Summarize g c =
           subst (λ (t : Task). TaskFails state files bytes line t report out error) (sym c.in-Summarize.is)
           (subst (λ (o : Options). FailsToSummarize c.in-Summarize.form c.in-Summarize.top o bytes out error)
           c.quieted-options.ensures.quieted (ran.failed (sym status ∙ is)));
-      met = subst (λ (m : Met). HasMet line.options.limit line.options.window bytes m error) (sym c.without_files-in-Summarize.ensures.met) summed;
+      met = subst (λ (m : Met). HasMet line.options bytes m error) (sym c.without_files-in-Summarize.ensures.met) summed;
       output_failed = λ is. ran.output_failed (sym (ap (λ (m : Met). m.output_failed) c.without_files-in-Summarize.ensures.met) ∙ is);
       output = c.without_files-in-Summarize.ensures.output;
       ends = λ is. ran.ends (sym status ∙ is);
@@ -166,7 +166,7 @@ returns-in-Check g c =
           subst (λ (t : Task). TaskFails state files bytes line t report out error) (sym c.in-Check.is)
           (subst (λ (names : List (Bor (List ℕ))). FailsToCheck files line.options bytes (texts names) out error)
           c.deref-in-Check.ensures.value (ran.failed (sym status ∙ is)));
-      met = subst (λ (m : Met). HasMet line.options.limit line.options.window bytes m error) (sym c.without_files-in-Check.ensures.met) ran.met;
+      met = subst (λ (m : Met). HasMet line.options bytes m error) (sym c.without_files-in-Check.ensures.met) ran.met;
       output_failed = λ is. ran.output_failed (sym (ap (λ (m : Met). m.output_failed) c.without_files-in-Check.ensures.met) ∙ is);
       output = c.without_files-in-Check.ensures.output;
       ends = λ is. ran.ends (sym status ∙ is);
