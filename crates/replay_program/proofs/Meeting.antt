@@ -14,6 +14,7 @@ use Rattle.replay_output.specs.declared.status.Status.TheVariants.{Done, Failed,
 use Rattle.replay_output.specs.Failures.{ending_line, failure_lines, proxy_lines}
 use Rattle.replay_output.specs.declared.line.Line.{Line}
 use Rattle.replay_output.specs.declared.options.Options.{Options}
+use Rattle.replay_output.specs.Quieted.{quieted}
 use Rattle.replay_stream.specs.Sinks.{SinkState}
 use Rattle.replay_stream.specs.Streaming.{IsStreamed, Recorded}
 use Rattle.replay_workers.specs.Run.{IsObservedRun}
@@ -27,6 +28,24 @@ pub met_nothing : (options : Options) (files : List (Option (List ℕ))) (met : 
     → HasMet options files met error
 met_nothing options files met error none =
     subst (λ (s : Option Stop). IfSome s (λ stop. MetStop options files stop met.version × TellsStop stop error)) (sym none) tt
+
+-- what it met doesn't depend on which lines are shown
+pub met_quieted : (options : Options) (files : List (Option (List ℕ))) (met : Met) (error : Written)
+    → HasMet (quieted options) files met error → HasMet options files met error
+met_quieted options files met error has = go met.stop has
+  where
+    go : (stop : Option Stop) → IfSome stop (λ s. MetStop (quieted options) files s met.version × TellsStop s error)
+        → IfSome stop (λ s. MetStop options files s met.version × TellsStop s error)
+    go None has = tt
+    go (Some s) has =
+        let of_log : MetStop options files s met.version = record {
+          log = has.0.log;
+          proxies = has.0.proxies;
+          each_file = has.0.each_file;
+          met = has.0.met;
+          reached = has.0.reached;
+        } in
+        (of_log, has.1)
 
 -- the last of the lines names the stop
 pub stop_told : {T E : Type 0} (first : List ℕ) (wrote : Result T E) (error : Written) (failures : List ProxyFailure) (complete : Bool)

@@ -18,6 +18,7 @@ use Rattle.replay_program.specs.Program.{
 use Rattle.replay_program.specs.Summarized.{FailsToSummarize, IsSummarized}
 use Rattle.replay_program.specs.Replayed.{written}
 use Rattle.replay_stream.specs.Sinks.{state_by}
+use Rattle.replay_program.proofs.Meeting.{met_quieted}
 use Rattle.replay_program.proofs.Programs.{is_done}
 use Rattle.replay_program.proofs.program.task.run_task.Goals as goal
 
@@ -88,8 +89,8 @@ returns-in-Summarize g c =
     (g.O.Sink.failures c.args.out.now) (g.O.Sink.failures c.summarize_over-ended.new.out) in
     let error = written (g.E.Sink.given c.args.error.now) (g.E.Sink.given c.summarize_over-ended.new.error)
     (g.E.Sink.failures c.args.error.now) (g.E.Sink.failures c.summarize_over-ended.new.error) in
-    let summed = subst (λ (o : Options). HasMet o bytes c.summarize_over-ended.result.met error) c.quieted-options.ensures.quieted
-    ran.met in
+    let summed = met_quieted line.options bytes c.summarize_over-ended.result.met error
+    (subst (λ (o : Options). HasMet o bytes c.summarize_over-ended.result.met error) c.quieted-options.ensures.quieted ran.met) in
     record {
       done = λ is. subst (λ (t : Task). IsTaskDone state files bytes line t report out) (sym c.in-Summarize.is)
           (subst (λ (o : Options). IsSummarized c.in-Summarize.form c.in-Summarize.top o bytes out.before out.after)
