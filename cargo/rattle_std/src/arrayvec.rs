@@ -35,7 +35,7 @@ impl<T: Copy, const N: usize> ArrayVec<T, N> {
     /// Appends an item for which there is room.
     #[inline]
     pub fn push(&mut self, item: T) {
-        self.items.get_or_insert([item; N])[self.len] = item;
+        self.items.get_or_insert_with(|| [item; N])[self.len] = item;
         self.len += 1;
     }
 
