@@ -4,7 +4,7 @@
 set -euo pipefail
 P=/work/hP-proto
 w=$1; shift
-ws=$P/ws-$w
+ws=$P/ws-test
 export CARGO_TARGET_DIR=$P/target-test-$w
 if [ "${1:-}" = small ]; then
     shift
