@@ -18,4 +18,4 @@ export RUSTFLAGS=-Ctarget-cpu=x86-64-v2 CARGO_BUILD_JOBS=1
 export CARGO_PROFILE_RELEASE_LTO=off CARGO_PROFILE_RELEASE_CODEGEN_UNITS=16
 export CARGO_PROFILE_RELEASE_OVERFLOW_CHECKS=true CARGO_PROFILE_RELEASE_DEBUG_ASSERTIONS=true
 nice -n 15 cargo test --manifest-path $ws/Cargo.toml --release --offline --quiet \
-    --package archcaraway-tests --package archcaraway-rattle_std --package archcaraway -- --test-threads=1 "$@"
+    ${PACKAGES:---package archcaraway-tests --package archcaraway-rattle_std --package archcaraway} --no-fail-fast -- --test-threads=1 "$@"
