@@ -20,3 +20,4 @@ mod Together
 mod Clipping
 mod Streams
 mod FirstOnes
+mod Table

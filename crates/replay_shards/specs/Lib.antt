@@ -6,6 +6,7 @@ pub mod Notes
 pub mod Answers
 pub mod Merging
 pub mod Answered
+pub mod ByProxy
 pub mod Failures
 -- Not of the meaning: how the code matches answers.
 pub mod Matching

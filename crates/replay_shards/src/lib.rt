@@ -25,6 +25,7 @@ mod note;
 mod noted_reply;
 mod own_shard;
 mod points;
+mod proxies;
 mod sampling;
 
 pub use answered::{Answered, combine_answered};
@@ -32,4 +33,5 @@ pub use clips::{Clips, clips_each};
 pub use failures::{ShardStop, failure_together, first_stop};
 pub use note::Note;
 pub use points::{PointsError, fail_to_read_points, read_points};
+pub use proxies::by_proxy;
 pub use sampling::{SAMPLE, points_of_sample};
