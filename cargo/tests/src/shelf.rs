@@ -38,6 +38,10 @@ impl Files for Shelf {
         }
     }
 
+    fn is_regular(&self, name: &str) -> bool {
+        BATCHES.iter().any(|(known, ..)| *known == name)
+    }
+
     fn create(&self, name: &str) -> Result<StdSink<Vec<u8>>, FileError> {
         match name {
             "sealed" => Err(FileError::CannotOpen),

@@ -5,7 +5,7 @@ use Rattle.replay_output.specs.declared.options.form.Form.TheVariants.{Kept}
 use Rattle.replay_arguments.specs.Details.{HoldsDetails}
 use Rattle.replay_arguments.specs.Names.{HoldsNames}
 use Rattle.replay_arguments.specs.Printing.{HoldsPrinting}
-use Rattle.replay_arguments.specs.Words.{HoldsNumbers}
+use Rattle.replay_arguments.specs.Words.{HoldsNumbers, HoldsSharding}
 use Rattle.replay_arguments.specs.declared.arguments.CommandLine.{CommandLine}
 use Rattle.replay_arguments.specs.declared.arguments.asked.Asked.{Asked}
 use Rattle.replay_arguments.specs.declared.arguments.task.Task.{Task}
@@ -17,6 +17,7 @@ pub record HoldsAsked (rows : List Row) (asked : Asked) : Type 0 where
   pub numbers : HoldsNumbers rows asked.options
   pub style : asked.options.style ≡ asked.printing.style
   pub names : HoldsNames rows asked.printing asked.names
+  pub sharding : HoldsSharding rows asked.sharding
 
 -- the answers are printed at the end, without a summary or explanations
 pub record IsPrinting (asked : Asked) : Type 0 where
@@ -40,3 +41,4 @@ pub record IsLineOf (asked : Asked) (line : CommandLine) : Type 0 where
   pub output : line.output ≡ asked.names.output
   pub summary_to : line.summary_to ≡ asked.names.summary
   pub options : line.options ≡ asked.options
+  pub sharding : line.sharding ≡ asked.sharding

@@ -11,6 +11,7 @@ use Rattle.replay_arguments.specs.Words.{
   HasInputOnce,
   HoldsExplain,
   HoldsOptions,
+  HoldsSharding,
   HoldsStream,
   HoldsSummary,
   HoldsSummaryFile,
@@ -90,3 +91,4 @@ pub record Asks (words : List (List ℕ)) (line : CommandLine) : Type 0 where
   pub summary_file : HoldsSummaryFile (rows_of_words words) line.options.style.form line.summary_to
   pub beside : is_some line.summary_to ≡ true → IsBeside (rows_of_words words)
   pub top : HoldsTop (rows_of_words words) (top_of line.task)
+  pub sharding : HoldsSharding (rows_of_words words) line.sharding

@@ -23,12 +23,14 @@ mod mistake;
 mod names;
 mod printing;
 mod refusal;
+mod sharding;
 mod summary;
 mod summary_file;
 mod task;
 
 pub use details::MAX_TOP;
 pub use refusal::Refusal;
+pub use sharding::{MAX_RESOLVERS, Sharding};
 pub use summary_file::SummaryFile;
 pub use task::Task;
 
@@ -36,7 +38,8 @@ pub use task::Task;
 #[derive(Debug, Drop)]
 pub struct CommandLine<'a> {
     /// The names of the files of batches, from 1 to [`MAX_PROXIES`](resolver::MAX_PROXIES). At most
-    /// one name of these and of replies is [`STANDARD_INPUT`](crate::STANDARD_INPUT).
+    /// one name of these, of replies and of split points is
+    /// [`STANDARD_INPUT`](crate::STANDARD_INPUT).
     pub files: Vec<&'a str>,
     /// What is printed.
     pub task: Task<'a>,
@@ -45,6 +48,7 @@ pub struct CommandLine<'a> {
     /// The file for the summary that is written beside the answers, if one is requested.
     pub summary_to: Option<SummaryFile<'a>>,
     pub options: Options,
+    pub sharding: Sharding<'a>,
 }
 
 /// Reads the words of the command line, of which the first is the program's name. An error says how
@@ -73,6 +77,7 @@ impl<'a> CommandLine<'a> {
             output: asked.names.output,
             summary_to: asked.names.summary,
             options: asked.options,
+            sharding: asked.sharding,
         })
     }
 }

@@ -1,0 +1,80 @@
+//! How many resolvers the arguments ask for, and by which split points.
+
+ghost use Rattle.std.specs.Prelude.{◌≡◌, ◌≤◌, ◌↔◌, IfOk, IsTrue, None, OnErr, false};
+ghost use Rattle.clap.specs.Words.{found_of, rows_of};
+ghost use Rattle.replay_arguments.specs.Words.{HasSharding, HoldsExplain, HoldsSharding};
+ghost use Rattle.replay_arguments.specs.Words.{HoldsStream, HoldsTop};
+
+use crate::arguments::details::Details;
+use crate::arguments::input::inputs_of;
+use crate::arguments::mistake::Mistake;
+use crate::arguments::printing::Printing;
+use clap::ArgMatches;
+
+/// The greatest number that `--resolvers` takes.
+pub const MAX_RESOLVERS: usize = 16;
+
+/// How many resolvers there are, each with a shard of the keys, and by which split points.
+#[derive(Clone, Copy, Debug, PartialEq, Eq)]
+pub struct Sharding<'a> {
+    /// The number of resolvers, from 1 to [`MAX_RESOLVERS`]. With several of them, no file is
+    /// standard input, and the task is neither to explain nor to stream nor to list ranges.
+    pub resolvers: usize,
+    /// The name of the file of split points, if there is one. Only several resolvers have it.
+    pub split_points: Option<&'a str>,
+}
+
+impl Sharding<'_> {
+    /// Returns whether there is more than one resolver.
+    pub fn is_several(&self) -> bool
+        ensures several { IsTrue result ↔ (2 ≤ self.now.resolvers) }
+    {
+        self.resolvers > 1
+    }
+}
+
+/// Returns the number of resolvers and the file of split points. An error is what several resolvers
+/// can't have, or split points of one.
+pub fn sharding_of<'a>(
+    matches: &ArgMatches<'a>,
+    printing: Printing,
+    details: Details,
+) -> Result<Sharding<'a>, Mistake>
+    ensures sharding { HoldsStream (rows_of (found_of matches.now)) printing.is_streamed
+        → HoldsExplain (rows_of (found_of matches.now)) printing.explains
+        → HoldsTop (rows_of (found_of matches.now)) details.top
+        → IfOk result (HoldsSharding (rows_of (found_of matches.now))) }
+    ensures none { OnErr result (
+        HoldsStream (rows_of (found_of matches.now)) printing.is_streamed
+        → HoldsExplain (rows_of (found_of matches.now)) printing.explains
+        → HoldsTop (rows_of (found_of matches.now)) details.top
+        → ¬ HasSharding (rows_of (found_of matches.now))) }
+{
+    let Some(resolvers) = matches.get_one("resolvers") else {
+        return Err(Mistake::Number);
+    };
+    let sharding = Sharding {
+        resolvers,
+        split_points: matches.get_str("split-points"),
+    };
+    if sharding.is_several() {
+        if !are_shared(printing, details) {
+            return Err(Mistake::Resolvers);
+        }
+        if inputs_of(matches.get_strs("FILE")) > 0 {
+            return Err(Mistake::InputOfResolvers);
+        }
+    } else if sharding.split_points.is_some() {
+        return Err(Mistake::SplitPoints);
+    }
+    Ok(sharding)
+}
+
+// Returns whether several resolvers can do what is asked for: their answers are combined once all
+// have answered, and no one of them knows all writes.
+fn are_shared(printing: Printing, details: Details) -> bool
+    ensures shared { IsTrue result ↔ ((printing.is_streamed ≡ false) × (printing.explains ≡ false)
+        × (details.top ≡ None)) }
+{
+    !printing.is_streamed && !printing.explains && details.top.is_none()
+}
