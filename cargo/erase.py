@@ -25,7 +25,7 @@ VERSION = "0.2.0"
 PROGRAMS = ("replay", "batches", "workload")
 LIBRARIES = ("archcaraway_c", "codec_c_tests")
 # Crates that no program uses yet.
-FURTHER = ("shards",)
+FURTHER = ("shards", "replay_shards")
 
 # What Rust programs call: a crate of plain Rust over the erased ones.
 FACADE = TOP / "cargo" / "archcaraway"

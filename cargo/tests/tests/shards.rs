@@ -13,22 +13,22 @@ use tests::random::Random;
 use tests::spelling::batch_frame;
 use wire::{StdSource, read_frames};
 
-type Keys = Vec<Vec<u8>>;
+pub(crate) type Keys = Vec<Vec<u8>>;
 
 fn checked(points: &Keys) -> Result<SplitPoints, SplitPointsError> {
     SplitPoints::checked(points.iter().map(|point| key(point)).collect::<Vec<_>>().into())
 }
 
-fn split(points: &Keys) -> SplitPoints {
+pub(crate) fn split(points: &Keys) -> SplitPoints {
     checked(points).expect("the keys rise")
 }
 
-fn keys<const N: usize>(points: [&str; N]) -> Keys {
+pub(crate) fn keys<const N: usize>(points: [&str; N]) -> Keys {
     points.iter().map(|point| point.as_bytes().to_vec()).collect()
 }
 
 /// Draws some keys of the space that rise from the empty key on.
-fn points(space: &KeySpace, random: &mut Random) -> Keys {
+pub(crate) fn points(space: &KeySpace, random: &mut Random) -> Keys {
     let most = random.pick(&[1, 2, 3, 8, 64]);
     let mut points: Keys = (0..random.index(most)).map(|_| space.key(random)).filter(|key| !key.is_empty()).collect();
     points.sort();
@@ -37,19 +37,19 @@ fn points(space: &KeySpace, random: &mut Random) -> Keys {
 }
 
 /// A shard by its first key and the key where it ends.
-struct Shard {
+pub(crate) struct Shard {
     from: Vec<u8>,
     to: Option<Vec<u8>>,
 }
 
-fn shards_of(points: &Keys) -> Vec<Shard> {
+pub(crate) fn shards_of(points: &Keys) -> Vec<Shard> {
     let from = std::iter::once(Vec::new()).chain(points.iter().cloned());
     let to = points.iter().cloned().map(Some).chain(std::iter::once(None));
     from.zip(to).map(|(from, to)| Shard { from, to }).collect()
 }
 
 impl Shard {
-    fn has(&self, key: &[u8]) -> bool {
+    pub(crate) fn has(&self, key: &[u8]) -> bool {
         *self.from <= *key && self.to.as_ref().is_none_or(|to| key < to)
     }
 
@@ -68,7 +68,7 @@ impl Shard {
         (0..).zip(ranges).filter_map(|(index, range)| Some((index, self.clip(range)?))).collect()
     }
 
-    fn clip_batch(&self, batch: &PlainBatch) -> (PlainBatch, Vec<Vec<u16>>) {
+    pub(crate) fn clip_batch(&self, batch: &PlainBatch) -> (PlainBatch, Vec<Vec<u16>>) {
         let reads: Vec<_> = batch.txns.iter().map(|txn| self.clips(&txn.reads)).collect();
         let txns = batch.txns.iter().zip(&reads).map(|(txn, reads)| PlainTxn {
             snapshot: txn.snapshot,
@@ -81,7 +81,7 @@ impl Shard {
     }
 }
 
-fn indices(reads: &ReadIndices) -> Vec<Vec<u16>> {
+pub(crate) fn indices(reads: &ReadIndices) -> Vec<Vec<u16>> {
     (0..reads.len()).map(|index| reads.txn(index).to_vec()).collect()
 }
 
@@ -206,7 +206,7 @@ fn rank(verdict: Verdict) -> usize {
 }
 
 /// Combines entries by the definition: the least verdict, and all that is reported.
-fn combined(entries: &[(PlainEntry, Vec<u16>)]) -> PlainEntry {
+pub(crate) fn combined(entries: &[(PlainEntry, Vec<u16>)]) -> PlainEntry {
     let verdict = entries.iter().map(|(entry, _)| entry.verdict).min_by_key(|verdict| rank(*verdict)).expect("there is a shard");
     let reported = |index: u16| entries.iter().any(|(entry, reads)| entry.places.iter().any(|place| reads[*place as usize] == index));
     PlainEntry { verdict, places: (0..1_024).filter(|index| reported(*index)).collect() }

@@ -9,7 +9,7 @@ use Rattle.replay_shards.specs.declared.note.Note.{Note}
 use Rattle.replay_shards.specs.declared.matching.Matched.{Matched}
 use Rattle.replay_shards.specs.Answers.{IsAnswerTogether}
 use Rattle.replay_shards.specs.Matching.{IsComplete, match_of}
-use Rattle.replay_shards.specs.Merging.{AreOfFirst, IsOfMatch, Match}
+use Rattle.replay_shards.specs.Merging.{IsOfMatch, Match}
 use Rattle.replay_shards.specs.Notes.{first_notes}
 
 -- what was combined so far, and what is left
@@ -46,10 +46,6 @@ so_far_more notes count all left one rest together new answer is pushed right so
   complete = All-tail (IsComplete count) (match_of one) (map match_of rest)
       (subst (λ (l : List Matched). All (IsComplete count) (map match_of l)) is so_far.complete);
 }
-
-pub so_far_first : (notes : List (List Note)) (count : ℕ) (all : List Match) (left : List Matched) (together : List Answer)
-    → SoFar notes count all left together → AreOfFirst notes all together
-so_far_first notes count all left together so_far = (so_far.front, map match_of left, so_far.parts, so_far.combined)
 
 pub so_far_all : (notes : List (List Note)) (count : ℕ) (all : List Match) (left : List Matched) (together : List Answer)
     → left ≡ [] → SoFar notes count all left together → AllZip (IsOfMatch notes) all together

@@ -13,3 +13,9 @@ mod Cases
 mod Completes
 mod Combining
 mod Merged
+mod Keeping
+mod Sorted
+mod Together
+mod Clipping
+mod Streams
+mod FirstOnes

@@ -9,7 +9,7 @@ use Rattle.checking.specs.InOrder.{Rise}
 use Rattle.replay_shards.specs.declared.note.Note.{Note}
 use Rattle.replay_shards.specs.declared.matching.Matched.{Matched}
 use Rattle.replay_shards.specs.Matching.{IsComplete, match_all, match_of}
-use Rattle.replay_shards.specs.Merging.{AreFirstMerged, AreMatched, AreMerged, AreOfFirst, IsOfMatch, Match}
+use Rattle.replay_shards.specs.Merging.{AreMatched, AreMerged, IsOfMatch, Match}
 use Rattle.replay_shards.proofs.Matches.{matched_all}
 use Rattle.replay_shards.proofs.Completes.{complete_all}
 
@@ -37,19 +37,6 @@ pub complete_for : (each : List (Vec Answer)) (notes : List (Vec Note)) (matched
 complete_for each notes matched is as_many =
     subst (λ (l : List Match). All (IsComplete (length notes)) l) (sym is)
     (subst (λ n. All (IsComplete n) (match_all (map vec_items each))) (long each ∙ as_many) (complete_all (map vec_items each)))
-
-pub none_merged : (each : List (Vec Answer)) (notes : List (List Note)) (together : List Answer) → 0 < length each
-    → All (λ own. Rise version_of_answer own.items) each → together ≡ [] → AreFirstMerged (map vec_items each) notes together
-none_merged each notes together some rise empty =
-    (match_all (map vec_items each), all_matched each some rise,
-     ([], match_all (map vec_items each), refl, subst (λ (l : List Answer). AllZip (IsOfMatch notes) [] l) (sym empty) tt))
-
-pub first_merged : (each : List (Vec Answer)) (notes : List (List Note)) (matched : List Matched) (together : List Answer)
-    → 0 < length each → All (λ own. Rise version_of_answer own.items) each
-    → map match_of matched ≡ match_all (map vec_items each) → AreOfFirst notes (map match_of matched) together
-    → AreFirstMerged (map vec_items each) notes together
-first_merged each notes matched together some rise is first =
-    (map match_of matched, subst (λ (l : List Match). AreMatched (map vec_items each) l) (sym is) (all_matched each some rise), first)
 
 pub merged : (each : List (Vec Answer)) (notes : List (List Note)) (matched : List Matched) (together : List Answer)
     → 0 < length each → All (λ own. Rise version_of_answer own.items) each

@@ -9,10 +9,7 @@ use Rattle.std.proofs.lemmas.Int.{ints}
 use Rattle.checking.specs.InOrder.{NoneBefore, Rise}
 use Rattle.replay_shards.specs.declared.note.Note.{Note}
 use Rattle.replay_shards.specs.Notes.{first_note, reads_at, version_of_note}
-use Rattle.replay_shards.proofs.Versions.{after_if, not_same_if_before, not_same_if_after, is_same, not_both_ways}
-
-irreflexive : (a : ℤ) → int_lt a a ≡ false
-irreflexive a = grind (arith, ints)
+use Rattle.replay_shards.proofs.Versions.{irreflexive, after_if, not_same_if_before, not_same_if_after, is_same, not_both_ways}
 
 none_before_at : (least : ℤ) (notes : List Note) → NoneBefore version_of_note least notes → (j : ℕ) (d : Note) → j < length notes
     → int_lt (get_or notes j d).version least ≡ false

@@ -29,8 +29,12 @@ not_same_if_before v least w before not_before =
       | inr differs ↦ differs
     ]
 
-irreflexive : (a : ℤ) → int_lt a a ≡ false
+pub irreflexive : (a : ℤ) → int_lt a a ≡ false
 irreflexive a = grind (arith, ints)
+
+-- what isn't before a version isn't before a lesser one
+pub not_before_lower : (a v w : ℤ) → int_lt v w ≡ true → int_lt a w ≡ false → int_lt a v ≡ false
+not_before_lower a v w below not_before = grind (arith, ints)
 
 -- of two versions, if none is before the other, they are the same
 same_both : (a b : ℤ) → int_lt a b ≡ false → int_lt b a ≡ false → a ≡ b

@@ -3,9 +3,9 @@ pub mod Points
 pub mod Sampling
 pub mod Clips
 pub mod Notes
-pub mod Runs
 pub mod Answers
 pub mod Merging
-pub mod Combined
+pub mod Answered
+pub mod Failures
 -- Not of the meaning: how the code matches answers.
 pub mod Matching

@@ -53,13 +53,3 @@ IsOfMatch notes m together = IsAnswerTogether m.version m.answers (first_notes m
 abbrev pub AreMerged : List (List Answer) → List (List Note) → List Answer → Type 0
 AreMerged each notes together =
     (matched : List Match) × AreMatched each matched × AllZip (IsOfMatch notes) matched together
-
--- the combined answers of the first matches; the others are lost
-abbrev pub AreOfFirst : List (List Note) → List Match → List Answer → Type 0
-AreOfFirst notes matched together =
-    (front : List Match) × (lost : List Match) × (matched ≡ front ++ lost) × AllZip (IsOfMatch notes) front together
-
--- the combined answers to a proxy, as far as they aren't lost
-abbrev pub AreFirstMerged : List (List Answer) → List (List Note) → List Answer → Type 0
-AreFirstMerged each notes together =
-    (matched : List Match) × AreMatched each matched × AreOfFirst notes matched together

@@ -1,5 +1,5 @@
--- What is kept beside clips, so that reports get the indices of the original batches. This project's own.
-use Rattle.std.specs.Prelude.{◌≡◌, ℕ, ℤ, Bool, true, false, if◌then◌else◌, List, [], ◌∷◌, map, Option, None, Some}
+-- What is kept beside clips, so that reports get the indices of the batches as they were sent. This project's own.
+use Rattle.std.specs.Prelude.{◌≡◌, ℕ, ℤ, Bool, if◌then◌else◌, List, [], ◌∷◌, map, Option, None, Some}
 use Rattle.std.specs.List.{flat_map, list_any}
 use Rattle.std.specs.Ordering.{int_eq}
 use Rattle.keyspace.specs.declared.batch.Batch.{Batch}
@@ -14,21 +14,18 @@ requests_report t = t.marked
 abbrev pub version_of_note : Note → ℤ
 version_of_note note = note.version
 
--- the note of a batch, if some transaction of it requests a report: per transaction, the indices of its read ranges that go to the shard
+-- the note with these indices, if some transaction of the batch requests a report
+abbrev pub note_with : List (List ℕ) → Batch → List Note
+note_with reads batch =
+    if list_any requests_report batch.txns then record { version = batch.version; reads = reads } ∷ [] else []
+
+-- the note of a batch: per transaction, the indices of its read ranges that go to the shard
 abbrev pub note_in : Shard → Batch → List Note
-note_in shard batch =
-    if list_any requests_report batch.txns
-    then record { version = batch.version; reads = map (read_indices shard) batch.txns } ∷ []
-    else []
+note_in shard batch = note_with (map (read_indices shard) batch.txns) batch
 
 -- the notes of batches, in order
-abbrev pub notes_of : Option Shard → List Batch → List Note
-notes_of None batches = []
-notes_of (Some shard) batches = flat_map (note_in shard) batches
-
--- the notes are those of these batches
-abbrev pub are_notes_of : Option Shard → List Batch → List Note → Type 0
-are_notes_of shard batches notes = notes ≡ notes_of shard batches
+abbrev pub notes_of : Shard → List Batch → List Note
+notes_of shard batches = flat_map (note_in shard) batches
 
 -- the indices of a note that may be there, if it has this version
 abbrev pub reads_at : ℤ → Option Note → Option (List (List ℕ))

@@ -1,24 +1,24 @@
 //! The batches of a file, clipped to a shard.
 
-ghost use Rattle.std.specs.Prelude.{◌≡◌, ◌<◌, ◌∷◌, ◌++◌, [], IfOk, IfSome, None, OnErr, OnOk, Some};
-ghost use Rattle.std.specs.Prelude.{length, map, slice_get, vec_len};
+ghost use Rattle.std.specs.Prelude.{◌≡◌, ◌<◌, ◌++◌, [], IfOk, None, OnErr, OnOk, length, map, slice_get};
+ghost use Rattle.std.specs.Io.KnownBytes.{IsAtEnd};
 ghost use Rattle.std.specs.List.{All};
-ghost use Rattle.keyspace.specs.declared.batch.Batch.{Batch as BatchValue};
 ghost use Rattle.serial.specs.Shards.{shards};
-ghost use Rattle.shards.specs.Clips.{IsBatchClip};
-ghost use Rattle.replay_shards.specs.Notes.{are_notes_of, notes_of};
+ghost use Rattle.replay_workers.specs.Worker.{IsFaultAt};
+ghost use Rattle.replay_shards.specs.Clips.{GivesClip, GivesNoClip, IsNotedClip};
 ghost use Rattle.replay_shards.specs.Clips.{bytes_left, failures_of, refusal_of_clips, shard_of_clips};
+ghost use Rattle.replay_shards.specs.Notes.{note_with};
 
 use crate::note::{Note, requests_report};
-use keyspace::Batch;
+use keyspace::{Batch, UnorderedBatch};
 use replay_workers::Batches;
-use shards::{SplitPoints, clip};
+use shards::{ReadIndices, SplitPoints, clip_in_place};
 use std::alloc::{AllocError, Global};
-use std::mem;
 use std::sync::Arc;
 use wire::{Frames, Source, WireError, read_frames};
 
-/// The clips of the batches of a file to a shard, in order. Beside each it keeps what reports need.
+/// The clips of the batches of a file to a shard, in order: what a worker of that shard sends.
+/// Beside them it keeps what reports need.
 #[derive(Drop)]
 pub struct Clips<S> {
     frames: Frames<S>,
@@ -50,54 +50,68 @@ impl<S: Source> Clips<S> {
         }
     }
 
-    /// Takes the notes of the batches that were read, in order, and leaves none.
-    pub fn take_notes(&mut self) -> Vec<Note>
-        ensures notes { result ≡ self.old.notes }
+    /// Returns the notes of the batches that were read, in order.
+    pub fn into_notes(self) -> Vec<Note>
+        ensures notes { result ≡ self.notes }
     {
-        mem::replace(&mut self.notes, Vec::new(self.alloc))
+        self.notes
     }
 
-    // Clips a batch, and notes the indices of its read ranges if some transaction requests a report.
-    fn clip(&mut self, batch: &Batch) -> Result<Batch, AllocError>
-        ensures clip { IfOk result (λ clip. IfSome (shard_of_clips self.old)
-            (λ shard. IsBatchClip shard batch.now clip)) }
+    // Clips a batch to the shard, and keeps its note.
+    fn clip(&mut self, batch: UnorderedBatch) -> Result<Batch, AllocError>
+        ensures clip { IfOk result (IsNotedClip self.old self.new batch) }
+        ensures stays { OnErr result (GivesNoClip self.old self.new) }
         ensures frames { self.new.frames ≡ self.old.frames }
-        ensures shard { shard_of_clips self.new ≡ shard_of_clips self.old }
-        ensures notes { OnOk result (self.new.notes.items ≡ self.old.notes.items
-            ++ notes_of (shard_of_clips self.old) (batch.now ∷ [])) }
-        ensures same { OnErr result (self.new.notes.items ≡ self.old.notes.items) }
+        ensures refused { self.new.is_refused ≡ self.old.is_refused }
     {
-        let clipped = clip(self.alloc, batch, &self.points, self.shard)?;
-        if requests_report(batch) {
-            let note = Note {
-                version: batch.version,
-                reads: clipped.reads,
-            };
-            self.notes.push(note)?;
-        }
+        let clipped = clip_in_place(self.alloc, batch, &self.points, self.shard)?;
+        self.keep_note(&clipped.batch, clipped.reads)?;
         Ok(clipped.batch)
+    }
+
+    // Keeps the indices of the read ranges of this clip, if one of its transactions requests a
+    // report.
+    fn keep_note(&mut self, clip: &Batch, reads: ReadIndices) -> Result<(), AllocError>
+        ensures notes { OnOk result
+            (self.new.notes.items ≡ self.old.notes.items ++ note_with reads clip.now) }
+        ensures same { OnErr result (self.new.notes.items ≡ self.old.notes.items) }
+        ensures shard { shard_of_clips self.new ≡ shard_of_clips self.old }
+        ensures frames { self.new.frames ≡ self.old.frames }
+        ensures refused { self.new.is_refused ≡ self.old.is_refused }
+    {
+        if !requests_report(clip) {
+            return Ok(());
+        }
+        let note = Note {
+            version: clip.version,
+            reads,
+        };
+        self.notes.push(note)?;
+        Ok(())
     }
 }
 
 impl<S: Source> Batches for Clips<S> {
-    ghost left = { bytes_left S.remaining };
+    ghost gives = { GivesClip S.remaining };
+
+    ghost stays = { GivesNoClip };
+
+    ghost is_at_end = { λ clips. IsAtEnd (bytes_left S.remaining clips) };
+
+    ghost is_at_fault = { λ clips. IsFaultAt (bytes_left S.remaining clips) };
 
     ghost refusal = { refusal_of_clips };
 
     ghost failures = { failures_of S.failures };
 
-    ghost shard = { shard_of_clips };
-
-    ghost keeps = { λ clips read. are_notes_of (shard_of_clips clips) read clips.notes.items };
-
     fn next(&mut self) -> Result<Option<Batch>, WireError> {
         if self.is_refused {
             return Err(WireError::Memory);
         }
-        let Some(batch) = self.frames.next()? else {
+        let Some(batch) = self.frames.next_unordered()? else {
             return Ok(None);
         };
-        match self.clip(&batch) {
+        match self.clip(batch) {
             Ok(clip) => Ok(Some(clip)),
             Err(_) => {
                 self.is_refused = true;
@@ -107,8 +121,8 @@ impl<S: Source> Batches for Clips<S> {
     }
 }
 
-/// Returns the clips of the batches of each reader to this shard.
-pub fn clips_each<S: Source>(
+/// Returns the clips of the batches of each reader to this shard. Reads nothing yet.
+pub fn clips_each<S: Source + Drop>(
     alloc: Global,
     readers: Vec<S>,
     points: &Arc<SplitPoints, Global>,
@@ -124,7 +138,7 @@ pub fn clips_each<S: Source>(
 {
     let mut each = Vec::with_capacity(alloc, readers.len())?;
     for reader in readers {
-        each.push_reserved(Clips::new(alloc, reader, Arc::try_clone(points)?, shard));
+        each.push(Clips::new(alloc, reader, Arc::try_clone(points)?, shard))?;
     }
     Ok(each)
 }

@@ -1,30 +1,34 @@
-//! Several resolvers of `replay`: a complete run for each shard, and their answers as one.
+//! What several resolvers of `replay` need over values: the clips that a worker sends to one of them,
+//! and the answers of all of them as one.
 //!
-//! [`Clips`] are the batches of a file, clipped to a shard. [`run_shards`] runs the workers and the
-//! resolver of each shard, each shard beside the others, and none waits for another. Then
-//! [`combine_runs`] combines what the shards have answered: of each proxy, by version. Split points
-//! are read from a file ([`read_points`]) or chosen by the first batches ([`points_of_sample`]).
+//! [`Clips`] are the batches of a file, clipped to a shard: a stream that a worker sends to the
+//! resolver of that shard. No shard waits for another, so shards may answer a proxy in different
+//! orders. [`combine_answered`] combines what all of them have answered to a proxy: by version, never
+//! by position. Split points are read from a file ([`read_points`]) or chosen by the first batches
+//! ([`points_of_sample`]).
 //!
-//! What became of all shards is `AreRuns`, in `specs/Runs.antt`. The answer of all shards to one
-//! batch is `IsAnswerTogether`, in `specs/Answers.antt`; those to one proxy are `AreMerged`, in
-//! `specs/Merging.antt`.
+//! `specs/` says, in reading order, which split points a file has (`Points`) and by which batches
+//! they are chosen (`Sampling`), what a stream of clips gives (`Clips`), what is kept for reports
+//! (`Notes`), the answer of all shards to one batch (`Answers`), those to one proxy (`Merging`,
+//! `Answered`), and what failed of all shards together (`Failures`).
 #![tactic(auto)]
 
 mod answer;
+mod answered;
 mod clips;
-mod combined;
 mod entries;
+mod failures;
+pub mod laws;
 mod matching;
 mod merging;
 mod note;
 mod noted_reply;
 mod points;
-mod runs;
 mod sampling;
 
+pub use answered::{Answered, combine_answered};
 pub use clips::{Clips, clips_each};
-pub use combined::{Combined, ShardStop, combine_runs};
+pub use failures::{ShardStop, failure_together, first_stop};
 pub use note::Note;
 pub use points::{PointsError, fail_to_read_points, read_points};
-pub use runs::{ShardRun, run_shards};
 pub use sampling::{SAMPLE, points_of_sample};

@@ -1,11 +1,11 @@
 //! The answers of all shards to one proxy, as the answers of one.
 
-ghost use Rattle.std.specs.Prelude.{◌≡◌, ◌<◌, [], All, IfOk, OnOk, length, map, vec_items, vec_len};
+ghost use Rattle.std.specs.Prelude.{◌≡◌, ◌<◌, All, IfOk, length, map, vec_items, vec_len};
 ghost use Rattle.std.specs.List.{AllZip};
 ghost use Rattle.checking.specs.InOrder.{Rise};
 ghost use Rattle.keyspace.specs.Answer.{version_of_answer};
 ghost use Rattle.replay_shards.specs.Matching.{IsComplete, match_of};
-ghost use Rattle.replay_shards.specs.Merging.{AreFirstMerged, AreMerged, AreOfFirst, IsOfMatch};
+ghost use Rattle.replay_shards.specs.Merging.{AreMerged, IsOfMatch};
 ghost use Rattle.replay_shards.specs.Notes.{version_of_note};
 
 use crate::answer::combined_answer;
@@ -19,50 +19,41 @@ use std::alloc::{AllocError, Global};
 /// second. One that another shard lacks, as after a stop, is left out. The answers and the notes of
 /// each shard are in the order of their versions.
 ///
-/// After an error, which says that memory was refused, `merged` has the answers of the first
-/// versions.
-#[tactic(auto, using(crate::proofs::Matches::matched_all, crate::proofs::Completes::complete_all, crate::proofs::Merged::merged, crate::proofs::Merged::none_merged, crate::proofs::Merged::first_merged, crate::proofs::Merged::complete_for, crate::proofs::Merged::views))]
+/// An error is that memory was refused.
+#[tactic(auto, using(crate::proofs::Merged::complete_for, crate::proofs::Merged::merged))]
 pub fn merge_answers(
     alloc: Global,
     each: Vec<Vec<Answer>>,
     notes: &[Vec<Note>],
-    merged: &mut Vec<Answer>,
-) -> Result<(), AllocError>
+) -> Result<Vec<Answer>, AllocError>
     requires some { 0 < vec_len each }
     requires as_many { vec_len each ≡ length notes.now }
     requires in_order { All (λ own. Rise version_of_answer own.items) each.items }
     requires notes_in_order { All (λ own. Rise version_of_note own.items) notes.now }
-    requires empty { merged.old.items ≡ [] }
-    ensures merged { OnOk result (AreMerged (map vec_items each.items)
-        (map vec_items notes.now) merged.new.items) }
-    ensures first { AreFirstMerged (map vec_items each.items)
-        (map vec_items notes.now) merged.new.items }
+    ensures merged { IfOk result (λ merged. AreMerged (map vec_items each.items)
+        (map vec_items notes.now) merged.items) }
 {
     let matched = match_all(alloc, each)?;
-    combine_all(alloc, matched, notes, merged)
+    combine_all(alloc, matched, notes)
 }
 
-// Combines the answers of each match. After an error `merged` has those of the first matches.
-#[tactic(auto, using(crate::proofs::Combining::so_far_none, crate::proofs::Combining::so_far_next, crate::proofs::Combining::so_far_more, crate::proofs::Combining::so_far_first, crate::proofs::Combining::so_far_all))]
+// Combines the answers of each match.
 fn combine_all(
     alloc: Global,
     matched: Vec<Matched>,
     notes: &[Vec<Note>],
-    merged: &mut Vec<Answer>,
-) -> Result<(), AllocError>
+) -> Result<Vec<Answer>, AllocError>
     requires some { 0 < length notes.now }
     requires complete { All (IsComplete (length notes.now)) (map match_of matched.items) }
     requires notes_in_order { All (λ own. Rise version_of_note own.items) notes.now }
-    requires empty { merged.old.items ≡ [] }
-    ensures all { OnOk result (AllZip (IsOfMatch (map vec_items notes.now))
-        (map match_of matched.items) merged.new.items) }
-    ensures first { AreOfFirst (map vec_items notes.now) (map match_of matched.items)
-        merged.new.items }
+    ensures all { IfOk result (λ merged. AllZip (IsOfMatch (map vec_items notes.now))
+        (map match_of matched.items) merged.items) }
 {
+    let mut merged = Vec::with_capacity(alloc, matched.len())?;
     for one in matched {
         merged.push(combined_one(alloc, one, notes)?)?;
     }
-    Ok(())
+    Ok(merged)
 }
 
 // Combines the answers of a match.

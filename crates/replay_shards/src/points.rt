@@ -82,7 +82,9 @@ fn read_to_end<S: Source>(alloc: Global, reader: &mut S) -> Result<Vec<u8>, Poin
     let mut bytes = Vec::new(alloc);
     let mut chunk = [0; CHUNK];
     for _ in 0..u64::MAX {
-        let count = reader.read(&mut chunk).map_err(|_| PointsError::Read)?;
+        let Ok(count) = reader.read(&mut chunk) else {
+            return Err(PointsError::Read);
+        };
         if count == 0 {
             return Ok(bytes);
         }
