@@ -18,6 +18,7 @@ mod lines;
 mod program;
 mod records;
 mod replay_explanations;
+mod replay_sharded;
 mod replay_shards;
 mod reports;
 mod resolver;

@@ -50,7 +50,9 @@ fn names_text(names: &[&str]) -> String {
 fn details_text(line: &CommandLine) -> String {
     let output = line.output.map(|name| format!(" to {name}"));
     let summary = line.summary_to.map(|file| format!(" summary {:?} to {}", file.form, file.name));
-    [output, summary].into_iter().flatten().collect()
+    let several = line.sharding.is_several().then(|| format!(" by {}", line.sharding.resolvers));
+    let points = line.sharding.split_points.map(|name| format!(" points {name}"));
+    [output, summary, several, points].into_iter().flatten().collect()
 }
 
 fn filter_text(filter: &Filter) -> String {
@@ -159,6 +161,20 @@ fn refused_words() {
         "--top -1 --summary f",
         "--top many --summary f",
         "--top 5 --top 5 --summary f",
+        "--resolvers 0 f",
+        "--resolvers 17 f",
+        "--resolvers many f",
+        "--resolvers 2 --resolvers 2 f",
+        "--split-points p f",
+        "--split-points p --resolvers 1 f",
+        "--split-points p --split-points q --resolvers 2 f",
+        "--resolvers 2 -",
+        "--resolvers 2 f -",
+        "--resolvers 2 --split-points - --check - f",
+        "--resolvers 2 --stream f",
+        "--resolvers 2 --explain f",
+        "--resolvers 2 --explain --json f",
+        "--resolvers 2 --summary --top 5 f",
     ] {
         refuses(given);
     }
@@ -190,6 +206,10 @@ fn reasons_of_refusals() {
         ("--top 5 f", "error: --top is wanted with --summary\n"),
         ("--top 5 --summary-to r f", "error: --top is wanted with --summary\n"),
         ("--replies r f", "error: --replies OUT is wanted with --stream\n"),
+        ("--resolvers 2 --stream f", "error: --resolvers above 1 is wanted without --stream, --explain and --top\n"),
+        ("--resolvers 2 --explain f", "error: --resolvers above 1 is wanted without --stream, --explain and --top\n"),
+        ("--resolvers 2 f -", "error: --resolvers above 1 is wanted without standard input (-) as a FILE\n"),
+        ("--split-points p f", "error: --split-points POINTS is wanted with --resolvers above 1\n"),
         ("--stream --replies r f g", "error: --replies OUT is wanted once a file\n"),
         ("- f -", "error: standard input (-) can be given only once\n"),
         (&"f ".repeat(65), "error: from 1 to 64 files are wanted\n"),
@@ -239,6 +259,15 @@ fn words_and_options() {
         ("--top 1 --summary a", "a | 16 5000000 1000000 summary Words top 1"),
         ("--summary --json --top=+01000 a", "a | 16 5000000 1000000 json summary Json top 1000"),
         ("--top 20 --summary -o r a", "a | 16 5000000 1000000 summary Words top 20 to r"),
+        ("--resolvers 1 a", "a | 16 5000000 1000000"),
+        ("--resolvers 1 -", "- | 16 5000000 1000000"),
+        ("--resolvers=+2 a b", "a b | 16 5000000 1000000 by 2"),
+        ("a --resolvers 16 --split-points=p", "a | 16 5000000 1000000 by 16 points p"),
+        ("--resolvers 2 --split-points - a", "a | 16 5000000 1000000 by 2 points -"),
+        ("--resolvers 3 --json --quiet -o r a", "a | 16 5000000 1000000 json quiet to r by 3"),
+        ("--resolvers 3 --summary a", "a | 16 5000000 1000000 summary Words by 3"),
+        ("--resolvers 3 --summary-to r a", "a | 16 5000000 1000000 summary Words to r by 3"),
+        ("--resolvers 3 --check - a", "a | 16 5000000 1000000 kept check - by 3"),
     ] {
         assert_eq!(read(given), expected);
     }

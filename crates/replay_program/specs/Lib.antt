@@ -4,5 +4,8 @@ pub mod Replies
 pub mod Replayed
 pub mod Explained
 pub mod Summarized
+pub mod Sharded
 pub mod Streamed
 pub mod Program
+pub mod ShardedProgram
+pub mod Ended

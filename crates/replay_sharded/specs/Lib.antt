@@ -1,6 +1,5 @@
 -- In reading order.
 pub mod Files
 pub mod Runs
-pub mod Failing
 pub mod Combined
 pub mod Sharded

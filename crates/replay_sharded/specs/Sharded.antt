@@ -1,7 +1,7 @@
 -- What several resolvers answer, beside the bytes of the files. That each resolver gets the ranges of its keys, and that a transaction
 -- commits if all of them commit it, is FoundationDB's (paper, SIGMOD 2021). That no resolver waits for another is this project's own.
 use Rattle.std.specs.Prelude.{◌≡◌, ℕ, ℤ, List, [], length, map, Option, Some, slice_get, Contains}
-use Rattle.std.specs.List.{All, AllZip, flat_map}
+use Rattle.std.specs.List.{All, AllZip}
 use Rattle.keyspace.specs.declared.batch.Batch.{Batch}
 use Rattle.keyspace.specs.declared.answer.Answer.{Answer}
 use Rattle.keyspace.specs.Processed.{Processed}
@@ -15,7 +15,7 @@ use Rattle.resolver.specs.Resolver.{TakesOnlyFrom, FinishesLast}
 use Rattle.replay_output.specs.declared.options.Options.{Options}
 use Rattle.replay_shards.specs.declared.note.Note.{Note}
 use Rattle.replay_shards.specs.Merging.{AreMerged}
-use Rattle.replay_shards.specs.Notes.{note_in}
+use Rattle.replay_shards.specs.Notes.{notes_of}
 use Rattle.replay_sharded.specs.declared.combined.Combined.{Combined}
 use Rattle.replay_sharded.specs.declared.shard_run.ShardRun.{ShardRun}
 use Rattle.replay_sharded.specs.Combined.{AreCombined, HasProxies}
@@ -42,11 +42,8 @@ pub record IsLogOfShard (window : ℤ) (sent : List (List Batch)) (shard : Shard
 abbrev pub answers_by_shard : ℤ → List (List Step) → ℕ → List (List Answer)
 answers_by_shard window logs proxy = map (λ log. answers window log proxy) logs
 
-abbrev pub notes_in_shard : List Batch → Shard → List Note
-notes_in_shard own shard = flat_map (note_in shard) own
-
 abbrev pub notes_by_shard : List (List ℕ) → List Batch → List (List Note)
-notes_by_shard points own = map (notes_in_shard own) (shards points)
+notes_by_shard points own = map (λ shard. notes_of shard own) (shards points)
 
 -- The transactions that these answers report as committed, of each proxy at its number, are those of a list of batches, and can be run one
 -- at a time, in the order of commit, so that each reads what it has read.

@@ -7,21 +7,21 @@
 //! answers to each proxy are combined by version. [`Combined`] has their lines, what failed, and the
 //! stop of the first shard that met one.
 //!
-//! In reading order: `running`, `readers`, `runs`, `shard_run`, `combined`, `failing`. What became of
-//! all files is `IsResolvedByShards`, in `specs/Sharded.antt`. The run of one shard is `IsRunOfShard`,
-//! in `specs/Runs.antt`.
+//! In reading order: `running`, `readers`, `runs`, `shard_run`, `combined`, `room`. What became of all
+//! files is `IsResolvedByShards`, in `specs/Sharded.antt`. The run of one shard is `IsRunOfShard`, in
+//! `specs/Runs.antt`.
 #![tactic(auto)]
 
 mod combined;
-mod failing;
 mod readers;
+mod room;
 mod running;
 mod runs;
 mod shard_run;
 
 pub use combined::{Combined, combine_runs};
-pub use failing::ShardStop;
 pub use readers::ShardedReaders;
+pub use room::Room;
 pub use running::run_sharded;
 pub use runs::run_shards;
 pub use shard_run::ShardRun;

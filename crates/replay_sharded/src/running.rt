@@ -9,6 +9,7 @@ ghost use Rattle.replay_sharded.specs.Sharded.{AreRunsTogether, IsResolvedByShar
 
 use crate::combined::{Combined, combine_runs};
 use crate::readers::{ShardedReaders, clips_of_shards};
+use crate::room::Room;
 use crate::runs::run_shards;
 use replay_output::{Options, StartError};
 use replay_workers::{Gatekeeper, ShareKeeper};
@@ -55,7 +56,7 @@ pub fn run_sharded<
         gatekeepers,
         proxies,
     } = sharded;
-    let room = Combined::with_room(alloc, proxies)?;
+    let room = Room::new(alloc, readers.len(), proxies)?;
     let each = clips_of_shards(alloc, readers, points)?;
     let runs = run_shards(rt, alloc, each, options, gatekeepers)?;
     Ok(combine_runs(alloc, options.style, runs, room))
