@@ -316,19 +316,26 @@ pub record IsShared (rows : List Row) : Type 0 where
   pub no_ranges : HoldsTop rows None
   pub no_input : inputs_of (all_of (codes "FILE") rows) ≡ 0
 
+-- the number of resolvers that is found
+pub record HoldsResolvers (rows : List Row) (resolvers : ℕ) : Type 0 where
+  pub number : option_map (λ text. digits_value 10 (without_leading_plus text)) (one_of (codes "resolvers") rows) ≡ Some resolvers
+  pub least : 1 ≤ resolvers
+  pub most : resolvers ≤ MAX_RESOLVERS
+
+-- some number within its range is found
+abbrev pub HasResolvers : List Row → Type 0
+HasResolvers rows = Has (IsUnsignedIn 1 MAX_RESOLVERS) (codes "resolvers") rows
+
 -- the number of resolvers that is found, and the file of split points, if one is given
 pub record HoldsSharding (rows : List Row) (sharding : Sharding) : Type 0 where
-  pub resolvers : option_map (λ text. digits_value 10 (without_leading_plus text)) (one_of (codes "resolvers") rows)
-      ≡ Some sharding.resolvers
+  pub resolvers : HoldsResolvers rows sharding.resolvers
   pub split_points : first_of (codes "split-points") rows ≡ option_map (λ name. name.now) sharding.split_points
-  pub least : 1 ≤ sharding.resolvers
-  pub most : sharding.resolvers ≤ MAX_RESOLVERS
   pub one : sharding.resolvers ≡ 1 → sharding.split_points ≡ None
   pub several : 2 ≤ sharding.resolvers → IsShared rows
 
 -- some number is found that fits the other options
 abbrev pub HasSharding : List Row → Type 0
-HasSharding rows = (sharding : Sharding) × HoldsSharding rows sharding
+HasSharding rows = HasResolvers rows × ((sharding : Sharding) × HoldsSharding rows sharding)
 
 -- What the options that are found ask to print is of no use: two forms, a filter that is none or beside a comparison, answers that are
 -- to be compared as they come, a summary beside another option that says what to print, or explanations without lines of words or of

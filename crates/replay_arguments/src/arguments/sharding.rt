@@ -1,9 +1,9 @@
 //! How many resolvers the arguments ask for, and by which split points.
 
-ghost use Rattle.std.specs.Prelude.{◌≡◌, ◌≤◌, ◌↔◌, IfOk, IsTrue, None, OnErr, false};
+ghost use Rattle.std.specs.Prelude.{◌≡◌, ◌≤◌, ◌↔◌, IfOk, IfSome, IsTrue, None, OnErr, false};
 ghost use Rattle.clap.specs.Words.{found_of, rows_of};
-ghost use Rattle.replay_arguments.specs.Words.{HasSharding, HoldsExplain, HoldsSharding};
-ghost use Rattle.replay_arguments.specs.Words.{HoldsStream, HoldsTop};
+ghost use Rattle.replay_arguments.specs.Words.{HasResolvers, HasSharding, HoldsExplain};
+ghost use Rattle.replay_arguments.specs.Words.{HoldsResolvers, HoldsSharding, HoldsStream, HoldsTop};
 
 use crate::arguments::details::Details;
 use crate::arguments::input::inputs_of;
@@ -50,24 +50,36 @@ pub fn sharding_of<'a>(
         → HoldsTop (rows_of (found_of matches.now)) details.top
         → ¬ HasSharding (rows_of (found_of matches.now))) }
 {
-    let Some(resolvers) = matches.get_one("resolvers") else {
+    let Some(resolvers) = resolvers_of(matches) else {
         return Err(Mistake::Number);
     };
-    let sharding = Sharding {
-        resolvers,
-        split_points: matches.get_str("split-points"),
-    };
-    if sharding.is_several() {
-        if !are_shared(printing, details) {
-            return Err(Mistake::Resolvers);
+    let split_points = matches.get_str("split-points");
+    if resolvers == 1 {
+        if split_points.is_some() {
+            return Err(Mistake::SplitPoints);
         }
-        if inputs_of(matches.get_strs("FILE")) > 0 {
-            return Err(Mistake::InputOfResolvers);
-        }
-    } else if sharding.split_points.is_some() {
-        return Err(Mistake::SplitPoints);
+    } else if !are_shared(printing, details) {
+        return Err(Mistake::Resolvers);
+    } else if inputs_of(matches.get_strs("FILE")) > 0 {
+        return Err(Mistake::InputOfResolvers);
     }
-    Ok(sharding)
+    Ok(Sharding {
+        resolvers,
+        split_points,
+    })
+}
+
+// Returns the number of resolvers, unless it is out of its range. `clap` refuses such numbers
+// itself.
+fn resolvers_of(matches: &ArgMatches) -> Option<usize>
+    ensures resolvers { IfSome result (HoldsResolvers (rows_of (found_of matches.now))) }
+    ensures none { result ≡ None → ¬ HasResolvers (rows_of (found_of matches.now)) }
+{
+    let resolvers: usize = matches.get_one("resolvers")?;
+    if !(1..=MAX_RESOLVERS).contains(&resolvers) {
+        return None;
+    }
+    Some(resolvers)
 }
 
 // Returns whether several resolvers can do what is asked for: their answers are combined once all

@@ -7,8 +7,10 @@ pub returns : goal.returns
 returns c =
     let one = c.in_ok-arg.ensures.shape c.capacity.ensures.local ∙ ap₂ with_rule refl c.capacity.ensures.rule in
     let two = c.in_ok-arg-2.ensures.shape c.window.ensures.local ∙ ap₂ with_rule one c.window.ensures.rule in
+    let three = c.in_ok-arg-3.ensures.shape c.limit.ensures.local ∙ ap₂ with_rule two c.limit.ensures.rule in
+    let four = c.in_ok-arg-4.ensures.shape c.resolvers.ensures.local ∙ ap₂ with_rule three c.resolvers.ensures.rule in
     record {
-      app = IfOk-weaker c.arg-3.result _ _
-          (λ command added. added.shape c.limit.ensures.local ∙ ap₂ with_rule two c.limit.ensures.rule)
-          c.arg-3.ensures;
+      app = IfOk-weaker c.arg-5.result _ _
+          (λ command added. added.shape c.split_points.ensures.local ∙ ap₂ with_rule four c.split_points.ensures.rule)
+          c.arg-5.ensures;
     }
