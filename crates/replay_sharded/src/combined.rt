@@ -129,8 +129,8 @@ fn combine_proxy(
     ensures others { AllZip (TakesOf proxy) runs.old runs.new }
 {
     let mut each = Vec::with_capacity(alloc, runs.len())?;
-    for run in runs {
-        each.push_reserved(take_answered(alloc, run, proxy));
+    for shard in 0..runs.len() {
+        each.push_reserved(take_answered(alloc, &mut runs[shard], proxy));
     }
     combine_answered(alloc, style, proxy, each)
 }
