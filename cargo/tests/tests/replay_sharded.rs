@@ -38,7 +38,7 @@ fn sharded(files: &[&[&str]], points: &[&str], waits_for: &[Option<(usize, u64)>
     let readers = |_| files.iter().map(|batches| reader(file_of(batches, b""))).collect::<Vec<_>>().into();
     let gatekeeper = |(shard, waits_for): (usize, &Option<(usize, u64)>)| {
         let after = After { taken: taken.clone(), shard, waits_for: *waits_for };
-        KitArc::new(Global, Unshared(after)).expect("memory is ample")
+        KitArc::new(Global, Unshared(after)).ok().expect("memory is ample")
     };
     ShardedReaders {
         readers: (0..waits_for.len()).map(readers).collect::<Vec<_>>().into(),
