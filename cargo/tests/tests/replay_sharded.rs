@@ -88,7 +88,7 @@ fn files_of_one_chain() {
 /// The stop of the first shard that met one is printed, and then its number. Batches that all shards have answered have lines.
 #[test]
 fn stops() {
-    let file: &[&str] = &["-1>0", "0>100: W[a]", "100>200: W[x]", "200>300: W[y] W[z]", "300>400: W[b]"];
+    let file: &[&str] = &["-1>0", "0>100: W[a]", "100>200: W[x]", "200>300: W[y] W[z]", "300>400: R[b] @0"];
     let free = [None, None];
     let expected = "0 0 empty\n0 100 committed\n0 200 committed\nfailed: replay: stop 3 ArenaFull\nreplay: shard 1\n";
     assert_eq!(printed(sharded(&[file], &["k"], &free), 3), expected);

@@ -50,13 +50,6 @@ impl<S: Source> Clips<S> {
         }
     }
 
-    /// Returns the notes of the batches that were read, in order.
-    pub fn into_notes(self) -> Vec<Note>
-        ensures notes { result ≡ self.notes }
-    {
-        self.notes
-    }
-
     // Clips a batch to the shard, and keeps its note.
     fn clip(&mut self, batch: UnorderedBatch) -> Result<Batch, AllocError>
         ensures clip { IfOk result (IsNotedClip self.old self.new batch) }
@@ -88,6 +81,15 @@ impl<S: Source> Clips<S> {
         };
         self.notes.push(note)?;
         Ok(())
+    }
+}
+
+impl<S: Drop> Clips<S> {
+    /// Returns the notes of the batches that were read, in order.
+    pub fn into_notes(self) -> Vec<Note>
+        ensures notes { result ≡ self.notes }
+    {
+        self.notes
     }
 }
 
