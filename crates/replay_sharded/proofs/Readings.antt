@@ -60,7 +60,7 @@ module _ {S : Type 0} (remaining : S → Option (List ℕ)) (shard : Shard) wher
   pub run_of_shard : (options : Options) (files : List (Option (List ℕ))) (clips ended : List (Clips S)) (run : ShardRun)
       → AreClipsOf remaining files shard clips → map notes_by run.answered.items ≡ map notes_left ended
       → IsRunOver (GivesClip remaining) (λ own. IsAtEnd (bytes_left remaining own)) (λ own. IsFaultAt (bytes_left remaining own))
-        (EndsAt GivesNoClip ended) options clips (map (λ own. own.lines.items) run.answered.items) run.failures.items run.complete run.stop
+      (EndsAt GivesNoClip ended) options clips (map (λ own. own.lines.items) run.answered.items) run.failures.items run.complete run.stop
       → IsRunOfShard options files shard run
   run_of_shard options files clips ended run of notes ran =
       subst (λ (readings : List Reading). IsRunOver (TakesClip shard) (λ left. IsAtEnd left.bytes) (λ left. IsFaultAt left.bytes)

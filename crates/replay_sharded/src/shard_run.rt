@@ -1,7 +1,7 @@
 //! What became of the run of one shard.
 
-ghost use Rattle.std.specs.Prelude.{◌≡◌, ◌≤◌, ℕ, [], IfOk, List, None, Option, map, vec_capacity};
-ghost use Rattle.std.specs.Prelude.{vec_items, vec_len};
+ghost use Rattle.std.specs.Prelude.{◌≡◌, ◌≤◌, ◌&&◌, ℕ, [], IfOk, List, None, Option, map};
+ghost use Rattle.std.specs.Prelude.{vec_capacity, vec_items, vec_len};
 ghost use Rattle.std.specs.List.{All};
 ghost use Rattle.serial.specs.Shards.{Shard};
 ghost use Rattle.replay_shards.specs.Clips.{refusal_of_clips};
@@ -53,7 +53,12 @@ pub fn run_shard<
 {
     let room = Vec::with_capacity(alloc, clips.len())?;
     let (outcome, ended, account) = run_over(
-        rt, alloc, clips, options, gatekeeper, &mut Unobserved,
+        rt,
+        alloc,
+        clips,
+        options,
+        gatekeeper,
+        &mut Unobserved,
     )?;
     let Outcome {
         lines,
@@ -61,12 +66,21 @@ pub fn run_shard<
         all_sent,
         ..
     } = outcome;
+    let answered = answered_each(room, lines, ended);
+    let complete = is_complete(account.complete, all_sent);
     Ok(ShardRun {
-        answered: answered_each(room, lines, ended),
+        answered,
         failures,
-        complete: account.complete && all_sent,
+        complete,
         stop: account.stop,
     })
+}
+
+// Returns whether every answer was taken, and every batch that was read was sent.
+fn is_complete(all_taken: bool, all_sent: bool) -> bool
+    ensures complete { result ≡ (all_taken && all_sent) }
+{
+    all_taken && all_sent
 }
 
 // Puts the lines of each proxy and the notes of its clips together, in an empty vector with room for

@@ -68,8 +68,15 @@ pub fn run_line_sharded<R: Threads + Wait + Copy + Send + 'static, F: Files, O: 
         Some(name) => match files.create(name) {
             Ok(writer) => {
                 let mut writer = writer;
-                let mut report =
-                    run_task_sharded(rt, alloc, files, line, sharded, &mut writer, error);
+                let mut report = run_task_sharded(
+                    rt,
+                    alloc,
+                    files,
+                    line,
+                    sharded,
+                    &mut writer,
+                    error,
+                );
                 report.output = Some(writer);
                 report
             }

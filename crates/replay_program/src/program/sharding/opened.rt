@@ -16,8 +16,8 @@ use replay_arguments::{
     CommandLine, Files, OpeningError, fail_to_open, first_irregular, open_files,
 };
 use replay_output::{StartError, Status, begin_line, fail_to_start};
-use replay_shards::{PointsError, fail_to_read_points, points_of_sample, read_points};
 use replay_sharded::ShardedReaders;
+use replay_shards::{PointsError, fail_to_read_points, points_of_sample, read_points};
 use shards::SplitPoints;
 use std::alloc::{AllocError, Global};
 use std::sync::Arc;

@@ -78,9 +78,7 @@ pub fn run_task_sharded<R: Threads + Wait + Copy + Send + 'static, F: Files, O: 
         Task::Print => match line.summary_to {
             None => replay_sharded_over(rt, alloc, sharded, options, out, error),
             Some(file) => {
-                return print_and_summarize(
-                    rt, alloc, files, file, sharded, options, out, error,
-                );
+                return print_and_summarize(rt, alloc, files, file, sharded, options, out, error);
             }
         },
         Task::Summarize(form, None) => {
