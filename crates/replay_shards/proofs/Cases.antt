@@ -19,8 +19,8 @@ module _ (version : ℤ) (answers : List Answer) (notes : List (Option (List (Li
 
   pub case_held : ¬ (Any IsNever answers) → Any (λ a. IsNever a ⊎ IsHeld a) answers
       → IsAnswerTogether version answers notes (answer.Held version)
-  case_held no some = record {
-    never = λ never. absurd (no never);
+  case_held unsaid some = record {
+    never = λ never. absurd (unsaid never);
     held = λ none held. refl;
     reply = λ each have one. absurd (refuted (λ a. IsNever a ⊎ IsHeld a) answers (none_other answers notes each have) some);
     misfit = λ each have none. absurd (refuted (λ a. IsNever a ⊎ IsHeld a) answers (none_other answers notes each have) some);
@@ -39,10 +39,10 @@ module _ (version : ℤ) (answers : List Answer) (notes : List (Option (List (Li
 
   pub case_misfit : (each : List ShardReply) → HaveReplied answers notes each → ¬ (AreOfOneBatch each)
       → IsAnswerTogether version answers notes (answer.Never version)
-  case_misfit each have no = record {
+  case_misfit each have unfit = record {
     never = λ some. refl;
     held = λ none some. absurd (refuted IsHeld answers (none_held answers notes each have) some);
     reply = λ other too one.
-        absurd (no (subst (λ (all : List ShardReply). AreOfOneBatch all) (same_replies answers notes other each too have) one));
+        absurd (unfit (subst (λ (all : List ShardReply). AreOfOneBatch all) (same_replies answers notes other each too have) one));
     misfit = λ other too none. refl;
   }

@@ -47,7 +47,7 @@ module _ {S : Type 0} where
         shard = found.0;
         before = found.1;
         after = same ∙ found.1;
-        clip = found.2.batch;
+        is_clip = found.2.batch;
         notes = kept ∙ ap (λ (l : List Note). old.notes.items ++ l) (same_note found.0 batch clipped found.2);
       }
 
@@ -55,8 +55,8 @@ module _ {S : Type 0} where
   pub unrefused : (clips : Clips S) → refusal_of_clips clips ≡ None → refusal_of clips.frames ≡ None
   unrefused clips none =
       elim (cases_Bool clips.is_refused) [
-        | inl yes ↦
-            let clash : Some wire.Memory ≡ None = sym (cond-true _ _ _ yes) ∙ none in
-            absurd (let no : ⊥ = cc in no)
-        | inr no ↦ sym (cond-false _ _ _ no) ∙ none
+        | inl refused ↦
+            let clash : Some wire.Memory ≡ None = sym (cond-true _ _ _ refused) ∙ none in
+            absurd (let never : ⊥ = cc in never)
+        | inr other ↦ sym (cond-false _ _ _ other) ∙ none
       ]

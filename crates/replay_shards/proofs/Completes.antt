@@ -10,9 +10,9 @@ use Rattle.replay_shards.specs.Merging.{Match}
 use Rattle.replay_shards.specs.Matching.{IsComplete, without_earlier, first_at, after_first_at, more, with_answer, match_next, single, match_one, match_rest, match_all}
 use Rattle.replay_shards.proofs.Versions.{same_if}
 
-taken_version : (w : ℤ) (as : List Answer) (a : Answer) → first_at w as ≡ Some a → version_of_answer a ≡ w
+taken_version : (w : ℤ) (answers : List Answer) (a : Answer) → first_at w answers ≡ Some a → version_of_answer a ≡ w
 taken_version w [] a at = absurd (let no : ⊥ = cc in no)
-taken_version w (x ∷ as) a at =
+taken_version w (x ∷ answers) a at =
     elim (cases_Bool (int_eq (version_of_answer x) w)) [
       | inl same ↦
           let is : Some x ≡ Some a = sym (cond-true _ _ _ same) ∙ at in
@@ -42,11 +42,11 @@ complete_next n (m ∷ ms) left all =
     complete_one n m (first_at m.version from) (match_next ms (after_first_at m.version from)) (All-head (IsComplete n) m ms all)
     (taken_version m.version from) (complete_next n ms (after_first_at m.version from) (All-tail (IsComplete n) m ms all))
 
-complete_single : (as : List Answer) → All (IsComplete 1) (match_one as)
+complete_single : (answers : List Answer) → All (IsComplete 1) (match_one answers)
 complete_single [] = All-nil (IsComplete 1)
-complete_single (a ∷ as) =
+complete_single (a ∷ answers) =
     let P = λ (b : Answer). version_of_answer b ≡ version_of_answer a in
-    All-cons (IsComplete 1) (single a) (match_one as) (record { as_many = refl; of_version = All-cons P a [] refl (All-nil P) }) (complete_single as)
+    All-cons (IsComplete 1) (single a) (match_one answers) (record { as_many = refl; of_version = All-cons P a [] refl (All-nil P) }) (complete_single answers)
 
 complete_rest : (n : ℕ) (ms : List Match) (rest : List (List Answer)) → All (IsComplete n) ms
     → All (IsComplete (n + length rest)) (match_rest ms rest)

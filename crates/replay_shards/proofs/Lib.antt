@@ -1,3 +1,4 @@
+mod Moved
 mod Versions
 mod Left
 mod Cursors

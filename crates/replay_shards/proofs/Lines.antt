@@ -1,11 +1,13 @@
 -- Lines of split points, one after the other.
 use Rattle.std.specs.Prelude.{◌≡◌, ◌≢◌, ◌==◌, true, false, ℕ, zero, suc, ◌+◌, ◌<◌, List, [], ◌∷◌, ◌++◌, length, take, Option, None, Some, IfSome, slice_get, All}
-use Rattle.std.proofs.Common.{refl, sym, ap, ◌∙◌, subst, inl, inr, arith, append_assoc, append-nil}
+use Rattle.std.proofs.Common.{refl, sym, ap, ◌∙◌, subst, inl, inr, arith, append_assoc, append-nil, take_all}
 use Rattle.std.specs.Io.BufRead.{take_through}
 use Rattle.std.specs.Io.KnownBytes.{Consumes, IsAtEnd}
-use Rattle.std.proofs.lemmas.Bool.{cases_Bool, cond-true, cond-false}
+use Rattle.std.proofs.lemmas.Bool.{cases_Bool, cases_lt, cond-true, cond-false}
 use Rattle.std.proofs.lemmas.Bool.Decides.{Decides-eqb}
 use Rattle.std.proofs.lemmas.List.Elements.{All-head, All-tail}
+use Rattle.serial.specs.Shards.{IsRising}
+use Rattle.shards.specs.SplitPoints.{IsFirstFall}
 use Rattle.replay_shards.specs.Points.{ArePointLines, IsPointLine}
 
 is_feed : (x : ℕ) → x ≡ 10 → (x == 10) ≡ true
@@ -58,3 +60,12 @@ pub lines_read : (a : Option (List ℕ)) (bs : List ℕ) (keys : List (List ℕ)
     → IfSome a (λ bytes. ArePointLines bytes keys)
 lines_read None bs keys all lines = tt
 lines_read (Some xs) bs keys all lines = subst (λ l. ArePointLines l keys) (sym all) lines
+
+-- the first key that isn't after the one before it is one of the keys
+pub fall_within : (points : List (List ℕ)) (index : ℕ) → IsFirstFall points index → index < length points
+fall_within points index first =
+    elim (cases_lt index (length points)) [
+      | inl within ↦ within
+      | inr past ↦ absurd (first.fall (subst (λ (keys : List (List ℕ)). IsRising [] keys)
+          (take_all index points past ∙ sym (take_all (index + 1) points (omega (arith, past)))) first.before))
+    ]

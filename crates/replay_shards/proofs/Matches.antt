@@ -1,4 +1,4 @@
--- Answers matched shard by shard are those of all shards of each version, as many as every shard has.
+-- Answers matched shard by shard are those of all shards of each version, answers many answers every shard has.
 use Rattle.std.specs.Prelude.{◌≡◌, ℕ, zero, suc, ◌<◌, ◌≤◌, min, ℤ, int_lt, true, false, List, [], ◌∷◌, ◌++◌, length, map, Option, None, Some, option_to_list, slice_get, All}
 use Rattle.std.proofs.Common.{refl, sym, ap, ap₂, ◌∙◌, subst, inl, inr, arith, append_assoc}
 use Rattle.std.specs.List.{AllZip}
@@ -16,20 +16,20 @@ use Rattle.replay_shards.proofs.Left.{rise_left, taken_first, left_later, none_l
 
 -- the answer at each index added to the match at that index
 abbrev add_each : List Match → List Answer → List Match
-add_each [] as = []
+add_each [] answers = []
 add_each (m ∷ ms) [] = []
-add_each (m ∷ ms) (a ∷ as) = more m a ∷ add_each ms as
+add_each (m ∷ ms) (a ∷ answers) = more m a ∷ add_each ms answers
 
 add_none : (ms : List Match) → add_each ms [] ≡ []
 add_none [] = refl
 add_none (m ∷ ms) = refl
 
 -- one match more, with an answer or none
-of_same : (m : Match) (o : Option Answer) (ms : List Match) (as : List Answer)
-    → (o ≡ None → as ≡ []) → int_eq m.version m.version ≡ true
-    → matches_at m.version (with_answer m o) ++ add_each ms as ≡ add_each (m ∷ ms) (option_to_list o ++ as)
-of_same m None ms as none same = ap (add_each ms) (none refl) ∙ add_none ms ∙ sym (ap (add_each (m ∷ ms)) (none refl))
-of_same m (Some a) ms as none same = ap (λ l. l ++ add_each ms as) (at_kept version_of_match m.version (more m a) [] same)
+of_same : (m : Match) (o : Option Answer) (ms : List Match) (answers : List Answer)
+    → (o ≡ None → answers ≡ []) → int_eq m.version m.version ≡ true
+    → matches_at m.version (with_answer m o) ++ add_each ms answers ≡ add_each (m ∷ ms) (option_to_list o ++ answers)
+of_same m None ms answers none same = ap (add_each ms) (none refl) ∙ add_none ms ∙ sym (ap (add_each (m ∷ ms)) (none refl))
+of_same m (Some a) ms answers none same = ap (λ l. l ++ add_each ms answers) (at_kept version_of_match m.version (more m a) [] same)
 
 of_other : (v : ℤ) (m : Match) (o : Option Answer) → int_eq m.version v ≡ false → matches_at v (with_answer m o) ≡ []
 of_other v m None differs = refl
@@ -101,10 +101,10 @@ rise_next (m ∷ ms) left rise =
     rise_one m (first_at m.version from) (match_next ms rest) (none_before_next m.version ms rest rise.0) (rise_next ms rest rise.1)
 
 -- how many there are then
-length_added : (ms : List Match) (as : List Answer) → length (add_each ms as) ≡ min (length ms) (length as)
-length_added [] as = omega arith
+length_added : (ms : List Match) (answers : List Answer) → length (add_each ms answers) ≡ min (length ms) (length answers)
+length_added [] answers = omega arith
 length_added (m ∷ ms) [] = omega arith
-length_added (m ∷ ms) (a ∷ as) = let rest = length_added ms as in omega (arith, rest)
+length_added (m ∷ ms) (a ∷ answers) = let rest = length_added ms answers in omega (arith, rest)
 
 min_of_three : (a b c : ℕ) → min a (min b c) ≡ min (min a b) c
 min_of_three a b c = omega arith
@@ -118,25 +118,25 @@ common_more v (first ∷ second ∷ rest) own some =
     ∙ min_of_three (length (answers_at v first)) (common v (second ∷ rest)) (length (answers_at v own))
 
 -- and which
-record IsMore (ms : List Match) (as : List Answer) (i : ℕ) (m : Match) : Type 0 where
+record IsMore (ms : List Match) (answers : List Answer) (i : ℕ) (m : Match) : Type 0 where
   one : Match
   one_at : slice_get ms i ≡ Some one
   answer : Answer
-  answer_at : slice_get as i ≡ Some answer
+  answer_at : slice_get answers i ≡ Some answer
   is : m ≡ more one answer
 
-more_at : (ms : List Match) (as : List Answer) (i : ℕ) (m : Match) → slice_get (add_each ms as) i ≡ Some m → IsMore ms as i m
-more_at [] as i m at = absurd (let no : ⊥ = cc in no)
+more_at : (ms : List Match) (answers : List Answer) (i : ℕ) (m : Match) → slice_get (add_each ms answers) i ≡ Some m → IsMore ms answers i m
+more_at [] answers i m at = absurd (let no : ⊥ = cc in no)
 more_at (n ∷ ms) [] i m at = absurd (let no : ⊥ = cc in no)
-more_at (n ∷ ms) (a ∷ as) zero m at = record {
+more_at (n ∷ ms) (a ∷ answers) zero m at = record {
   one = n;
   one_at = refl;
   answer = a;
   answer_at = refl;
   is = let same : more n a ≡ m = cc in sym same;
 }
-more_at (n ∷ ms) (a ∷ as) (suc i) m at =
-    let rest = more_at ms as i m at in record {
+more_at (n ∷ ms) (a ∷ answers) (suc i) m at =
+    let rest = more_at ms answers i m at in record {
       one = rest.one;
       one_at = rest.one_at;
       answer = rest.answer;
@@ -161,39 +161,39 @@ matched_more front own matched some rise are = record {
 }
 
 -- those of one shard alone
-one_none_before : (least : ℤ) (as : List Answer) → NoneBefore version_of_answer least as
-    → NoneBefore version_of_match least (match_one as)
+one_none_before : (least : ℤ) (answers : List Answer) → NoneBefore version_of_answer least answers
+    → NoneBefore version_of_match least (match_one answers)
 one_none_before least [] none = tt
-one_none_before least (a ∷ as) none = (none.0, one_none_before least as none.1)
+one_none_before least (a ∷ answers) none = (none.0, one_none_before least answers none.1)
 
-one_rise : (as : List Answer) → Rise version_of_answer as → Rise version_of_match (match_one as)
+one_rise : (answers : List Answer) → Rise version_of_answer answers → Rise version_of_match (match_one answers)
 one_rise [] rise = tt
-one_rise (a ∷ as) rise = (one_none_before (version_of_answer a) as rise.0, one_rise as rise.1)
+one_rise (a ∷ answers) rise = (one_none_before (version_of_answer a) answers rise.0, one_rise answers rise.1)
 
-one_at : (v : ℤ) (as : List Answer) → matches_at v (match_one as) ≡ match_one (answers_at v as)
+one_at : (v : ℤ) (answers : List Answer) → matches_at v (match_one answers) ≡ match_one (answers_at v answers)
 one_at v [] = refl
-one_at v (a ∷ as) =
+one_at v (a ∷ answers) =
     let m = single a in
     elim (cases_Bool (int_eq (version_of_answer a) v)) [
       | inl same ↦
-          at_kept version_of_match v m (match_one as) same ∙ ap (λ l. m ∷ l) (one_at v as)
-          ∙ sym (ap match_one (at_kept version_of_answer v a as same))
+          at_kept version_of_match v m (match_one answers) same ∙ ap (λ l. m ∷ l) (one_at v answers)
+          ∙ sym (ap match_one (at_kept version_of_answer v a answers same))
       | inr differs ↦
-          at_dropped version_of_match v m (match_one as) differs ∙ one_at v as
-          ∙ sym (ap match_one (at_dropped version_of_answer v a as differs))
+          at_dropped version_of_match v m (match_one answers) differs ∙ one_at v answers
+          ∙ sym (ap match_one (at_dropped version_of_answer v a answers differs))
     ]
 
-one_long : (as : List Answer) → length (match_one as) ≡ length as
+one_long : (answers : List Answer) → length (match_one answers) ≡ length answers
 one_long [] = refl
-one_long (a ∷ as) = ap suc (one_long as)
+one_long (a ∷ answers) = ap suc (one_long answers)
 
-one_found : (as : List Answer) (i : ℕ) (m : Match) → slice_get (match_one as) i ≡ Some m
-    → (a : Answer) × (slice_get as i ≡ Some a) × (m.answers ≡ a ∷ [])
+one_found : (answers : List Answer) (i : ℕ) (m : Match) → slice_get (match_one answers) i ≡ Some m
+    → (a : Answer) × (slice_get answers i ≡ Some a) × (m.answers ≡ a ∷ [])
 one_found [] i m at = absurd (let no : ⊥ = cc in no)
-one_found (a ∷ as) zero m at =
+one_found (a ∷ answers) zero m at =
     let same : single a ≡ m = cc in
     (a, refl, sym (ap (λ (n : Match). n.answers) same))
-one_found (a ∷ as) (suc i) m at = one_found as i m at
+one_found (a ∷ answers) (suc i) m at = one_found answers i m at
 
 matched_one : (first : List Answer) → Rise version_of_answer first → AreMatched (first ∷ []) (match_one first)
 matched_one first rise = record {
@@ -201,7 +201,7 @@ matched_one first rise = record {
   count = λ v. ap length (one_at v first) ∙ one_long (answers_at v first);
   answers = λ v i m at.
       let found = one_found (answers_at v first) i m (ap (λ (l : List Match). slice_get l i) (sym (one_at v first)) ∙ at) in
-      subst (λ (as : List Answer). AreAt v i (first ∷ []) as) (sym found.2) (found.1, tt);
+      subst (λ (answers : List Answer). AreAt v i (first ∷ []) answers) (sym found.2) (found.1, tt);
 }
 
 -- and those of all

@@ -1,5 +1,5 @@
 -- The reply of one shard more, with its note.
-use Rattle.std.proofs.Common.{◌≡◌, ◌∙◌, ℕ, zero, suc, ◌+◌, ℤ, List, [], ◌∷◌, ◌++◌, map, take, vec_items, refl, sym, ap, subst, arith}
+use Rattle.std.proofs.Common.{Global, ◌≡◌, ◌∙◌, ℕ, zero, suc, ◌+◌, ℤ, List, [], ◌∷◌, ◌++◌, map, take, vec_items, refl, sym, ap, subst, arith}
 use Rattle.std.specs.Prelude.{Option, Some, Vec, option_map, slice_get}
 use denote.Ref.{Bor}
 use Rattle.keyspace.specs.declared.answer.Answer.{Answer}
@@ -13,11 +13,11 @@ use Rattle.replay_shards.specs.Answers.{HaveReplied, noted, noted_in, noted_each
 use Rattle.replay_shards.specs.Notes.{first_note, first_notes}
 use Rattle.replay_shards.proofs.Replied.{replied_more}
 
-notes_next : (version : ℤ) (notes : List (Vec Note)) (i : ℕ) (own : Vec Note) → slice_get notes i ≡ Some own
+notes_next : (version : ℤ) (notes : List (Vec Note Global)) (i : ℕ) (own : Vec Note Global) → slice_get notes i ≡ Some own
     → first_notes version (map vec_items (take (i + 1) notes))
     ≡ first_notes version (map vec_items (take i notes)) ++ first_note version own.items ∷ []
 notes_next version [] i own at = cc
-notes_next version (x ∷ notes) zero own at = let same : x ≡ own = cc in ap (λ (y : Vec Note). first_note version y.items ∷ []) same
+notes_next version (x ∷ notes) zero own at = let same : x ≡ own = cc in ap (λ (y : Vec Note Global). first_note version y.items ∷ []) same
 notes_next version (x ∷ notes) (suc i) own at =
     let more : suc i + 1 ≡ suc (i + 1) = omega arith in
     ap (λ n. first_notes version (map vec_items (take n (x ∷ notes)))) more
@@ -27,8 +27,8 @@ pushed : (each : List NotedReply) (own : NotedReply) → noted_each (each ++ own
 pushed [] own = refl
 pushed (x ∷ each) own = ap (λ l. noted_in x ∷ l) (pushed each own)
 
-pub one_more : (version : ℤ) (answers : List Answer) (notes : List (Vec Note)) (old new : List NotedReply) (i : ℕ)
-    (reply : ReplyValue) (note : Vec Note) (own : NotedReply) → slice_get answers i ≡ Some (Reply reply)
+pub one_more : (version : ℤ) (answers : List Answer) (notes : List (Vec Note Global)) (old new : List NotedReply) (i : ℕ)
+    (reply : ReplyValue) (note : Vec Note Global) (own : NotedReply) → slice_get answers i ≡ Some (Reply reply)
     → slice_get notes i ≡ Some note → new ≡ old ++ own ∷ [] → own.reply.now ≡ reply
     → option_map (λ (reads : Bor (List (List ℕ))). reads.now) own.reads ≡ first_note version note.items
     → HaveReplied (take i answers) (first_notes version (map vec_items (take i notes))) (noted_each old)

@@ -36,21 +36,21 @@ pub none_never : (answers : List Answer) (notes : Notes) (each : List ShardReply
     → All (λ a. IsNever a → ⊥) answers
 none_never [] [] [] have = All-nil (λ a. IsNever a → ⊥)
 none_never (Reply r ∷ answers) (n ∷ notes) (s ∷ each) have =
-    All-cons (λ a. IsNever a → ⊥) (Reply r) answers (λ no. no) (none_never answers notes each have.1)
+    All-cons (λ a. IsNever a → ⊥) (Reply r) answers (λ h. h) (none_never answers notes each have.1)
 none_never _ _ _ have = absurd have
 
 pub none_held : (answers : List Answer) (notes : Notes) (each : List ShardReply) → HaveReplied answers notes each
     → All (λ a. IsHeld a → ⊥) answers
 none_held [] [] [] have = All-nil (λ a. IsHeld a → ⊥)
 none_held (Reply r ∷ answers) (n ∷ notes) (s ∷ each) have =
-    All-cons (λ a. IsHeld a → ⊥) (Reply r) answers (λ no. no) (none_held answers notes each have.1)
+    All-cons (λ a. IsHeld a → ⊥) (Reply r) answers (λ h. h) (none_held answers notes each have.1)
 none_held _ _ _ have = absurd have
 
 pub none_other : (answers : List Answer) (notes : Notes) (each : List ShardReply) → HaveReplied answers notes each
     → All (λ a. (IsNever a ⊎ IsHeld a) → ⊥) answers
 none_other [] [] [] have = All-nil (λ a. (IsNever a ⊎ IsHeld a) → ⊥)
 none_other (Reply r ∷ answers) (n ∷ notes) (s ∷ each) have =
-    All-cons (λ a. (IsNever a ⊎ IsHeld a) → ⊥) (Reply r) answers (λ h. elim h [ | inl no ↦ no | inr no ↦ no ])
+    All-cons (λ a. (IsNever a ⊎ IsHeld a) → ⊥) (Reply r) answers (λ h. elim h [ | inl h ↦ h | inr h ↦ h ])
     (none_other answers notes each have.1)
 none_other _ _ _ have = absurd have
 

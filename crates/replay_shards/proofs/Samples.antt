@@ -1,6 +1,6 @@
 -- The first batches of readers, one after the other.
 use Rattle.std.specs.Prelude.{◌≡◌, ℕ, List, [], ◌∷◌, ◌++◌, Option, flat_map, map, vec_items, Vec}
-use Rattle.std.proofs.Common.{refl, sym, ap, ◌∙◌, subst}
+use Rattle.std.proofs.Common.{Global, refl, sym, ap, ◌∙◌, subst}
 use Rattle.keyspace.specs.declared.batch.Batch.{Batch}
 use Rattle.wire.specs.NextFrame.{TakesFrame}
 use Rattle.replay_shards.specs.Sampling.{AreTaken}
@@ -12,6 +12,6 @@ taken_more a b c [] batch same takes = (c, subst (λ o. TakesFrame o c batch) (s
 taken_more a b c (first ∷ batches) batch taken takes = (taken.0, taken.1, taken_more taken.0 b c batches batch taken.2 takes)
 
 -- the batches of all
-pub all_of : (samples : List (Vec Batch)) → flat_map (λ own. own) (map vec_items samples) ≡ flat_map (λ own. own.items) samples
+pub all_of : (samples : List (Vec Batch Global)) → flat_map (λ own. own) (map vec_items samples) ≡ flat_map (λ own. own.items) samples
 all_of [] = refl
 all_of (own ∷ samples) = ap (λ l. own.items ++ l) (all_of samples)

@@ -1,6 +1,6 @@
 -- In the order of versions, a list has the same items of each version, in the same order.
 use Rattle.std.specs.Prelude.{◌≡◌, ℤ, int_lt, true, false, List, [], ◌∷◌, ◌++◌, fold, map, vec_items, Vec, All}
-use Rattle.std.proofs.Common.{refl, sym, ap, ◌∙◌, subst, inl, inr, append_assoc, append-nil}
+use Rattle.std.proofs.Common.{Global, refl, sym, ap, ◌∙◌, subst, inl, inr, append_assoc, append-nil}
 use Rattle.std.specs.Ordering.{int_eq}
 use Rattle.std.proofs.lemmas.Bool.{cases_Bool, cond-true, cond-false}
 use Rattle.std.proofs.lemmas.List.Elements.{All-nil, All-cons, All-head, All-tail, filter-append}
@@ -128,7 +128,7 @@ rise_sorted own kept =
     rise_answers (in_order_by version_of_line own.lines.items) (kept_in_order own.lines.items kept)
     (in_order-rises version_of_line own.lines.items)
 
-pub rise_each : (sorted : List (Vec Answer)) (each : List Answered) → All AreKept each
+pub rise_each : (sorted : List (Vec Answer Global)) (each : List Answered) → All AreKept each
     → map vec_items sorted ≡ map sorted_answers each → All (λ own. Rise version_of_answer own.items) sorted
 rise_each [] each kept is = All-nil (λ own. Rise version_of_answer own.items)
 rise_each (s ∷ sorted) [] kept is = absurd (let no : ⊥ = cc in no)
@@ -139,7 +139,7 @@ rise_each (s ∷ sorted) (own ∷ each) kept is =
     (subst (Rise version_of_answer) (sym head) (rise_sorted own (All-head AreKept own each kept)))
     (rise_each sorted each (All-tail AreKept own each kept) tail)
 
-pub notes_rise_each : (sorted : List (Vec Note)) (each : List Answered) → map vec_items sorted ≡ map sorted_notes each
+pub notes_rise_each : (sorted : List (Vec Note Global)) (each : List Answered) → map vec_items sorted ≡ map sorted_notes each
     → All (λ own. Rise version_of_note own.items) sorted
 notes_rise_each [] each is = All-nil (λ own. Rise version_of_note own.items)
 notes_rise_each (s ∷ sorted) [] is = absurd (let no : ⊥ = cc in no)
@@ -159,7 +159,7 @@ at_answers v (l ∷ lines) kept =
     elim (cases_Bool (int_eq (version_of_line l) v)) [
       | inl same ↦
           at_kept version_of_answer v (answer_of l) (answers_of lines) (ap (λ w. int_eq w v) (sym version) ∙ same)
-          ∙ ap (λ as. answer_of l ∷ as) rest ∙ sym (ap answers_of (at_kept version_of_line v l lines same))
+          ∙ ap (λ (own : List Answer). answer_of l ∷ own) rest ∙ sym (ap answers_of (at_kept version_of_line v l lines same))
       | inr differs ↦
           at_dropped version_of_answer v (answer_of l) (answers_of lines) (ap (λ w. int_eq w v) (sym version) ∙ differs)
           ∙ rest ∙ sym (ap answers_of (at_dropped version_of_line v l lines differs))

@@ -30,7 +30,7 @@ module _ {S : Type 0} (remaining : S → Option (List ℕ)) (shard : Shard) wher
       record {
         batches = one.batch ∷ rest.batches;
         taken = (bytes_left remaining between, one.taken, rest.taken);
-        clipped = (subst (λ (s : Shard). IsBatchClip s one.batch clip) here noted.clip, rest.clipped);
+        clipped = (subst (λ (s : Shard). IsBatchClip s one.batch clip) here noted.is_clip, rest.clipped);
         notes =
             rest.notes ∙ ap (λ (l : List Note). l ++ notes_of shard rest.batches) notes
             ∙ append_assoc first.notes.items (note_in shard one.batch) (notes_of shard rest.batches);

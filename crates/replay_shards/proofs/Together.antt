@@ -1,6 +1,6 @@
 -- The combined answers don't depend on the order in which a shard has answered different versions.
 use Rattle.std.specs.Prelude.{◌≡◌, ℕ, ℤ, min, List, [], ◌∷◌, length, map, Option, None, Some, slice_get, vec_items, Vec, All}
-use Rattle.std.proofs.Common.{refl, sym, ap, ap₂, ◌∙◌, subst, inl, inr}
+use Rattle.std.proofs.Common.{Global, refl, sym, ap, ap₂, ◌∙◌, subst, inl, inr}
 use Rattle.std.specs.List.{AllZip}
 use Rattle.std.specs.Ordering.{int_eq}
 use Rattle.std.proofs.lemmas.Bool.{cases_Bool, cond-true, cond-false}
@@ -16,7 +16,7 @@ use Rattle.replay_shards.proofs.Sorted.{at_in_order, at_sorted}
 use Rattle.replay_shards.proofs.Versions.{at_kept, at_dropped}
 
 -- the indices of the first of these notes
-first_reads : List Note → Option (List (List ℕ))
+abbrev first_reads : List Note → Option (List (List ℕ))
 first_reads [] = None
 first_reads (note ∷ notes) = Some note.reads
 
@@ -81,7 +81,7 @@ merged_sorted : (each : List Answered) (together : List Answer) → All AreKept 
 merged_sorted each together kept merged =
     (merged.0, matched_sorted each merged.0 kept merged.1, of_matches each merged.0 together merged.2)
 
-pub together : (each : List Answered) (answers : List (Vec Answer)) (notes : List (Vec Note)) (together : List Answer) → All AreKept each
+pub together : (each : List Answered) (answers : List (Vec Answer Global)) (notes : List (Vec Note Global)) (together : List Answer) → All AreKept each
     → map vec_items answers ≡ map sorted_answers each → map vec_items notes ≡ map sorted_notes each
     → AreMerged (map vec_items answers) (map vec_items notes) together → AreAnswersTogether each together
 together each answers notes all kept of_answers of_notes merged =

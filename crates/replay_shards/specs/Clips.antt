@@ -27,7 +27,7 @@ module _ {S : Type 0} where
 
   -- the shard
   abbrev pub shard_of_clips : Clips S → Option Shard
-  shard_of_clips clips = slice_get (shards clips.points.value) clips.shard
+  shard_of_clips clips = slice_get (shards clips.shard.points.value) clips.shard.number
 
   -- Between these states the batch was clipped to the shard. If one of its transactions requests a report, its note was put after the
   -- others.
@@ -35,7 +35,7 @@ module _ {S : Type 0} where
     pub shard : Shard
     pub before : shard_of_clips old ≡ Some shard
     pub after : shard_of_clips new ≡ Some shard
-    pub clip : IsBatchClip shard batch clip
+    pub is_clip : IsBatchClip shard batch clip
     pub notes : new.notes.items ≡ old.notes.items ++ note_in shard batch
 
   -- Between these states the frame of one batch was taken from the file, and its clip was given.

@@ -20,7 +20,7 @@ use std::alloc::{AllocError, Global};
 /// at its number; the notes are in the order of their versions.
 ///
 /// An error is that memory was refused.
-#[tactic(auto, using(crate::proofs::Cases::case_never, crate::proofs::Cases::case_held, crate::proofs::Cases::case_reply, crate::proofs::Cases::case_misfit, crate::proofs::Replied::natural_of, crate::proofs::Replied::as_many))]
+#[tactic(auto, using(crate::proofs::Replied::natural_of))]
 pub fn combined_answer(
     alloc: Global,
     version: i64,

@@ -37,7 +37,7 @@ struct InOrder {
 /// no line.
 ///
 /// An error is that memory was refused.
-#[tactic(auto, using(crate::proofs::Sorted::rise_each, crate::proofs::Sorted::notes_rise_each, crate::proofs::Together::together))]
+#[tactic(auto, using(crate::proofs::Sorted::rise_each, crate::proofs::Sorted::notes_rise_each))]
 pub fn combine_answered(
     alloc: Global,
     style: Style,
@@ -74,7 +74,6 @@ fn in_order(alloc: Global, each: Vec<Answered>) -> Result<InOrder, AllocError>
 }
 
 // Returns the answers of lines that keep them, in the order of their versions.
-#[tactic(auto, using(crate::proofs::Sorted::kept_in_order))]
 fn answers_in_order(alloc: Global, lines: Vec<Line>) -> Result<Vec<Answer>, AllocError>
     requires kept { All IsKept lines.items }
     ensures answers { IfOk result (λ answers.

@@ -10,9 +10,10 @@ ghost use Rattle.replay_shards.specs.Clips.{bytes_left, failures_of, refusal_of_
 ghost use Rattle.replay_shards.specs.Notes.{note_with};
 
 use crate::note::{Note, requests_report};
+use crate::own_shard::OwnShard;
 use keyspace::{Batch, UnorderedBatch};
 use replay_workers::Batches;
-use shards::{ReadIndices, SplitPoints, clip_in_place};
+use shards::{Clipped, ReadIndices, SplitPoints, clip_in_place};
 use std::alloc::{AllocError, Global};
 use std::sync::Arc;
 use wire::{Frames, Source, WireError, read_frames};
@@ -22,13 +23,11 @@ use wire::{Frames, Source, WireError, read_frames};
 #[derive(Drop)]
 pub struct Clips<S> {
     frames: Frames<S>,
-    points: Arc<SplitPoints, Global>,
-    shard: usize,
+    shard: OwnShard,
     alloc: Global,
     notes: Vec<Note>,
     // Memory was refused for a clip, which ended the clips.
     is_refused: bool,
-    ghost within: { shard < length (shards points.value) },
 }
 
 impl<S: Source> Clips<S> {
@@ -42,8 +41,10 @@ impl<S: Source> Clips<S> {
     {
         Clips {
             frames: read_frames(alloc, reader),
-            points,
-            shard,
+            shard: OwnShard {
+                points,
+                number: shard,
+            },
             alloc,
             notes: Vec::new(alloc),
             is_refused: false,
@@ -57,9 +58,10 @@ impl<S: Source> Clips<S> {
         ensures frames { self.new.frames ≡ self.old.frames }
         ensures refused { self.new.is_refused ≡ self.old.is_refused }
     {
-        let clipped = clip_in_place(self.alloc, batch, &self.points, self.shard)?;
-        self.keep_note(&clipped.batch, clipped.reads)?;
-        Ok(clipped.batch)
+        let Clipped { batch: clip, reads } =
+            clip_in_place(self.alloc, batch, &self.shard.points, self.shard.number)?;
+        self.keep_note(&clip, reads)?;
+        Ok(clip)
     }
 
     // Keeps the indices of the read ranges of this clip, if one of its transactions requests a

@@ -23,6 +23,7 @@ mod matching;
 mod merging;
 mod note;
 mod noted_reply;
+mod own_shard;
 mod points;
 mod sampling;
 

@@ -38,6 +38,7 @@ pub fn merge_answers(
 }
 
 // Combines the answers of each match.
+#[tactic(auto, using(crate::proofs::Combining::so_far_none, crate::proofs::Combining::so_far_all))]
 fn combine_all(
     alloc: Global,
     matched: Vec<Matched>,
