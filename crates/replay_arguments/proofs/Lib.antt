@@ -6,4 +6,4 @@ pub mod Summaries
 pub mod Openings
 pub mod Explaining
 pub mod Lines
-pub mod Sharding
+pub mod Resolvers

@@ -1,8 +1,9 @@
 -- Streams of clips, by what is left of their files.
-use Rattle.std.specs.Prelude.{◌≡◌, ◌⊎◌, ℕ, ◌++◌, List, map, Option, None, Some, IsSomeAnd, slice_get}
+use Rattle.std.specs.Prelude.{◌≡◌, ◌⊎◌, ℕ, ◌++◌, List, [], ◌∷◌, map, Option, None, Some, IsSomeAnd, slice_get}
 use Rattle.std.specs.Option.{option_map}
 use Rattle.std.specs.List.{All}
 use Rattle.std.proofs.Common.{refl, sym, ap, subst, ◌∙◌, inl, inr}
+use Rattle.std.proofs.lemmas.List.Elements.{All-head, All-tail}
 use Rattle.std.proofs.lemmas.Option.{same_Some, slice_get-map}
 use Rattle.std.specs.Io.KnownBytes.{IsAtEnd}
 use Rattle.keyspace.specs.declared.batch.Batch.{Batch}
@@ -35,10 +36,22 @@ module _ {S : Type 0} (remaining : S → Option (List ℕ)) (shard : Shard) wher
         record {
           batch = gives.batch;
           taken = gives.taken;
-          clipped = subst (λ (s : Shard). IsBatchClip s gives.batch clip) here noted.clip;
+          clipped = subst (λ (s : Shard). IsBatchClip s gives.batch clip) here noted.is_clip;
           notes = subst (λ (s : Shard). new.notes.items ≡ old.notes.items ++ note_in s gives.batch) here noted.notes;
         },
       )
+
+  -- nothing was read of streams without notes
+  pub unread_all : (clips : List (Clips S)) → All (λ own. own.notes.items ≡ []) clips
+      → map (reading_of remaining) clips ≡ map unread (map (bytes_left remaining) clips)
+  unread_all [] none = refl
+  unread_all (own ∷ clips) none =
+      let Without : Clips S → Type 0 = λ own. own.notes.items ≡ [] in
+      let first : reading_of remaining own ≡ unread (bytes_left remaining own) =
+      ap (λ (notes : List Note). record { bytes = bytes_left remaining own; notes = notes }) (All-head Without own clips none) in
+      let rest = unread_all clips (All-tail Without own clips none) in
+      ap (λ (r : Reading). r ∷ map (reading_of remaining) clips) first
+      ∙ ap (λ (l : List Reading). unread (bytes_left remaining own) ∷ l) rest
 
   -- the notes that a stream has left are kept
   notes_of_left : (ended : List (Clips S)) (answered : List Answered) → map notes_by answered ≡ map notes_left ended

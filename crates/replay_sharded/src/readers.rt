@@ -1,10 +1,12 @@
 //! The readers of all shards.
 
-ghost use Rattle.std.specs.Prelude.{◌≡◌, ◌≤◌, ℕ, IfOk, List, Option, length, map, vec_items, vec_len};
+ghost use Rattle.std.specs.Prelude.{◌≡◌, ◌≤◌, ◌<◌, ℕ, IfOk, List, Option, Some, length, map};
+ghost use Rattle.std.specs.Prelude.{slice_get, vec_items, vec_len};
 ghost use Rattle.std.specs.List.{All};
 ghost use Rattle.resolver.specs.declared.resolver_core.TheConstants.{MAX_PROXIES};
-ghost use Rattle.serial.specs.Shards.{shards};
-ghost use Rattle.replay_sharded.specs.Files.{AreAll, AreClipsOfShards, AreFresh, ReadTheFiles};
+ghost use Rattle.serial.specs.Shards.{Shard, shards};
+ghost use Rattle.replay_sharded.specs.Files.{AreClipsOf, AreClipsOfShards, AreFresh};
+ghost use Rattle.replay_sharded.specs.Files.{ReadTheFiles};
 
 use replay_shards::{Clips, clips_each};
 use shards::SplitPoints;
@@ -48,7 +50,25 @@ pub fn clips_of_shards<S: Source + Drop>(
     let mut each = Vec::with_capacity(alloc, readers.len())?;
     for own in readers {
         let shard = each.len();
-        each.push_reserved(clips_each(alloc, own, &points, shard)?);
+        each.push_reserved(clips_of_shard(alloc, own, &points, shard)?);
     }
     Ok(each)
+}
+
+// Returns the clips of all files for one shard.
+fn clips_of_shard<S: Source + Drop>(
+    alloc: Global,
+    readers: Vec<S>,
+    points: &Arc<SplitPoints, Global>,
+    shard: usize,
+) -> Result<Vec<Clips<S>>, AllocError>
+    requires within { shard < length (shards points.now.value) }
+    ensures clips { IfOk result (λ clips. (files : List (Option (List ℕ))) (own : Shard)
+        → slice_get (shards points.now.value) shard ≡ Some own
+        → ReadTheFiles S.remaining files readers.items
+        → AreClipsOf S.remaining files own clips.items) }
+    ensures fresh { IfOk result (λ clips. AreFresh clips.items) }
+    ensures as_many { IfOk result (λ clips. vec_len clips ≡ vec_len readers) }
+{
+    clips_each(alloc, readers, points, shard)
 }
