@@ -1,6 +1,8 @@
 -- How many resolvers are found, beside the other options.
-use Rattle.std.specs.Prelude.{◌≡◌, ◌≢◌, ℕ, ◌≤◌, Bool, true, false, List, codes, Option, None, Some, option_map}
-use Rattle.std.proofs.Common.{refl, sym, ap, ◌∙◌, subst, arith}
+use Rattle.std.specs.Prelude.{◌≡◌, ℕ, ◌≤◌, Bool, true, false, List, codes, Option, None, Some, is_some, option_map}
+use Rattle.std.specs.Borrow.{Bor}
+use Rattle.std.proofs.Common.{refl, sym, ap, ◌∙◌, subst}
+use Rattle.std.proofs.lemmas.Bool.{false≢true}
 use Rattle.clap.specs.Words.{Row, all_of, first_of}
 use Rattle.replay_arguments.specs.declared.arguments.sharding.Sharding.{Sharding}
 use Rattle.replay_arguments.specs.Words.{HasSharding, HoldsExplain, HoldsResolvers, HoldsSharding, HoldsStream, HoldsTop, IsShared, IsTop, inputs_of}
@@ -24,8 +26,32 @@ module _ (rows : List Row) (n : ℕ) (holds : HoldsResolvers rows n) where
       not (has.1.1.several (subst (λ (m : ℕ). 2 ≤ m) (one_number rows n has.1.0.resolvers holds has.1.1.resolvers) several))
 
   -- one resolver is found, and split points
-  pub not_one : n ≡ 1 → (name : List ℕ) → first_of (codes "split-points") rows ≡ Some name → ¬ (HasSharding rows)
-  not_one one name found has =
+  pub not_one : n ≡ 1 → is_some (first_of (codes "split-points") rows) ≡ true → ¬ (HasSharding rows)
+  not_one one some has =
       let none = has.1.1.one (sym (one_number rows n has.1.0.resolvers holds has.1.1.resolvers) ∙ one) in
-      let bad : Some name ≡ None = sym found ∙ has.1.1.split_points ∙ ap (option_map (λ name. name.now)) none in
-      cc
+      let found : first_of (codes "split-points") rows ≡ None =
+      has.1.1.split_points ∙ ap (option_map (λ (name : Bor (List ℕ)). name.now)) none in
+      false≢true (sym (ap is_some found) ∙ some)
+
+  -- several resolvers are found, and nothing that they can't do
+  pub shared : (is_streamed explains : Bool) (top : Option ℕ) → HoldsStream rows is_streamed → HoldsExplain rows explains → HoldsTop rows top
+      → is_streamed ≡ false → explains ≡ false → top ≡ None → inputs_of (all_of (codes "FILE") rows) ≡ 0 → IsShared rows
+  shared is_streamed explains top stream explain listed off unexplained none no_input = record {
+    at_end = subst (HoldsStream rows) off stream;
+    unexplained = subst (HoldsExplain rows) unexplained explain;
+    no_ranges = subst (λ (top : Option ℕ). HoldsTop rows top) none listed;
+    no_input = no_input;
+  }
+
+  -- what several resolvers can't do is not found beside them
+  pub parts_of_shared : (is_streamed explains : Bool) (top : Option ℕ) → HoldsStream rows is_streamed → HoldsExplain rows explains
+      → HoldsTop rows top → IsShared rows → (is_streamed ≡ false) × (explains ≡ false) × (top ≡ None)
+  parts_of_shared is_streamed explains top stream explain listed is = (
+    bool_text_same is_streamed false (Some-injective (sym stream ∙ is.at_end)),
+    bool_text_same explains false (Some-injective (sym explain ∙ is.unexplained)),
+    top_none (first_of (codes "top") rows) top is.no_ranges listed,
+  )
+
+pub none_of : {X : Type 0} (o : Option X) → is_some o ≡ false → o ≡ None
+none_of None is = refl
+none_of (Some x) is = absurd (false≢true (sym is))
