@@ -101,7 +101,12 @@ pub fn first_irregular<F: Files>(files: &F, names: &[&str]) -> Option<usize>
         (IsFirstRefused (F.is_regular files.now) (F.is_irregular files.now)
         (map (λ name. name.now) names.now)) }
 {
-    names.iter().position(|name| !files.is_regular(name))
+    for (proxy, name) in names.iter().enumerate() {
+        if !files.is_regular(name) {
+            return Some(proxy);
+        }
+    }
+    None
 }
 
 /// Opens the files of these names to be written, of which each is for the answers to the proxy at
