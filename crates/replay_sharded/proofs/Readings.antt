@@ -1,6 +1,6 @@
 -- Streams of clips, by what is left of their files.
-use Rattle.std.specs.Prelude.{◌≡◌, ◌⊎◌, ℕ, ◌++◌, List, [], ◌∷◌, map, Option, None, Some, IsSomeAnd, slice_get}
-use Rattle.std.specs.Option.{option_map}
+use Rattle.std.specs.Prelude.{◌≡◌, ◌⊎◌, ℕ, ◌++◌, List, [], ◌∷◌, map, Option, None, Some, IfOk, IsSomeAnd, Result, Ok, Err, slice_get}
+use Rattle.std.specs.Option.{option_map, option_or}
 use Rattle.std.specs.List.{All}
 use Rattle.std.proofs.Common.{refl, sym, ap, subst, ◌∙◌, inl, inr}
 use Rattle.std.proofs.lemmas.List.Elements.{All-head, All-tail}
@@ -23,6 +23,29 @@ use Rattle.replay_sharded.specs.Files.{AreClipsOf, Reading, TakesClip, notes_lef
 use Rattle.replay_sharded.specs.Runs.{IsRunOfShard, KeepsNotes, notes_by}
 use Rattle.replay_sharded.proofs.Viewed.{run_viewed}
 
+module _ {S : Type 0} (remaining : S → Option (List ℕ)) where
+  -- nothing was read of streams without notes
+  pub unread_all : (clips : List (Clips S)) → All (λ own. own.notes.items ≡ []) clips
+      → map (reading_of remaining) clips ≡ map unread (map (bytes_left remaining) clips)
+  unread_all [] none = refl
+  unread_all (own ∷ clips) none =
+      let Without : Clips S → Type 0 = λ own. own.notes.items ≡ [] in
+      let first : reading_of remaining own ≡ unread (bytes_left remaining own) =
+      ap (λ (notes : List Note). record { bytes = bytes_left remaining own; notes = notes }) (All-head Without own clips none) in
+      let rest = unread_all clips (All-tail Without own clips none) in
+      ap (λ (r : Reading). r ∷ map (reading_of remaining) clips) first
+      ∙ ap (λ (l : List Reading). unread (bytes_left remaining own) ∷ l) rest
+
+  -- streams of files and of a shard, without notes, are the clips of those files to it
+  pub clips_are_of : (readers : List S) (found : Option Shard) (files : List (Option (List ℕ))) (own : Shard) (clips : List (Clips S))
+      → map (bytes_left remaining) clips ≡ map remaining readers → All (λ stream. shard_of_clips stream ≡ found) clips
+      → All (λ stream. stream.notes.items ≡ []) clips → found ≡ Some own → map remaining readers ≡ files
+      → AreClipsOf remaining files own clips
+  clips_are_of readers found files own clips left of none at read = record {
+    of_files = unread_all clips none ∙ ap (map unread) (left ∙ read);
+    of_shard = subst (λ (o : Option Shard). All (λ stream. shard_of_clips stream ≡ o) clips) at of;
+  }
+
 module _ {S : Type 0} (remaining : S → Option (List ℕ)) (shard : Shard) where
   abbrev IsOfShard : Clips S → Type 0
   IsOfShard clips = shard_of_clips clips ≡ Some shard
@@ -40,18 +63,6 @@ module _ {S : Type 0} (remaining : S → Option (List ℕ)) (shard : Shard) wher
           notes = subst (λ (s : Shard). new.notes.items ≡ old.notes.items ++ note_in s gives.batch) here noted.notes;
         },
       )
-
-  -- nothing was read of streams without notes
-  pub unread_all : (clips : List (Clips S)) → All (λ own. own.notes.items ≡ []) clips
-      → map (reading_of remaining) clips ≡ map unread (map (bytes_left remaining) clips)
-  unread_all [] none = refl
-  unread_all (own ∷ clips) none =
-      let Without : Clips S → Type 0 = λ own. own.notes.items ≡ [] in
-      let first : reading_of remaining own ≡ unread (bytes_left remaining own) =
-      ap (λ (notes : List Note). record { bytes = bytes_left remaining own; notes = notes }) (All-head Without own clips none) in
-      let rest = unread_all clips (All-tail Without own clips none) in
-      ap (λ (r : Reading). r ∷ map (reading_of remaining) clips) first
-      ∙ ap (λ (l : List Reading). unread (bytes_left remaining own) ∷ l) rest
 
   -- the notes that a stream has left are kept
   notes_of_left : (ended : List (Clips S)) (answered : List Answered) → map notes_by answered ≡ map notes_left ended
@@ -84,3 +95,12 @@ module _ {S : Type 0} (remaining : S → Option (List ℕ)) (shard : Shard) wher
       one_step (λ now is. is) (λ now e is. is) (EndsAt GivesNoClip ended) (KeepsNotes run)
       (λ proxy left holds kept. notes_of_left ended run.answered.items notes proxy left kept) options clips
       (map (λ own. own.lines.items) run.answered.items) run.failures.items run.complete run.stop of.of_shard ran)
+
+pub if_ok_three : {X E : Type 0} (r : Result X E) (P Q R T : X → Type 0) → ((x : X) → P x → Q x → R x → T x) → IfOk r P → IfOk r Q
+    → IfOk r R → IfOk r T
+if_ok_three (Ok x) P Q R T all p q r = all x p q r
+if_ok_three (Err e) P Q R T all p q r = tt
+
+pub or_some : {X : Type 0} (o : Option X) (x : X) → option_or o (Some x) ≡ None → ⊥
+or_some None x is = cc
+or_some (Some y) x is = cc
