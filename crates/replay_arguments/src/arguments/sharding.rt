@@ -76,10 +76,17 @@ fn resolvers_of(matches: &ArgMatches) -> Option<usize>
     ensures none { result ≡ None → ¬ HasResolvers (rows_of (found_of matches.now)) }
 {
     let resolvers: usize = matches.get_one("resolvers")?;
-    if !(1..=MAX_RESOLVERS).contains(&resolvers) {
+    if !is_within(resolvers) {
         return None;
     }
     Some(resolvers)
+}
+
+// Returns whether there may be that many resolvers.
+fn is_within(resolvers: usize) -> bool
+    ensures within { IsTrue result ↔ ((1 ≤ resolvers) × (resolvers ≤ MAX_RESOLVERS)) }
+{
+    (1..=MAX_RESOLVERS).contains(&resolvers)
 }
 
 // Returns whether several resolvers can do what is asked for: their answers are combined once all

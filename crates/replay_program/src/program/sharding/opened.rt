@@ -8,7 +8,7 @@ ghost use Rattle.replay_arguments.specs.Asks.{Asks};
 ghost use Rattle.replay_arguments.specs.Opening.{contents_each};
 ghost use Rattle.replay_program.specs.Program.{texts};
 ghost use Rattle.replay_program.specs.ShardedProgram.{ArePointsOf, IsWhyNotSharded, irregular_line};
-ghost use Rattle.replay_program.specs.ShardedProgram.{sharding_line};
+ghost use Rattle.replay_program.specs.ShardedProgram.{TellsWhy};
 ghost use Rattle.replay_sharded.specs.Files.{ReadTheFiles};
 
 use flow::WaitingRoom;
@@ -155,8 +155,8 @@ fn waiting_rooms(
 /// failed write changes nothing.
 pub fn fail_to_shard<E: Sink>(alloc: Global, error: &mut E, cause: &ShardingError) -> Status
     ensures status { result ≡ Status.Failed }
-    ensures line { (E.failures error.old < E.failures error.new) ⊎ ((line : List ℕ)
-        × sharding_line cause.now line × Appends (E.given error.old) (E.given error.new) line) }
+    ensures line { TellsWhy cause.now (λ line. (E.failures error.old < E.failures error.new)
+        ⊎ Appends (E.given error.old) (E.given error.new) line) }
 {
     match cause {
         ShardingError::Irregular(proxy) => fail_to_reopen(error, *proxy),
