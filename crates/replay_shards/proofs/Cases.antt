@@ -1,5 +1,5 @@
 -- The answer of all shards, case by case.
-use Rattle.std.proofs.Common.{◌≡◌, ℕ, ℤ, List, refl, sym, subst, ◌⊎◌}
+use Rattle.std.proofs.Common.{ℕ, ℤ, List, refl, subst, ◌⊎◌}
 use Rattle.std.specs.Prelude.{Option, Any}
 use Rattle.keyspace.specs.declared.answer.Answer.{Answer}
 use Rattle.keyspace.specs.declared.answer.Answer.TheVariants as answer

@@ -1,5 +1,5 @@
 -- The clip of a batch, and its note.
-use Rattle.std.specs.Prelude.{◌≡◌, ℕ, ℤ, Bool, ◌||◌, true, false, if◌then◌else◌, ◌++◌, List, [], ◌∷◌, Option, None, Some, IsSomeAnd}
+use Rattle.std.specs.Prelude.{◌≡◌, ℕ, ℤ, Bool, ◌||◌, if◌then◌else◌, ◌++◌, List, [], ◌∷◌, None, Some, IsSomeAnd}
 use Rattle.std.proofs.Common.{refl, sym, ap, ap₂, ◌∙◌, inl, inr}
 use Rattle.std.specs.List.{AllZip, list_any}
 use Rattle.std.proofs.lemmas.Bool.{cases_Bool, cond-true, cond-false}
@@ -10,7 +10,6 @@ use Rattle.serial.proofs.callers.Reading.{the_value}
 use Rattle.shards.specs.declared.clipped.Clipped.{Clipped}
 use Rattle.shards.specs.Clips.{IsClipped, IsTxnClip}
 use Rattle.wire.specs.Frames.{refusal_of}
-use Rattle.wire.specs.declared.error.WireError.{WireError}
 use Rattle.wire.specs.declared.error.WireError.TheVariants as wire
 use Rattle.replay_shards.specs.declared.clips.Clips.{Clips}
 use Rattle.replay_shards.specs.declared.note.Note.{Note}

@@ -1,5 +1,5 @@
 -- The combined answers of matches, one after the other.
-use Rattle.std.specs.Prelude.{◌≡◌, ℕ, ℤ, List, [], ◌∷◌, ◌++◌, length, map, All}
+use Rattle.std.specs.Prelude.{◌≡◌, ℕ, List, [], ◌∷◌, ◌++◌, map, All}
 use Rattle.std.proofs.Common.{refl, sym, ap, ◌∙◌, subst, append_assoc, append-nil}
 use Rattle.std.specs.List.{AllZip}
 use Rattle.std.proofs.lemmas.List.Elements.{All-head, All-tail}
@@ -7,10 +7,8 @@ use Rattle.std.proofs.lemmas.Slice.Zip.{all_zipped_more}
 use Rattle.keyspace.specs.declared.answer.Answer.{Answer}
 use Rattle.replay_shards.specs.declared.note.Note.{Note}
 use Rattle.replay_shards.specs.declared.matching.Matched.{Matched}
-use Rattle.replay_shards.specs.Answers.{IsAnswerTogether}
 use Rattle.replay_shards.specs.Matching.{IsComplete, match_of}
 use Rattle.replay_shards.specs.Merging.{IsOfMatch, Match}
-use Rattle.replay_shards.specs.Notes.{first_notes}
 
 -- what was combined so far, and what is left
 pub record SoFar (notes : List (List Note)) (count : ℕ) (all : List Match) (left : List Matched) (together : List Answer) : Type 0 where

@@ -1,5 +1,5 @@
 -- Lines that keep their answers.
-use Rattle.std.specs.Prelude.{◌≡◌, ℤ, Option, None, Some}
+use Rattle.std.specs.Prelude.{◌≡◌, None, Some}
 use Rattle.std.proofs.Common.{refl, sym, ap, ◌∙◌}
 use Rattle.keyspace.specs.declared.answer.Answer.{Answer}
 use Rattle.keyspace.specs.declared.answer.Answer.TheVariants as answer

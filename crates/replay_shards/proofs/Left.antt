@@ -1,14 +1,14 @@
 -- What is left of the answers of a shard, after those of earlier versions and one of this version.
-use Rattle.std.specs.Prelude.{◌≡◌, ℤ, int_lt, true, false, List, [], ◌∷◌, ◌++◌, Option, None, Some, option_to_list}
+use Rattle.std.specs.Prelude.{◌≡◌, ℤ, int_lt, true, false, List, [], ◌∷◌, ◌++◌, None, Some, option_to_list}
 use Rattle.std.proofs.Common.{refl, sym, ap, ◌∙◌, subst, inl, inr}
 use Rattle.std.specs.Ordering.{int_eq}
 use Rattle.std.proofs.lemmas.Bool.{cases_Bool, cond-true, cond-false}
 use Rattle.keyspace.specs.declared.answer.Answer.{Answer}
 use Rattle.keyspace.specs.Answer.{version_of_answer}
-use Rattle.checking.specs.InOrder.{NoneBefore, Rise}
-use Rattle.replay_shards.specs.Merging.{at_version, answers_at}
+use Rattle.checking.specs.InOrder.{Rise}
+use Rattle.replay_shards.specs.Merging.{answers_at}
 use Rattle.replay_shards.specs.Matching.{without_earlier, first_at, after_first_at}
-use Rattle.replay_shards.proofs.Versions.{none_at, at_kept, at_dropped, not_same_if_before, not_same_if_after, after_if, same_if, is_same, not_both_ways}
+use Rattle.replay_shards.proofs.Versions.{none_at, at_kept, at_dropped, not_same_if_after, after_if, same_if, is_same, not_both_ways}
 
 module _ (w : ℤ) where
   passes : (a : Answer) (answers : List Answer) → int_lt (version_of_answer a) w ≡ true

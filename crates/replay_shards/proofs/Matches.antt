@@ -1,17 +1,16 @@
 -- Answers matched shard by shard are those of all shards of each version, answers many answers every shard has.
-use Rattle.std.specs.Prelude.{◌≡◌, ℕ, zero, suc, ◌<◌, ◌≤◌, min, ℤ, int_lt, true, false, List, [], ◌∷◌, ◌++◌, length, map, Option, None, Some, option_to_list, slice_get, All}
+use Rattle.std.specs.Prelude.{◌≡◌, ℕ, zero, suc, ◌<◌, min, ℤ, int_lt, true, false, List, [], ◌∷◌, ◌++◌, length, Option, None, Some, option_to_list, slice_get, All}
 use Rattle.std.proofs.Common.{refl, sym, ap, ap₂, ◌∙◌, subst, inl, inr, arith, append_assoc}
-use Rattle.std.specs.List.{AllZip}
 use Rattle.std.specs.Ordering.{int_eq}
-use Rattle.std.proofs.lemmas.Bool.{cases_Bool, cond-true, cond-false}
+use Rattle.std.proofs.lemmas.Bool.{cases_Bool}
 use Rattle.std.proofs.lemmas.List.Elements.{All-head, All-tail, filter-append}
 use Rattle.std.proofs.lemmas.Slice.Zip.{all_zipped_more}
 use Rattle.keyspace.specs.declared.answer.Answer.{Answer}
 use Rattle.keyspace.specs.Answer.{version_of_answer}
 use Rattle.checking.specs.InOrder.{NoneBefore, Rise}
-use Rattle.replay_shards.specs.Merging.{at_version, answers_at, matches_at, version_of_match, common, AreAt, Match, AreMatched}
+use Rattle.replay_shards.specs.Merging.{answers_at, matches_at, version_of_match, common, AreAt, Match, AreMatched}
 use Rattle.replay_shards.specs.Matching.{without_earlier, first_at, after_first_at, more, with_answer, match_next, single, match_one, match_rest, match_all}
-use Rattle.replay_shards.proofs.Versions.{none_at, at_kept, at_dropped, not_same_if_after, after_if, same_if, is_same}
+use Rattle.replay_shards.proofs.Versions.{none_at, at_kept, at_dropped, after_if, same_if, is_same}
 use Rattle.replay_shards.proofs.Left.{rise_left, taken_first, left_later, none_left}
 
 -- the answer at each index added to the match at that index

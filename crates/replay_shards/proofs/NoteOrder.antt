@@ -1,7 +1,6 @@
 -- The first note of a version, among notes in the order of their versions.
-use Rattle.std.specs.Prelude.{◌≡◌, ℕ, zero, suc, ◌<◌, ◌≤◌, ℤ, int_lt, true, false, List, [], ◌∷◌, length, Option, None, Some, slice_get}
-use Rattle.std.proofs.Common.{refl, sym, ap, ◌∙◌, inl, inr, arith, get_or}
-use Rattle.std.specs.List.{AllWithin}
+use Rattle.std.specs.Prelude.{◌≡◌, ℕ, zero, suc, ◌<◌, ◌≤◌, ℤ, int_lt, true, false, List, [], ◌∷◌, length, None, slice_get}
+use Rattle.std.proofs.Common.{refl, sym, ◌∙◌, inl, inr, arith, get_or}
 use Rattle.std.specs.List.Sorted.{IsPartitionPoint, IsPartitionedBy}
 use Rattle.std.specs.Ordering.{int_eq}
 use Rattle.std.proofs.lemmas.Bool.{cases_Bool, cond-true, cond-false}
@@ -9,7 +8,7 @@ use Rattle.std.proofs.lemmas.Int.{ints}
 use Rattle.checking.specs.InOrder.{NoneBefore, Rise}
 use Rattle.replay_shards.specs.declared.note.Note.{Note}
 use Rattle.replay_shards.specs.Notes.{first_note, reads_at, version_of_note}
-use Rattle.replay_shards.proofs.Versions.{irreflexive, after_if, not_same_if_before, not_same_if_after, is_same, not_both_ways}
+use Rattle.replay_shards.proofs.Versions.{irreflexive, after_if, not_same_if_before, not_same_if_after}
 
 none_before_at : (least : ℤ) (notes : List Note) → NoneBefore version_of_note least notes → (j : ℕ) (d : Note) → j < length notes
     → int_lt (get_or notes j d).version least ≡ false

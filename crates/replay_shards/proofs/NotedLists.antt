@@ -1,5 +1,5 @@
 -- Replies with their notes, one shard after the other.
-use Rattle.std.proofs.Common.{◌≡◌, ℕ, zero, suc, ◌+◌, ◌<◌, List, [], ◌∷◌, ◌++◌, length, map, take, refl, sym, ap, ◌∙◌, subst, arith, All}
+use Rattle.std.proofs.Common.{◌≡◌, ℕ, zero, suc, ◌+◌, ◌<◌, List, [], ◌∷◌, ◌++◌, length, take, refl, sym, ap, ◌∙◌, subst, arith, All}
 use Rattle.std.specs.Prelude.{Option, None, Some, option_map, unwrap_or, slice_get}
 use denote.Ref.{Bor}
 use Rattle.keyspace.specs.declared.reply.Entry.{Entry}

@@ -1,5 +1,5 @@
 -- Replies of all shards, beside their notes.
-use Rattle.std.proofs.Common.{◌≡◌, ℕ, suc, ◌<◌, List, [], ◌∷◌, ◌++◌, length, map, get_or, ℤ, refl, sym, ap, ap₂, ◌∙◌, subst, inl, inr, ◌⊎◌, arith, All}
+use Rattle.std.proofs.Common.{◌≡◌, ℕ, suc, ◌<◌, List, [], ◌∷◌, ◌++◌, length, ℤ, refl, sym, ap, ap₂, ◌∙◌, subst, inl, inr, ◌⊎◌, arith, All}
 use Rattle.std.specs.Prelude.{◌≤ℤ◌, pos, Option, None, Some, Any}
 use Rattle.std.proofs.lemmas.List.Elements.{All-nil, All-cons, All-head, All-tail, All-get_or}
 use Rattle.keyspace.specs.declared.answer.Answer.{Answer}
@@ -13,13 +13,13 @@ abbrev Notes : Type 0
 Notes = List (Option (List (List ℕ)))
 
 -- one shard more
-pub replied_more : (answers : List Answer) (notes : Notes) (each : List ShardReply) (reply : ReplyValue) (note : Option (List (List ℕ)))
-    (s : ShardReply) → HaveReplied answers notes each → s ≡ noted reply note
-    → HaveReplied (answers ++ Reply reply ∷ []) (notes ++ note ∷ []) (each ++ s ∷ [])
-replied_more [] [] [] reply note s have is = (is, tt)
-replied_more (Reply r ∷ answers) (n ∷ notes) (first ∷ each) reply note s have is =
-    (have.0, replied_more answers notes each reply note s have.1 is)
-replied_more _ _ _ reply note s have is = absurd have
+pub replied_more : (answers : List Answer) (notes : Notes) (each : List ShardReply) (reply : ReplyValue) (kept : Option (List (List ℕ)))
+    (s : ShardReply) → HaveReplied answers notes each → s ≡ noted reply kept
+    → HaveReplied (answers ++ Reply reply ∷ []) (notes ++ kept ∷ []) (each ++ s ∷ [])
+replied_more [] [] [] reply kept s have is = (is, tt)
+replied_more (Reply r ∷ answers) (n ∷ notes) (first ∷ each) reply kept s have is =
+    (have.0, replied_more answers notes each reply kept s have.1 is)
+replied_more _ _ _ reply kept s have is = absurd have
 
 -- they are given by the answers and the notes
 pub same_replies : (answers : List Answer) (notes : Notes) (one other : List ShardReply) → HaveReplied answers notes one
@@ -50,7 +50,7 @@ pub none_other : (answers : List Answer) (notes : Notes) (each : List ShardReply
     → All (λ a. (IsNever a ⊎ IsHeld a) → ⊥) answers
 none_other [] [] [] have = All-nil (λ a. (IsNever a ⊎ IsHeld a) → ⊥)
 none_other (Reply r ∷ answers) (n ∷ notes) (s ∷ each) have =
-    All-cons (λ a. (IsNever a ⊎ IsHeld a) → ⊥) (Reply r) answers (λ h. elim h [ | inl h ↦ h | inr h ↦ h ])
+    All-cons (λ a. (IsNever a ⊎ IsHeld a) → ⊥) (Reply r) answers (λ h. elim h [ inl h ↦ h | inr h ↦ h ])
     (none_other answers notes each have.1)
 none_other _ _ _ have = absurd have
 
@@ -69,7 +69,7 @@ of_version version (Reply r ∷ answers) (n ∷ notes) (s ∷ each) all have =
     (ap (λ (t : ShardReply). t.reply.version) have.0 ∙ noted_version r n ∙ All-head P (Reply r) answers all)
     (of_version version answers notes each (All-tail P (Reply r) answers all) have.1)
   where
-    noted_version : (reply : ReplyValue) (note : Option (List (List ℕ))) → (noted reply note).reply.version ≡ reply.version
+    noted_version : (reply : ReplyValue) (kept : Option (List (List ℕ))) → (noted reply kept).reply.version ≡ reply.version
     noted_version reply None = refl
     noted_version reply (Some reads) = refl
 of_version version _ _ _ all have = absurd have

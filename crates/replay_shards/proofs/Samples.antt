@@ -1,6 +1,6 @@
 -- The first batches of readers, one after the other.
 use Rattle.std.specs.Prelude.{◌≡◌, ℕ, List, [], ◌∷◌, ◌++◌, Option, flat_map, map, vec_items, Vec}
-use Rattle.std.proofs.Common.{Global, refl, sym, ap, ◌∙◌, subst}
+use Rattle.std.proofs.Common.{Global, refl, sym, ap, subst}
 use Rattle.keyspace.specs.declared.batch.Batch.{Batch}
 use Rattle.wire.specs.NextFrame.{TakesFrame}
 use Rattle.replay_shards.specs.Sampling.{AreTaken}

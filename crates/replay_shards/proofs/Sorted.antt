@@ -12,7 +12,7 @@ use Rattle.replay_output.specs.declared.line.Line.{Line}
 use Rattle.replay_output.specs.Line.{answer_of, answers_of, version_of_line}
 use Rattle.replay_shards.specs.declared.answered.Answered.{Answered}
 use Rattle.replay_shards.specs.declared.note.Note.{Note}
-use Rattle.replay_shards.specs.Answered.{AreKept, IsKept, answers_by, notes_by, sorted_answers, sorted_notes}
+use Rattle.replay_shards.specs.Answered.{AreKept, IsKept, answers_by, sorted_answers, sorted_notes}
 use Rattle.replay_shards.specs.Merging.{at_version, answers_at}
 use Rattle.replay_shards.specs.Notes.{version_of_note}
 use Rattle.replay_shards.proofs.Versions.{irreflexive, none_at, at_kept, at_dropped, not_both_ways, not_before_lower, same_if}

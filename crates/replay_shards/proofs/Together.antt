@@ -10,7 +10,7 @@ use Rattle.replay_shards.specs.declared.answered.Answered.{Answered}
 use Rattle.replay_shards.specs.declared.note.Note.{Note}
 use Rattle.replay_shards.specs.Answered.{AreAnswersTogether, AreKept, answers_by, notes_by, sorted_answers, sorted_notes}
 use Rattle.replay_shards.specs.Answers.{IsAnswerTogether}
-use Rattle.replay_shards.specs.Merging.{AreAt, AreMatched, AreMerged, IsOfMatch, Match, answers_at, at_version, common}
+use Rattle.replay_shards.specs.Merging.{AreAt, AreMatched, AreMerged, IsOfMatch, Match, at_version, common}
 use Rattle.replay_shards.specs.Notes.{first_note, first_notes, version_of_note}
 use Rattle.replay_shards.proofs.Sorted.{at_in_order, at_sorted}
 use Rattle.replay_shards.proofs.Versions.{at_kept, at_dropped}

@@ -1,11 +1,11 @@
 -- Items of one version, in lists that are in the order of their versions.
-use Rattle.std.specs.Prelude.{◌≡◌, ℤ, int_lt, true, false, List, [], ◌∷◌, ◌++◌, filter}
+use Rattle.std.specs.Prelude.{◌≡◌, ℤ, int_lt, true, false, List, [], ◌∷◌}
 use Rattle.std.proofs.Common.{refl, sym, ap, ◌∙◌, inl, inr, arith}
 use Rattle.std.specs.Ordering.{int_eq}
 use Rattle.std.proofs.lemmas.Bool.{cases_Bool}
 use Rattle.std.proofs.lemmas.Bool.Decides.{Decides-int_eq}
 use Rattle.std.proofs.lemmas.Int.{ints}
-use Rattle.checking.specs.InOrder.{NoneBefore, Rise}
+use Rattle.checking.specs.InOrder.{NoneBefore}
 use Rattle.checking.proofs.OneOrder.{filter-kept, filter-dropped}
 use Rattle.replay_shards.specs.Merging.{at_version}
 

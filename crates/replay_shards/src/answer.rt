@@ -71,7 +71,7 @@ fn noted_replies<'a>(
     ensures replies { IfOk result (λ found. MatchOption found
         (Any (λ answer. IsNever answer ⊎ IsHeld answer) answers.now)
         (λ each. HaveReplied answers.now (first_notes version (map vec_items notes.now))
-            (noted_each each.items))) }
+        (noted_each each.items))) }
 {
     let mut each = Vec::with_capacity(alloc, answers.len())?;
     for (shard, answer) in answers.iter().enumerate() {

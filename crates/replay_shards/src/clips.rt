@@ -58,8 +58,12 @@ impl<S: Source> Clips<S> {
         ensures frames { self.new.frames ≡ self.old.frames }
         ensures refused { self.new.is_refused ≡ self.old.is_refused }
     {
-        let Clipped { batch: clip, reads } =
-            clip_in_place(self.alloc, batch, &self.shard.points, self.shard.number)?;
+        let Clipped { batch: clip, reads } = clip_in_place(
+            self.alloc,
+            batch,
+            &self.shard.points,
+            self.shard.number,
+        )?;
         self.keep_note(&clip, reads)?;
         Ok(clip)
     }

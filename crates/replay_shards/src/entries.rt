@@ -25,7 +25,7 @@ pub fn combined_reply(
     ensures together { IfOk result (λ found. MatchOption found
         (¬ AreOfOneBatch (noted_each each.now))
         (λ reply. AreOfOneBatch (noted_each each.now)
-            × IsReplyTogether version (noted_each each.now) reply)) }
+        × IsReplyTogether version (noted_each each.now) reply)) }
 {
     let count = count_in(each);
     if !do_fit(each, count) {
@@ -116,11 +116,7 @@ fn lesser(a: Verdict, b: Verdict) -> Verdict
 }
 
 // Unites what the shards report of a transaction.
-fn united_places(
-    alloc: Global,
-    each: &[NotedReply],
-    index: usize,
-) -> Result<Places, AllocError>
+fn united_places(alloc: Global, each: &[NotedReply], index: usize) -> Result<Places, AllocError>
     requires fit { All (FitsAt index) (noted_each each.now) }
     ensures rising { IfOk result IsStrictlyIncreasing }
     ensures union { IfOk result (λ places. (read : ℕ) → Contains places read

@@ -36,10 +36,7 @@ pub fn first_stop(stops: &[Option<Stop>]) -> Option<ShardStop>
 {
     for (shard, own) in stops.iter().enumerate() {
         if let Some(stop) = own {
-            return Some(ShardStop {
-                stop: *stop,
-                shard,
-            });
+            return Some(ShardStop { stop: *stop, shard });
         }
     }
     None

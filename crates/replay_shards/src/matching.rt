@@ -46,10 +46,7 @@ impl Cursor {
             return None;
         }
         self.next += 1;
-        Some(mem::replace(
-            &mut self.answers[index],
-            Answer::Never(version),
-        ))
+        Some(mem::replace(&mut self.answers[index], Answer::Never(version)))
     }
 }
 

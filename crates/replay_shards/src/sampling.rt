@@ -72,7 +72,9 @@ fn first_batches<S: Source + Drop>(
         let Ok(Some(batch)) = frames.next() else {
             return Ok(batches);
         };
-        count = count.saturating_add(batch.txns.ranges().len()).saturating_add(1);
+        count = count
+            .saturating_add(batch.txns.ranges().len())
+            .saturating_add(1);
         batches.push(batch)?;
     }
     Ok(batches)

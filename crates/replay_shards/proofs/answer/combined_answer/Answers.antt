@@ -1,4 +1,4 @@
-use Rattle.std.proofs.Common.{Global, ◌≡◌, ◌<◌, ◌⊎◌, ◌∙◌, true, false, FitsSigned, w64, to_z, of_z, ℤ, List, length, map, vec_items, Vec, refl, ap, sym, subst, rules, arith}
+use Rattle.std.proofs.Common.{Global, ◌≡◌, ◌<◌, ◌⊎◌, true, false, FitsSigned, w64, to_z, of_z, ℤ, List, length, map, vec_items, Vec, refl, ap, sym, subst, rules, arith}
 use Rattle.std.specs.Prelude.{Option, None, Any, MatchOption}
 use Rattle.std.proofs.lemmas.Int.{to_z-of_z}
 use Rattle.keyspace.specs.declared.answer.Answer.{Answer}

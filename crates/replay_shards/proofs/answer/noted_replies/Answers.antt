@@ -1,9 +1,8 @@
-use Rattle.std.proofs.Common.{◌≡◌, ◌<◌, ◌∙◌, ◌++◌, ◌∷◌, [], ℕ, ℤ, List, length, refl, sym, ap, subst, rules, arith, take}
+use Rattle.std.proofs.Common.{◌≡◌, ◌<◌, ◌∙◌, length, refl, ap, arith}
 use Rattle.std.proofs.lemmas.Option.{slice_get_read}
-use Rattle.std.specs.Prelude.{Some, Vec, slice_get}
+use Rattle.std.specs.Prelude.{Some, slice_get}
 use Rattle.keyspace.specs.declared.answer.Answer.{Answer}
 use Rattle.keyspace.specs.declared.answer.Answer.TheVariants.{Reply}
-use Rattle.replay_shards.specs.declared.note.Note.{Note}
 use Rattle.replay_shards.specs.Notes.{first_note}
 use Rattle.replay_shards.proofs.OneReply.{one_more}
 use Rattle.replay_shards.proofs.answer.noted_replies.Goals as goal

@@ -1,5 +1,5 @@
-use Rattle.std.proofs.Common.{Global, ◌≡◌, List, Vec, map, vec_items, sym, subst, Result, Ok, Err}
-use Rattle.std.specs.Prelude.{IfOk}
+use Rattle.std.proofs.Common.{Global, ◌≡◌, List, Vec, map, vec_items, sym, subst}
+use Rattle.std.proofs.lemmas.Result.{IfOk-weaker}
 use Rattle.keyspace.specs.declared.answer.Answer.{Answer}
 use Rattle.replay_output.specs.Line.{answers_of}
 use Rattle.replay_shards.specs.declared.note.Note.{Note}
@@ -7,10 +7,6 @@ use Rattle.replay_shards.specs.Answered.{AreAnswersTogether}
 use Rattle.replay_shards.specs.Merging.{AreMerged}
 use Rattle.replay_shards.proofs.Together.{together}
 use Rattle.replay_shards.proofs.answered.combine_answered.Goals as goal
-
-if_ok_weaker : {T E : Type 0} (P Q : T → Type 0) (r : Result T E) → ((x : T) → P x → Q x) → IfOk r P → IfOk r Q
-if_ok_weaker P Q (Ok x) weaker holds = weaker x holds
-if_ok_weaker P Q (Err e) weaker holds = tt
 
 pub returns-clause-answers : goal.returns-clause-answers
 returns-clause-answers c =
@@ -21,5 +17,5 @@ returns-clause-answers c =
     (map (vec_items {X = Note} {Z = Global}) notes) merged) c.deref.ensures.value c.in_ok-merged.ensures.merged in
     let all = together each sorted.answers.items sorted.notes.items merged c.requires.kept c.in_ok-sorted.ensures.answers
     c.in_ok-sorted.ensures.notes of_notes in
-    if_ok_weaker (λ lines. answers_of lines.items ≡ merged) (λ lines. AreAnswersTogether each (answers_of lines.items)) c.lines_of.result
+    IfOk-weaker c.lines_of.result (λ lines. answers_of lines.items ≡ merged) (λ lines. AreAnswersTogether each (answers_of lines.items))
     (λ lines same. subst (λ (l : List Answer). AreAnswersTogether each l) (sym same) all) c.lines_of.ensures.answers

@@ -4,7 +4,6 @@ use Rattle.std.specs.Vec.Iter.{into_iter_items}
 use Rattle.std.proofs.lemmas.Grind.{common_steps}
 use Rattle.std.proofs.lemmas.List.Elements.{All-push}
 use Rattle.serial.specs.Shards.{shards}
-use Rattle.replay_shards.specs.declared.clips.Clips.{Clips}
 use Rattle.replay_shards.specs.Clips.{bytes_left, refusal_of_clips, shard_of_clips}
 use Rattle.replay_shards.proofs.Moved.{moved}
 use Rattle.replay_shards.proofs.clips.clips_each.Goals as goal

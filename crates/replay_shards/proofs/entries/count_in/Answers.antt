@@ -1,5 +1,4 @@
-use Rattle.std.proofs.Common.{◌≡◌, ◌∙◌, sym, arith}
-use Rattle.std.specs.Prelude.{Some, slice_get}
+use Rattle.std.proofs.Common.{◌∙◌, sym}
 use Rattle.replay_shards.specs.Answers.{FitsIn}
 use Rattle.replay_shards.proofs.NotedLists.{of_one}
 use Rattle.replay_shards.proofs.entries.count_in.Goals as goal

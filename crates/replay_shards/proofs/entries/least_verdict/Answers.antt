@@ -1,4 +1,4 @@
-use Rattle.std.proofs.Common.{◌<◌, List, length, refl, sym, ap, subst, take, take_all}
+use Rattle.std.proofs.Common.{◌<◌, List, refl, sym, subst, take, take_all}
 use Rattle.std.proofs.lemmas.Option.{slice_get_read}
 use Rattle.shards.specs.Combined.{FitsAt}
 use Rattle.shards.specs.declared.shard_reply.ShardReply.{ShardReply}

@@ -1,4 +1,4 @@
-use Rattle.std.proofs.Common.{length, map, vec_items, refl}
+use Rattle.std.proofs.Common.{length, map, vec_items}
 use Rattle.std.specs.Vec.Iter.{into_iter_items}
 use Rattle.replay_shards.specs.Matching.{match_of}
 use Rattle.replay_shards.proofs.Combining.{so_far_next, so_far_more}

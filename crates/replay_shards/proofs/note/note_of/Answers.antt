@@ -1,4 +1,4 @@
-use Rattle.std.proofs.Common.{◌≡◌, FitsSigned, w64, rules, ap, sym, ◌∙◌}
+use Rattle.std.proofs.Common.{FitsSigned, w64, rules, ap, sym, ◌∙◌}
 use Rattle.std.specs.Prelude.{ℤ, int_lt, slice_get}
 use Rattle.std.proofs.lemmas.Int.{to_z-of_z}
 use Rattle.std.proofs.lemmas.List.Sorted.{IsPartitionPoint-from_clause}

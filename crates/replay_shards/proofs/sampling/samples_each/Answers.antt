@@ -1,5 +1,4 @@
-use Rattle.std.proofs.Common.{Global, ◌≡◌, ◌∷◌, ◌++◌, ◌∙◌, [], ℕ, List, map, vec_items, sym, ap, subst, append_assoc}
-use Rattle.std.specs.Prelude.{Option}
+use Rattle.std.proofs.Common.{Global, ◌∷◌, ◌++◌, ◌∙◌, [], List, map, vec_items, sym, ap, subst, append_assoc}
 use Rattle.std.specs.List.{AllZip}
 use Rattle.std.specs.Vec.Iter.{into_iter_items}
 use Rattle.std.proofs.lemmas.List.{map-append}
@@ -16,13 +15,12 @@ loop-reader-preserved g c =
     let own = c.in_ok-first_batches.field-0 in
     let samples = c.loop-reader.samples.items in
     let so_far = c.loop-reader.invariant in
-    let front = so_far.0 ++ bytes ∷ [] in
-    (
+    let front = so_far.0 ++ bytes ∷ [] in (
       front,
       append_assoc so_far.0 (bytes ∷ []) (map remaining rest)
-      ∙ ap (λ l. so_far.0 ++ map remaining l) (sym c.in-Some.ensures.steps.0) ∙ so_far.1,
+          ∙ ap (λ l. so_far.0 ++ map remaining l) (sym c.in-Some.ensures.steps.0) ∙ so_far.1,
       subst (λ (l : List (List Batch)). AllZip AreFirstOf front l)
-      (sym (ap (map (vec_items {X = Batch} {Z = Global})) c.in_ok-push.ensures.items ∙ map-append (vec_items {X = Batch} {Z = Global}) samples (own ∷ [])))
-      (all_zipped_more AreFirstOf so_far.0 (map (vec_items {X = Batch} {Z = Global}) samples) bytes own.items so_far.2
-      c.in_ok-first_batches.ensures.first),
+          (sym (ap (map (vec_items {X = Batch} {Z = Global})) c.in_ok-push.ensures.items ∙ map-append (vec_items {X = Batch} {Z = Global}) samples (own ∷ [])))
+          (all_zipped_more AreFirstOf so_far.0 (map (vec_items {X = Batch} {Z = Global}) samples) bytes own.items so_far.2
+          c.in_ok-first_batches.ensures.first),
     )
