@@ -4,7 +4,7 @@ use crate::shards::split;
 use rattle_std::alloc::Global;
 use rattle_std::rt::HostRuntime;
 use rattle_std::sync::Arc as KitArc;
-use replay_program::{Form, Gatekeeper, Options, ShareKeeper, Style, Unshared, replay_sharded_over};
+use replay_program::{Form, Gatekeeper, Options, Reports, ShareKeeper, Style, Unshared, replay_sharded_over};
 use replay_sharded::{Combined, ShardedReaders, run_sharded};
 use std::sync::Arc;
 use std::sync::atomic::{AtomicU64, Ordering};
@@ -49,7 +49,7 @@ fn sharded(files: &[&[&str]], points: &[&str], waits_for: &[Option<(usize, u64)>
 }
 
 fn options(limit: usize) -> Options {
-    Options::new(16, 5_000_000, limit, Style::all(Form::Words)).expect("the numbers are within their ranges")
+    Options::new(16, 5_000_000, limit, Style::all(Form::Words), Reports::Asked).expect("the numbers are within their ranges")
 }
 
 fn printed<G>(readers: ShardedReaders<Reader, G>, limit: usize) -> String
@@ -57,8 +57,8 @@ where
     G: Gatekeeper + ShareKeeper + Send + Sync + 'static,
 {
     let (mut out, mut error) = (StdSink::new(Vec::new()), StdSink::new(Vec::new()));
-    let status = replay_sharded_over(&HostRuntime::new(), Global, readers, options(limit), &mut out, &mut error);
-    ended(status, &out.into_inner(), &error.into_inner())
+    let replayed = replay_sharded_over(&HostRuntime::new(), Global, readers, options(limit), &mut out, &mut error);
+    ended(replayed.status, &out.into_inner(), &error.into_inner())
 }
 
 const CHAIN: &[&str] = &["-1>0", "0>100: W[a] W[x]", "100>200: m R[x] R[b] R[a] @99; R[b] R[y] @99"];
