@@ -1,5 +1,5 @@
 -- Several resolvers, whose files were not opened.
-use Rattle.std.specs.Prelude.{◌≡◌, ℕ, Bool, true, false, List, Option, None, IfSome}
+use Rattle.std.specs.Prelude.{◌≡◌, ℕ, Bool, true, false, List, Option, None, Some, IfSome}
 use Rattle.std.proofs.Common.{inl, refl, sym, subst, ◌∙◌}
 use Rattle.std.proofs.lemmas.Bool.{false≢true}
 use Rattle.resolver.specs.declared.stop.Stop.{Stop}
@@ -10,7 +10,7 @@ use Rattle.replay_program.specs.declared.program.sharding.opened.ShardingError.{
 use Rattle.replay_program.specs.declared.report.RunReport.{RunReport}
 use Rattle.replay_program.specs.Program.{NamedFiles, SaysFurther, Told, bytes_of, texts}
 use Rattle.replay_program.specs.Replayed.{Written, written}
-use Rattle.replay_program.specs.Sharded.{MetStopByShards}
+use Rattle.replay_program.specs.Sharded.{HasMetByShards, MetStopByShards}
 use Rattle.replay_program.specs.ShardedProgram.{ArePointsOf, IsWhyNotSharded, LineFailsAndSaysByShards, RegularFiles, TellsWhy}
 
 -- nothing more is said
@@ -40,3 +40,18 @@ not_sharded state_of regular files line report standard error given failures cau
   output_failed = λ is. absurd (false≢true (sym not_failed ∙ is));
   further = further;
 }
+
+-- the stop that was met by the shards between these split points, which are those of the command line
+pub met_by_line : (contents : List ℕ → Option (List ℕ)) (line : CommandLine) (bytes : List (Option (List ℕ))) (met : Met) (error : Written)
+    (points : List (List ℕ)) → ArePointsOf contents line points → HasMetByShards points line.options bytes met error
+    → IfSome met.stop
+    (λ stop. (points : List (List ℕ)) × ArePointsOf contents line points
+    × MetStopByShards points line.options bytes stop met.version error)
+met_by_line contents line bytes met error points are has = go met.stop has
+  where
+    go : (stop : Option Stop) → IfSome stop (λ s. MetStopByShards points line.options bytes s met.version error)
+        → IfSome stop
+        (λ s. (points : List (List ℕ)) × ArePointsOf contents line points
+        × MetStopByShards points line.options bytes s met.version error)
+    go None has = tt
+    go (Some s) has = (points, are, has)

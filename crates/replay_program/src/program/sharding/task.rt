@@ -121,7 +121,7 @@ fn print_and_summarize<R: Threads + Wait + Copy + Send + 'static, F: Files, O: S
         → ArePrintedByShards (state_by F.Writer.given F.Writer.failures)
         (named_files (F.contents files.now) (F.has_opened files.now) (F.cannot_open files.now)
         (F.begun files.now) (F.has_created files.now) (F.cannot_create files.now))
-        sharded.points bytes options (Some file) result.summary
+        sharded.points bytes options (Some file.entry) result.summary
         (written (O.given out.old) (O.given out.new) (O.failures out.old) (O.failures out.new)) }
     ensures quiet { result.status ≡ Status.Done → Keeps (E.given error.old) (E.given error.new) }
     ensures failed { (bytes : List (Option (List ℕ)))
@@ -130,7 +130,7 @@ fn print_and_summarize<R: Threads + Wait + Copy + Send + 'static, F: Files, O: S
         → AreNotPrintedByShards (state_by F.Writer.given F.Writer.failures)
         (named_files (F.contents files.now) (F.has_opened files.now) (F.cannot_open files.now)
         (F.begun files.now) (F.has_created files.now) (F.cannot_create files.now))
-        sharded.points bytes options (Some file) result.summary
+        sharded.points bytes options (Some file.entry) result.summary
         (written (O.given out.old) (O.given out.new) (O.failures out.old) (O.failures out.new))
         (written (E.given error.old) (E.given error.new) (E.failures error.old)
         (E.failures error.new)) }
