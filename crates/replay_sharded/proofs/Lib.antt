@@ -1,2 +1,3 @@
 pub mod Viewed
 pub mod Readings
+pub mod Taking
