@@ -1,3 +1,4 @@
 pub mod Viewed
 pub mod Readings
 pub mod Taking
+pub mod Kept

@@ -1,17 +1,23 @@
 -- The runs of the shards, while the answers to one proxy after the other are taken.
-use Rattle.std.specs.Prelude.{◌≡◌, ◌≤◌, ◌<◌, ◌+◌, ℕ, zero, suc, List, [], ◌∷◌, ◌++◌, length, take, drop, map, vec_len, Some, slice_get, slice_set}
+use Rattle.std.specs.Prelude.{◌≡◌, ◌≤◌, ◌<◌, ◌+◌, ℕ, zero, suc, List, [], ◌∷◌, ◌++◌, length, take, drop, map, vec_len, ◌⊎◌, true, false, IfSome, Some, slice_get, slice_set}
 use Rattle.std.specs.List.{All, AllZip}
-use Rattle.std.proofs.Common.{refl, sym, ap, subst, ◌∙◌, arith}
+use Rattle.std.proofs.Common.{refl, sym, ap, subst, ◌∙◌, arith, inl, inr}
 use Rattle.std.proofs.lemmas.Grind.{take-set_at}
 use Rattle.std.proofs.lemmas.List.{drop-drop, drop-set-lt}
+use Rattle.std.proofs.lemmas.Option.{slice_get_within}
 use Rattle.std.proofs.lemmas.List.Elements.{All-head, All-tail, All-nil, All-cons}
-use Rattle.shards.proofs.callers.Combining.{take_next}
+use Rattle.shards.proofs.callers.Combining.{last_or_before, take_next}
 use Rattle.replay_workers.proofs.callers.Lists.{AllZip-also}
 use Rattle.replay_shards.specs.declared.answered.Answered.{Answered}
-use Rattle.replay_shards.specs.Answered.{AreKept}
+use Rattle.replay_shards.specs.Answered.{AreAnswersTogether, AreKept}
+use Rattle.replay_shards.specs.Failures.{IsFailureTogether}
 use Rattle.replay_output.specs.declared.failures.ProxyFailure.{ProxyFailure}
+use Rattle.replay_output.specs.declared.line.Line.{Line}
+use Rattle.replay_output.specs.declared.options.style.Style.{Style}
+use Rattle.replay_output.specs.Line.{AreLines, IsLineOf, answers_of}
 use Rattle.replay_sharded.specs.declared.shard_run.ShardRun.{ShardRun}
-use Rattle.replay_sharded.specs.Combined.{AreFailuresOf, AreOfProxy, HasProxies, TakesOf}
+use Rattle.replay_sharded.specs.Combined.{AreFailuresOf, AreOfProxy, AreTogether, HasProxies, TakesOf}
+use Rattle.replay_sharded.proofs.Readings.{there}
 
 module _ {X : Type 0} where
   head_at : (xs : List X) (place : ℕ) → slice_get (drop place xs) 0 ≡ slice_get xs place
@@ -128,3 +134,93 @@ failures_before proxy old now each from of =
     zip_over (IsFrom proxy) (λ (run : ShardRun) (own : ProxyFailure). slice_get run.failures.items proxy ≡ Some own)
     (λ (run : ShardRun) (own : ProxyFailure). slice_get run.failures.items proxy ≡ Some own)
     (λ x y own is at. ap (λ f. slice_get f.items proxy) (sym is.failures) ∙ at) old now each from of
+
+pub if_some_at : {X : Type 0} (P : X → Type 0) (xs : List X) (place : ℕ) → All P xs → IfSome (slice_get xs place) P
+if_some_at P [] zero all = tt
+if_some_at P [] (suc place) all = tt
+if_some_at P (x ∷ xs) zero all = All-head P x xs all
+if_some_at P (x ∷ xs) (suc place) all = if_some_at P xs place (All-tail P x xs all)
+
+-- each run has what was answered to the proxy
+pub each_of : (proxies proxy : ℕ) → proxy < proxies → (runs : List ShardRun) → All (HasProxies proxies) runs
+    → (each : List Answered) × AreOfProxy proxy runs each
+each_of proxies proxy within [] all = ([], tt)
+each_of proxies proxy within (run ∷ runs) all =
+    let has = All-head (HasProxies proxies) run runs all in
+    let inside : proxy < length run.answered.items = omega (arith, has.answered, run.answered.ok.0, within) in
+    let own = there run.answered.items proxy inside in
+    let rest = each_of proxies proxy within runs (All-tail (HasProxies proxies) run runs all) in
+    (own.0 ∷ rest.0, (own.1, rest.1))
+
+-- the combined answers to the proxy were made
+pub together_made : (proxy : ℕ) (old now : List ShardRun) (lines : List Line) (own : ProxyFailure) (failures : List ProxyFailure)
+    → AllZip (IsFrom proxy) old now
+    → ((each : List Answered) × AreOfProxy proxy now each × AreAnswersTogether each (answers_of lines))
+    → AreFailuresOf proxy now failures → IsFailureTogether failures own → AreTogether old proxy lines own
+together_made proxy old now lines own failures from answers of together = record {
+  each = answers.0;
+  of_runs = of_proxy_before proxy old now answers.0 from answers.1;
+  answers = inl answers.2;
+  not_lost = λ is. answers.2;
+  failures = failures;
+  of_shards = failures_before proxy old now failures from of;
+  own = own;
+  together = together;
+  fault = refl;
+  lost = λ is. is;
+}
+
+-- they are lost
+pub together_lost : (proxies proxy : ℕ) (old now : List ShardRun) (own : ProxyFailure) (failures : List ProxyFailure)
+    → proxy < proxies → All (HasProxies proxies) old → AllZip (IsFrom proxy) old now → AreFailuresOf proxy now failures
+    → IsFailureTogether failures own → AreTogether old proxy [] (record { fault = own.fault; lost = true })
+together_lost proxies proxy old now own failures within has from of together =
+    let each = each_of proxies proxy within old has in
+    record {
+      each = each.0;
+      of_runs = each.1;
+      answers = inr (refl, refl);
+      not_lost = λ is. absurd (let no : ⊥ = cc in no);
+      failures = failures;
+      of_shards = failures_before proxy old now failures from of;
+      own = own;
+      together = together;
+      fault = refl;
+      lost = λ is. refl;
+    }
+
+-- what is so of each proxy so far
+abbrev pub AreEach : List ShardRun → List (List Line) → List ProxyFailure → Type 0
+AreEach runs each failures =
+    (proxy : ℕ) (lines : List Line) (failure : ProxyFailure) → slice_get each proxy ≡ Some lines → slice_get failures proxy ≡ Some failure
+    → AreTogether runs proxy lines failure
+
+pub each_next : (runs : List ShardRun) (each : List (List Line)) (failures : List ProxyFailure) (own : List Line) (failed : ProxyFailure)
+    → length failures ≡ length each → AreEach runs each failures → AreTogether runs (length each) own failed
+    → AreEach runs (each ++ own ∷ []) (failures ++ failed ∷ [])
+each_next runs each failures own failed same before it proxy lines failure at failure_at =
+    elim (last_or_before each own proxy lines at) [
+      | inl earlier ↦
+        elim (last_or_before failures failed proxy failure failure_at) [
+          | inl failed_earlier ↦ before proxy lines failure earlier failed_earlier
+          | inr last ↦ absurd (omega (arith, last.0, same, slice_get_within each proxy lines earlier))
+        ]
+      | inr last ↦
+        elim (last_or_before failures failed proxy failure failure_at) [
+          | inl failed_earlier ↦ absurd (omega (arith, last.0, same, slice_get_within failures proxy failure failed_earlier))
+          | inr failed_last ↦
+            subst (λ (place : ℕ). AreTogether runs place lines failure) (sym last.0)
+            (subst (λ (l : List Line). AreTogether runs (length each) l failure) last.1
+            (subst (λ (f : ProxyFailure). AreTogether runs (length each) own f) failed_last.1 it))
+        ]
+    ]
+
+pub lines_next : (style : Style) (each : List (List Line)) (own : List Line) → AreLines style each
+    → All (IsLineOf style (length each)) own → AreLines style (each ++ own ∷ [])
+lines_next style each own before it proxy lines at =
+    elim (last_or_before each own proxy lines at) [
+      | inl earlier ↦ before proxy lines earlier
+      | inr last ↦
+        subst (λ (place : ℕ). All (IsLineOf style place) lines) (sym last.0)
+        (subst (λ (l : List Line). All (IsLineOf style (length each)) l) last.1 it)
+    ]

@@ -1,5 +1,5 @@
 use Rattle.std.proofs.Common.{◌≡◌, ◌<◌, ◌≤◌, ◌+◌, ◌++◌, ◌∷◌, [], ◌∙◌, ℕ, List, length, take, drop, rules, refl, sym, ap, subst, arith}
-use Rattle.std.specs.Prelude.{Some, slice_get, slice_index_or, slice_set, vec_len}
+use Rattle.std.specs.Prelude.{IfSome, Option, Some, slice_get, slice_index_or, slice_set, vec_len}
 use Rattle.std.specs.List.{All, AllZip}
 use Rattle.std.proofs.lemmas.Grind.{common_steps}
 use Rattle.std.proofs.lemmas.List.Elements.{All-push}
@@ -42,8 +42,9 @@ loop-shard-preserved c =
     let at : slice_get old shard ≡ Some run =
     sym (same_at runs old shard before.rest) ∙ slice_get-get_or runs shard c.index-runs-shard.result within in
     let taken : slice_get run.answered.items c.args.proxy ≡ Some own = c.take_answered.ensures.taken in
-    let kept : All AreKept run.answered.items =
-    all_at (λ (run : ShardRun). All AreKept run.answered.items) old shard run c.requires.kept at in
+    let kept : AreKept own =
+    subst (λ (o : Option Answered). IfSome o AreKept) taken
+    (all_at (λ (run : ShardRun). IfSome (slice_get run.answered.items c.args.proxy) AreKept) old shard run c.requires.kept at) in
     record {
       each =
           subst (λ (l : List Answered). AreOfProxy c.args.proxy (take (shard + 1) old) l) (sym c.push_reserved.ensures.items)
@@ -52,7 +53,7 @@ loop-shard-preserved c =
           run own before.each taken));
       kept =
           subst (All AreKept) (sym c.push_reserved.ensures.items)
-          (All-push AreKept each own before.kept (all_at AreKept run.answered.items c.args.proxy own kept taken));
+          (All-push AreKept each own before.kept kept);
       taken = zip_next (TakesOf c.args.proxy) old runs shard run new before.taken within at c.take_answered.ensures.rest;
       rest = rest_next old runs shard new before.rest;
       runs = grind (arith, common_steps);
