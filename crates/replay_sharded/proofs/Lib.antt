@@ -2,3 +2,5 @@ pub mod Viewed
 pub mod Readings
 pub mod Taking
 pub mod Kept
+pub mod Works
+pub mod Sizes

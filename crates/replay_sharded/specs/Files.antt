@@ -6,7 +6,7 @@ use Rattle.keyspace.specs.declared.batch.Batch.{Batch}
 use Rattle.serial.specs.Shards.{Shard, shards}
 use Rattle.shards.specs.Clips.{IsBatchClip}
 use Rattle.wire.specs.NextFrame.{TakesFrame}
-use Rattle.replay_workers.specs.Worker.{TakesFrames}
+use Rattle.replay_workers.specs.Batches.{GivesEach}
 use Rattle.replay_shards.specs.declared.clips.Clips.{Clips}
 use Rattle.replay_shards.specs.declared.note.Note.{Note}
 use Rattle.replay_shards.specs.Clips.{bytes_left, refusal_of_clips, shard_of_clips}
@@ -15,7 +15,7 @@ use Rattle.replay_shards.specs.Notes.{note_in}
 -- the bytes are the frames of these batches, each once, in order, and nothing else
 pub record IsFileOf (bytes : Option (List ℕ)) (batches : List Batch) : Type 0 where
   pub left : Option (List ℕ)
-  pub frames : TakesFrames bytes left batches
+  pub frames : GivesEach TakesFrame bytes left batches
   pub at_end : IsAtEnd left
 
 -- how far a file was read by a shard: the bytes that are left, and the notes of the batches that were read
