@@ -4,3 +4,4 @@ pub mod Taking
 pub mod Kept
 pub mod Works
 pub mod Sizes
+pub mod SameFile
