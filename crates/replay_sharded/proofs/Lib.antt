@@ -5,3 +5,4 @@ pub mod Kept
 pub mod Works
 pub mod Sizes
 pub mod SameFile
+pub mod Whole
