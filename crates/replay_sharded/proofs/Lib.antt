@@ -6,3 +6,4 @@ pub mod Works
 pub mod Sizes
 pub mod SameFile
 pub mod Whole
+pub mod Logs
