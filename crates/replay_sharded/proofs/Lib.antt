@@ -7,3 +7,4 @@ pub mod Sizes
 pub mod SameFile
 pub mod Whole
 pub mod Logs
+pub mod Merged

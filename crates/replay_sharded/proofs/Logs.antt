@@ -28,7 +28,7 @@ use Rattle.replay_sharded.proofs.Whole.{IsWhole, originals_of}
 abbrev pub IsKnown : Option (List ℕ) → Type 0
 IsKnown file = (bytes : List ℕ) × (file ≡ Some bytes)
 
-same_file : HasOneSpelling → (file : Option (List ℕ)) (one other : List Batch) → IsKnown file → IsFileOf file one → IsFileOf file other
+pub same_file : HasOneSpelling → (file : Option (List ℕ)) (one other : List Batch) → IsKnown file → IsFileOf file one → IsFileOf file other
     → one ≡ other
 same_file law file one other known first second =
     same_batches law known.0 first.left second.left one other
@@ -92,7 +92,7 @@ is_log law options files sent shard run ran whole known of = record {
 }
 
 -- of each shard
-pub logs_of : HasOneSpelling → (options : Options) (files : List (Option (List ℕ))) (sent : List (List Batch)) → All IsKnown files
+abbrev pub logs_of : HasOneSpelling → (options : Options) (files : List (Option (List ℕ))) (sent : List (List Batch)) → All IsKnown files
     → AllZip IsFileOf files sent → (shards : List Shard) (runs : List ShardRun) → AllZip (IsRunOfShard options files) shards runs
     → All IsWhole runs → (logs : List (List Step)) × AllZip (IsLogOfShard options.window sent) shards logs
 logs_of law options files sent known of [] [] ran whole = ([], tt)
