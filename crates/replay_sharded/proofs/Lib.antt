@@ -8,3 +8,4 @@ pub mod SameFile
 pub mod Whole
 pub mod Logs
 pub mod Merged
+pub mod Resolved
