@@ -84,8 +84,8 @@ is_log law options files sent shard run ran whole known of = record {
       let file = found sent files proxy own (sym (zip_length IsFileOf files sent of)) at in
       let read = file_read options files shard run ran whole proxy file.0 file.1 in
       let same =
-          same_file law file.0 read.0 own (all_at IsKnown files proxy file.0 known file.1) read.1
-          (zip_at IsFileOf files sent proxy file.0 own of file.1 at) in
+      same_file law file.0 read.0 own (all_at IsKnown files proxy file.0 known file.1) read.1
+      (zip_at IsFileOf files sent proxy file.0 own of file.1 at) in
       subst (λ (l : List Batch). AllZip (IsBatchClip shard) l (part ran.log proxy)) same read.2;
   chain = ran.chain;
   finish = ran.finish (ran.no_stop whole.complete);

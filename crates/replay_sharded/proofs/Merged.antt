@@ -36,15 +36,15 @@ module _ (law : HasOneSpelling) (options : Options) (files : List (Option (List 
         let first = mapped_at unread files proxy file.0 file.1 in
         let failure = found (map unread files) run.failures.items proxy (unread file.0) ran.failures_count first in
         let served =
-            ran.each proxy (unread file.0) answered.lines.items failure.0 first (mapped_at lines_by run.answered.items proxy answered at)
-            failure.1 in
+        ran.each proxy (unread file.0) answered.lines.items failure.0 first (mapped_at lines_by run.answered.items proxy answered at)
+        failure.1 in
         let clean = all_at IsClean run.failures.items proxy failure.0 whole.clean failure.1 in
         let batches = originals_of shard (unread file.0) served.left served.read served.frames_read in
         let at_end = served.all_read (served.all_batches whole.complete) clean.0 in
         let same =
-            same_file law file.0 batches.0 own (all_at IsKnown files proxy file.0 known file.1)
-            (record { left = served.left.bytes; frames = batches.1; at_end = at_end })
-            (zip_at IsFileOf files sent proxy file.0 own of file.1 sent_at) in
+        same_file law file.0 batches.0 own (all_at IsKnown files proxy file.0 known file.1)
+        (record { left = served.left.bytes; frames = batches.1; at_end = at_end })
+        (zip_at IsFileOf files sent proxy file.0 own of file.1 sent_at) in
         let kept = subst (λ (o : Option Answered). IsSomeAnd o (λ one. notes_by one ≡ served.left.notes)) at served.kept in (
           served.all_received (ran.no_stop whole.complete) clean.1,
           kept ∙ (batches.3 ∙ ap (λ (l : List Batch). notes_of shard l) same),

@@ -70,18 +70,18 @@ resolved_but law points options files combined rising runs all known rest =
     sym combined.failures.ok.0 ∙ (runs.together.failures_count (length files) runs.proxies ∙ sym count) in
     let merged : AreMergedOf points options.window sent.0 logs.0 (map answers_of lines) =
     λ proxy own answers sent_at at.
-        let of_proxy = found (map answers_of lines) lines proxy answers (sym (length-map lines answers_of)) at in
-        let same : answers_of of_proxy.0 ≡ answers =
-        same_Some (answers_of of_proxy.0) answers (sym (mapped_at answers_of lines proxy of_proxy.0 of_proxy.1) ∙ at) in
-        let failure = found lines combined.failures.items proxy of_proxy.0 failures of_proxy.1 in
-        let together = runs.together.each proxy of_proxy.0 failure.0 of_proxy.1 failure.1 in
-        let clean = all_at IsClean combined.failures.items proxy failure.0 all.clean failure.1 in
-        let both =
-            all_same law (keeping options) files sent.0 known sent.1 proxy own sent_at (shards points) runs.runs runs.each whole
-            together.each together.of_runs in
-        subst (λ (l : List Answer). AreMerged (answers_by_shard options.window logs.0 proxy) (notes_by_shard points own) l) same
-        (subst (λ (l : List (List Note)). AreMerged (answers_by_shard options.window logs.0 proxy) l (answers_of of_proxy.0)) both.1
-        (subst (λ (l : List (List Answer)). AreMerged l (map notes_by together.each) (answers_of of_proxy.0)) both.0 (together.not_lost clean.1))) in
+    let of_proxy = found (map answers_of lines) lines proxy answers (sym (length-map lines answers_of)) at in
+    let same : answers_of of_proxy.0 ≡ answers =
+    same_Some (answers_of of_proxy.0) answers (sym (mapped_at answers_of lines proxy of_proxy.0 of_proxy.1) ∙ at) in
+    let failure = found lines combined.failures.items proxy of_proxy.0 failures of_proxy.1 in
+    let together = runs.together.each proxy of_proxy.0 failure.0 of_proxy.1 failure.1 in
+    let clean = all_at IsClean combined.failures.items proxy failure.0 all.clean failure.1 in
+    let both =
+    all_same law (keeping options) files sent.0 known sent.1 proxy own sent_at (shards points) runs.runs runs.each whole
+    together.each together.of_runs in
+    subst (λ (l : List Answer). AreMerged (answers_by_shard options.window logs.0 proxy) (notes_by_shard points own) l) same
+    (subst (λ (l : List (List Note)). AreMerged (answers_by_shard options.window logs.0 proxy) l (answers_of of_proxy.0)) both.1
+    (subst (λ (l : List (List Answer)). AreMerged l (map notes_by together.each) (answers_of of_proxy.0)) both.0 (together.not_lost clean.1))) in
     let last = rest sent.0 logs.0 logs.1 merged in
     record {
       rising = rising;

@@ -24,7 +24,7 @@ one_frame law bytes None right a b one other = absurd one.2
 one_frame law bytes (Some ys) None a b one other = absurd other.2
 one_frame law bytes (Some ys) (Some zs) a b one other =
     let same =
-        law (version_told one.0) (version_told other.0) one.0 other.0 ys zs a b one.1 other.1 (sym one.2 ∙ other.2) in
+    law (version_told one.0) (version_told other.0) one.0 other.0 ys zs a b one.1 other.1 (sym one.2 ∙ other.2) in
     let rest : one.0 ++ ys ≡ one.0 ++ zs =
     sym one.2 ∙ (other.2 ∙ ap (λ (front : List ℕ). front ++ zs) (sym same.1)) in
     (same.2, ap (λ (l : List ℕ). Some l) (append_cancel_left one.0 ys zs rest))

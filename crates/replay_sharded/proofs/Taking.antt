@@ -201,18 +201,18 @@ pub each_next : (runs : List ShardRun) (each : List (List Line)) (failures : Lis
 each_next runs each failures own failed same before it proxy lines failure at failure_at =
     elim (last_or_before each own proxy lines at) [
       | inl earlier ↦
-        elim (last_or_before failures failed proxy failure failure_at) [
-          | inl failed_earlier ↦ before proxy lines failure earlier failed_earlier
-          | inr last ↦ absurd (omega (arith, last.0, same, slice_get_within each proxy lines earlier))
-        ]
+          elim (last_or_before failures failed proxy failure failure_at) [
+            | inl failed_earlier ↦ before proxy lines failure earlier failed_earlier
+            | inr last ↦ absurd (omega (arith, last.0, same, slice_get_within each proxy lines earlier))
+          ]
       | inr last ↦
-        elim (last_or_before failures failed proxy failure failure_at) [
-          | inl failed_earlier ↦ absurd (omega (arith, last.0, same, slice_get_within failures proxy failure failed_earlier))
-          | inr failed_last ↦
-            subst (λ (place : ℕ). AreTogether runs place lines failure) (sym last.0)
-            (subst (λ (l : List Line). AreTogether runs (length each) l failure) last.1
-            (subst (λ (f : ProxyFailure). AreTogether runs (length each) own f) failed_last.1 it))
-        ]
+          elim (last_or_before failures failed proxy failure failure_at) [
+            | inl failed_earlier ↦ absurd (omega (arith, last.0, same, slice_get_within failures proxy failure failed_earlier))
+            | inr failed_last ↦
+                subst (λ (place : ℕ). AreTogether runs place lines failure) (sym last.0)
+                (subst (λ (l : List Line). AreTogether runs (length each) l failure) last.1
+                (subst (λ (f : ProxyFailure). AreTogether runs (length each) own f) failed_last.1 it))
+          ]
     ]
 
 pub lines_next : (style : Style) (each : List (List Line)) (own : List Line) → AreLines style each
@@ -221,6 +221,6 @@ lines_next style each own before it proxy lines at =
     elim (last_or_before each own proxy lines at) [
       | inl earlier ↦ before proxy lines earlier
       | inr last ↦
-        subst (λ (place : ℕ). All (IsLineOf style place) lines) (sym last.0)
-        (subst (λ (l : List Line). All (IsLineOf style (length each)) l) last.1 it)
+          subst (λ (place : ℕ). All (IsLineOf style place) lines) (sym last.0)
+          (subst (λ (l : List Line). All (IsLineOf style (length each)) l) last.1 it)
     ]

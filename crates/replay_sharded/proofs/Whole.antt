@@ -74,9 +74,9 @@ all_whole style proxies runs combined are all has = λ m e inside.
           let each = clean_each together.failures no_fault (sym together.together.lost ∙ kept) in
           let Clean : ShardRun → Type 0 = λ run. IfSome (slice_get run.failures.items k) IsClean in
           let shards =
-              zip_all_back (λ (run : ShardRun) (own : ProxyFailure). slice_get run.failures.items k ≡ Some own) Clean IsClean
-              (λ run own at is. subst (λ (o : Option ProxyFailure). IfSome o IsClean) (sym at) is) runs together.failures
-              together.of_shards each in
+          zip_all_back (λ (run : ShardRun) (own : ProxyFailure). slice_get run.failures.items k ≡ Some own) Clean IsClean
+          (λ run own at is. subst (λ (o : Option ProxyFailure). IfSome o IsClean) (sym at) is) runs together.failures
+          together.of_shards each in
           subst (λ (o : Option ProxyFailure). IfSome o IsClean) failure_at (all_at Clean runs m run shards run_at);
     }
 

@@ -1,5 +1,5 @@
-use Rattle.std.proofs.Common.{◌≡◌, ◌<◌, ◌≤◌, ◌+◌, ◌++◌, ◌∷◌, [], ◌∙◌, ℕ, List, length, take, drop, rules, refl, sym, ap, subst, arith}
-use Rattle.std.specs.Prelude.{IfSome, MatchOption, None, Option, Some, map, slice_get, true, vec_items, vec_len}
+use Rattle.std.proofs.Common.{◌≡◌, ◌<◌, ◌≤◌, ◌+◌, ◌++◌, ◌∷◌, [], ◌∙◌, ℕ, List, length, take, drop, refl, sym, ap, subst, arith}
+use Rattle.std.specs.Prelude.{IfSome, MatchOption, None, Option, map, slice_get, true, vec_items, vec_len}
 use Rattle.std.specs.List.{All, AllZip}
 use Rattle.std.specs.declared.vec.Vec.{Vec}
 use Rattle.std.proofs.Common.{Global}
@@ -41,7 +41,7 @@ put_failures-requires-clause-within c =
     let proxies = c.requires.room.0 in
     let proxy = c.loop-proxy.proxy in
     let end = c.proxies_of-proxy-end.ensures.proxies proxies
-        (subst (All (HasProxies proxies)) (sym c.deref-2.ensures.value) c.requires.room.1) in
+    (subst (All (HasProxies proxies)) (sym c.deref-2.ensures.value) c.requires.room.1) in
     let below : proxy < proxies = omega (arith, c.loop-proxy-test.true, end) in
     let Within : ShardRun → Type 0 = λ run. proxy < vec_len run.failures in
     subst (All Within) (sym c.deref-in-loop-proxy.ensures.value)
@@ -54,7 +54,7 @@ combine_proxy-requires-clause-within c =
     let proxies = c.requires.room.0 in
     let proxy = c.loop-proxy.proxy in
     let end = c.proxies_of-proxy-end.ensures.proxies proxies
-        (subst (All (HasProxies proxies)) (sym c.deref-2.ensures.value) c.requires.room.1) in
+    (subst (All (HasProxies proxies)) (sym c.deref-2.ensures.value) c.requires.room.1) in
     let below : proxy < proxies = omega (arith, c.loop-proxy-test.true, end) in
     let Within : ShardRun → Type 0 = λ run. proxy < vec_len run.answered in
     subst (All Within) (sym c.deref_mut.ensures.value)
@@ -75,17 +75,29 @@ pub push_reserved-requires : goal.push_reserved-requires
 push_reserved-requires c =
     let proxies = c.requires.room.0 in
     let end = c.proxies_of-proxy-end.ensures.proxies proxies
-        (subst (All (HasProxies proxies)) (sym c.deref-2.ensures.value) c.requires.room.1) in
-    omega (arith, c.loop-proxy-test.true, end, c.loop-proxy.invariant.lines_count, c.loop-proxy.invariant.lines_room,
-        c.requires.room.2.lines)
+    (subst (All (HasProxies proxies)) (sym c.deref-2.ensures.value) c.requires.room.1) in
+    omega (
+      arith,
+      c.loop-proxy-test.true,
+      end,
+      c.loop-proxy.invariant.lines_count,
+      c.loop-proxy.invariant.lines_room,
+      c.requires.room.2.lines,
+    )
 
 pub push_reserved-requires-in-loop-proxy : goal.push_reserved-requires-in-loop-proxy
 push_reserved-requires-in-loop-proxy c =
     let proxies = c.requires.room.0 in
     let end = c.proxies_of-proxy-end.ensures.proxies proxies
-        (subst (All (HasProxies proxies)) (sym c.deref-2.ensures.value) c.requires.room.1) in
-    omega (arith, c.loop-proxy-test.true, end, c.loop-proxy.invariant.failures_count, c.loop-proxy.invariant.failures_room,
-        c.requires.room.2.failures)
+    (subst (All (HasProxies proxies)) (sym c.deref-2.ensures.value) c.requires.room.1) in
+    omega (
+      arith,
+      c.loop-proxy-test.true,
+      end,
+      c.loop-proxy.invariant.failures_count,
+      c.loop-proxy.invariant.failures_room,
+      c.requires.room.2.failures,
+    )
 
 pub loop-proxy-preserved : goal.loop-proxy-preserved
 loop-proxy-preserved c =
@@ -117,21 +129,21 @@ loop-proxy-preserved c =
     let both : AreTogether old proxy own.items failure × All (IsLineOf c.args.style proxy) own.items =
     elim c.match-combine_proxy.branch [
       | in-Ok w ↦ (
-          subst (λ (l : Vec Line Global). AreTogether old proxy l.items failure) (sym w.own-is)
-              (subst (λ (f : ProxyFailure). AreTogether old proxy w.in-Ok.own.items f) (sym w.failure-is)
-              (together_made proxy old now w.in-Ok.own.items own_failure own_failures before.from
-              (subst (λ (runs : List ShardRun). (each : List Answered) × AreOfProxy proxy runs each
-              × AreAnswersTogether each (answers_of w.in-Ok.own.items)) c.deref_mut.ensures.value w.in-Ok.ensures.answers) of together)),
-          subst (λ (l : Vec Line Global). All (IsLineOf c.args.style proxy) l.items) (sym w.own-is) w.in-Ok.ensures.lines,
-        )
+        subst (λ (l : Vec Line Global). AreTogether old proxy l.items failure) (sym w.own-is)
+            (subst (λ (f : ProxyFailure). AreTogether old proxy w.in-Ok.own.items f) (sym w.failure-is)
+            (together_made proxy old now w.in-Ok.own.items own_failure own_failures before.from
+            (subst (λ (runs : List ShardRun). (each : List Answered) × AreOfProxy proxy runs each
+            × AreAnswersTogether each (answers_of w.in-Ok.own.items)) c.deref_mut.ensures.value w.in-Ok.ensures.answers) of together)),
+        subst (λ (l : Vec Line Global). All (IsLineOf c.args.style proxy) l.items) (sym w.own-is) w.in-Ok.ensures.lines,
+      )
       | in-Err w ↦ (
-          subst (λ (l : Vec Line Global). AreTogether old proxy l.items failure) (sym w.own-is)
-              (subst (λ (l : List Line). AreTogether old proxy l failure) (sym w.new-own.ensures.items)
-              (subst (λ (f : ProxyFailure). AreTogether old proxy [] f) (sym w.failure-is)
-              (together_lost proxies proxy old now own_failure own_failures below has before.from of together))),
-          subst (λ (l : Vec Line Global). All (IsLineOf c.args.style proxy) l.items) (sym w.own-is)
-              (subst (All (IsLineOf c.args.style proxy)) (sym w.new-own.ensures.items) (All-nil (IsLineOf c.args.style proxy))),
-        )
+        subst (λ (l : Vec Line Global). AreTogether old proxy l.items failure) (sym w.own-is)
+            (subst (λ (l : List Line). AreTogether old proxy l failure) (sym w.new-own.ensures.items)
+            (subst (λ (f : ProxyFailure). AreTogether old proxy [] f) (sym w.failure-is)
+            (together_lost proxies proxy old now own_failure own_failures below has before.from of together))),
+        subst (λ (l : Vec Line Global). All (IsLineOf c.args.style proxy) l.items) (sym w.own-is)
+            (subst (All (IsLineOf c.args.style proxy)) (sym w.new-own.ensures.items) (All-nil (IsLineOf c.args.style proxy))),
+      )
     ] in
     let takes : AllZip (TakesOf proxy) now new =
     subst (λ (l : List ShardRun). AllZip (TakesOf proxy) l new) c.deref_mut.ensures.value c.combine_proxy.ensures.others in

@@ -1,7 +1,7 @@
-use Rattle.std.proofs.Common.{◌≡◌, ◌<◌, ◌≤◌, ◌+◌, ◌++◌, ◌∷◌, [], ◌∙◌, ℕ, List, length, take, rules, refl, sym, ap, subst, arith}
-use Rattle.std.specs.Prelude.{Option, Some, map, slice_get, vec_items, vec_len}
+use Rattle.std.proofs.Common.{◌≡◌, ◌<◌, ◌≤◌, ◌+◌, ◌++◌, ◌∷◌, [], ◌∙◌, ℕ, List, length, take, sym, ap, subst, arith}
+use Rattle.std.specs.Prelude.{Some, map, slice_get, vec_items, vec_len}
 use Rattle.std.specs.List.{All, AllZip}
-use Rattle.std.specs.Vec.Iter.{into_iter_items, into_iter_len}
+use Rattle.std.specs.Vec.Iter.{into_iter_items}
 use Rattle.std.specs.declared.vec.Vec.{Vec}
 use Rattle.std.proofs.Common.{Global}
 use Rattle.std.proofs.lemmas.Grind.{common_steps}

@@ -36,7 +36,7 @@ combine_runs-requires-clause-some g c =
     let runs = c.in_ok-runs.runs in
     let each = c.in_ok-each.each in
     let count = zip_length (λ (clips : Vec (Clips g.row.S.Denot) Global) (run : ShardRun). HasProxies (vec_len clips) run) each.items
-        runs.items c.in_ok-runs.ensures.proxies in
+    runs.items c.in_ok-runs.ensures.proxies in
     let all = count_same each sharded.readers c.in_ok-each.ensures.as_many in
     omega (arith, runs.ok.0, count, each.ok.0, all, sharded.each_shard, some_shard [] sharded.points)
 
@@ -47,7 +47,7 @@ combine_runs-requires-clause-room g c =
     let each = c.in_ok-each.each in
     let room = c.in_ok-room.ensures in
     let count = zip_length (λ (clips : Vec (Clips g.row.S.Denot) Global) (run : ShardRun). HasProxies (vec_len clips) run) each.items
-        runs.items c.in_ok-runs.ensures.proxies in
+    runs.items c.in_ok-runs.ensures.proxies in
     let all = count_same each sharded.readers c.in_ok-each.ensures.as_many in
     let many : vec_len runs ≡ vec_len sharded.readers = runs.ok.0 ∙ (count ∙ (sym each.ok.0 ∙ all)) in
     let sizes = sizes_same each.items sharded.readers.items sharded.proxies c.in_ok-each.ensures.as_many sharded.each_proxy in (

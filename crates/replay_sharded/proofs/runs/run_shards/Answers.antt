@@ -71,9 +71,9 @@ returns-clause-runs g c =
     let given = map given_to c.loop-clips.started.items in
     let none : into_iter_items c.loop-clips.clips-iterator ≡ [] = first_of (search rules, grind (arith, common_steps)) in
     let whole =
-        sym (append-nil given)
-        ∙ ap (λ (l : List (Vec (Clips g.row.S.Denot) Global)). given ++ map (given_by options) l) (sym none)
-        ∙ c.loop-clips.invariant.given in
+    sym (append-nil given)
+    ∙ ap (λ (l : List (Vec (Clips g.row.S.Denot) Global)). given ++ map (given_by options) l) (sym none)
+    ∙ c.loop-clips.invariant.given in
     IfOk-weaker c.join_all.result _ _
     (λ runs works points files of.
     runs_of remaining options files c.args.each.items runs.items (shards points)
@@ -87,9 +87,9 @@ returns-clause-proxies g c =
     let given = map given_to c.loop-clips.started.items in
     let none : into_iter_items c.loop-clips.clips-iterator ≡ [] = first_of (search rules, grind (arith, common_steps)) in
     let whole =
-        sym (append-nil given)
-        ∙ ap (λ (l : List (Vec (Clips g.row.S.Denot) Global)). given ++ map (given_by options) l) (sym none)
-        ∙ c.loop-clips.invariant.given in
+    sym (append-nil given)
+    ∙ ap (λ (l : List (Vec (Clips g.row.S.Denot) Global)). given ++ map (given_by options) l) (sym none)
+    ∙ c.loop-clips.invariant.given in
     IfOk-weaker c.join_all.result _ _
     (λ runs works.
     proxies_each remaining options refl c.args.each.items runs.items
