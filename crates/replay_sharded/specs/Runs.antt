@@ -1,6 +1,6 @@
 -- The runs of all shards, each beside a reference resolver. This project's own.
-use Rattle.std.specs.Prelude.{◌≡◌, ℕ, List, map, vec_items, Option, IsSomeAnd, slice_get}
-use Rattle.std.specs.List.{AllZip}
+use Rattle.std.specs.Prelude.{◌≡◌, ℕ, List, length, map, vec_items, vec_len, Option, IsSomeAnd, slice_get}
+use Rattle.std.specs.List.{All, AllZip}
 use Rattle.std.specs.Io.KnownBytes.{IsAtEnd}
 use Rattle.serial.specs.Shards.{Shard, shards}
 use Rattle.replay_output.specs.declared.line.Line.{Line}
@@ -11,6 +11,7 @@ use Rattle.replay_output.specs.Filter.{all_lines}
 use Rattle.replay_workers.specs.Run.{IsRunOver}
 use Rattle.replay_workers.specs.Worker.{IsFaultAt}
 use Rattle.replay_shards.specs.declared.answered.Answered.{Answered}
+use Rattle.replay_shards.specs.Answered.{AreKept}
 use Rattle.replay_shards.specs.declared.clips.Clips.{Clips}
 use Rattle.replay_shards.specs.declared.note.Note.{Note}
 use Rattle.replay_sharded.specs.declared.runs.Started.{Started}
@@ -43,10 +44,13 @@ abbrev pub AreRunsOfShards : Options → List (List ℕ) → List (Option (List 
 AreRunsOfShards options points files runs = AllZip (IsRunOfShard (keeping options) files) (shards points) runs
 
 module _ {S : Type 0} where
-  -- the run of a shard, whatever files its clips are of
-  abbrev pub IsWorkOf : (S → Option (List ℕ)) → Options → List (Clips S) → ShardRun → Type 0
-  IsWorkOf remaining options clips run =
-      (shard : Shard) (files : List (Option (List ℕ))) → AreClipsOf remaining files shard clips → IsRunOfShard options files shard run
+  -- The run of a shard, whatever files its clips are of. It is of as many proxies, and its lines keep the answers if the options say so.
+  pub record IsWorkOf (remaining : S → Option (List ℕ)) (options : Options) (clips : List (Clips S)) (run : ShardRun) : Type 0 where
+    pub of_files :
+        (shard : Shard) (files : List (Option (List ℕ))) → AreClipsOf remaining files shard clips → IsRunOfShard options files shard run
+    pub answered : vec_len run.answered ≡ length clips
+    pub failures : vec_len run.failures ≡ length clips
+    pub kept : options.style.form ≡ Kept → All AreKept run.answered.items
 
   -- what the thread of a shard was given
   abbrev pub given_to : Started S → Options × List (Clips S)

@@ -1,7 +1,7 @@
 //! What all shards have answered together.
 
-ghost use Rattle.std.specs.Prelude.{◌≡◌, ◌<◌, ◌≤◌, ◌↔◌, ℕ, [], IfOk, IsTrue, List, Some, length, map};
-ghost use Rattle.std.specs.Prelude.{slice_get, true, vec_capacity, vec_len};
+ghost use Rattle.std.specs.Prelude.{◌≡◌, ◌<◌, ◌≤◌, ◌↔◌, ℕ, [], IfOk, IfSome, IsTrue, List, Some, length};
+ghost use Rattle.std.specs.Prelude.{map, slice_get, true, vec_capacity, vec_len};
 ghost use Rattle.std.specs.List.{All, AllZip};
 ghost use Rattle.replay_output.specs.Line.{IsLineOf, answers_of};
 ghost use Rattle.replay_shards.specs.Answered.{AreAnswersTogether, AreKept};
@@ -122,7 +122,7 @@ fn combine_proxy(
 ) -> Result<Vec<Line>, AllocError>
     requires some { 1 ≤ length runs.old }
     requires within { All (λ run. proxy < vec_len run.answered) runs.old }
-    requires kept { All (λ run. All AreKept run.answered.items) runs.old }
+    requires kept { All (λ run. IfSome (slice_get run.answered.items proxy) AreKept) runs.old }
     ensures answers { IfOk result (λ lines. (each : List AnsweredValue)
         × AreOfProxy proxy runs.old each × AreAnswersTogether each (answers_of lines.items)) }
     ensures lines { IfOk result (λ lines. All (IsLineOf style proxy) lines.items) }

@@ -4,10 +4,10 @@ ghost use Rattle.std.specs.Prelude.{◌≡◌, ◌≤◌, ℕ, [], IfErr, IfOk, 
 ghost use Rattle.std.specs.Prelude.{vec_capacity, vec_items, vec_len};
 ghost use Rattle.std.specs.List.{All, AllZip};
 ghost use Rattle.resolver.specs.declared.resolver_core.TheConstants.{MAX_PROXIES};
-ghost use Rattle.serial.specs.Shards.{Shard};
 ghost use Rattle.replay_shards.specs.Clips.{refusal_of_clips};
-ghost use Rattle.replay_sharded.specs.Files.{AreClipsOf, AreClipsOfShards, AreFresh};
-ghost use Rattle.replay_sharded.specs.Runs.{AreRunsOfShards, IsRunOfShard, IsWorkOf};
+ghost use Rattle.replay_sharded.specs.Combined.{HasProxies};
+ghost use Rattle.replay_sharded.specs.Files.{AreClipsOfShards, AreFresh};
+ghost use Rattle.replay_sharded.specs.Runs.{AreRunsOfShards, IsWorkOf};
 ghost use Rattle.replay_sharded.specs.Runs.{given_to, keeping};
 
 use crate::shard_run::{ShardRun, run_shard};
@@ -62,8 +62,7 @@ pub fn run_shards<
     ensures runs { IfOk result (λ runs. (points : List (List ℕ)) (files : List (Option (List ℕ)))
         → AreClipsOfShards S.remaining points files (map vec_items each.items)
         → AreRunsOfShards options points files runs.items) }
-    ensures proxies { IfOk result (λ runs. AllZip (λ clips run.
-        (vec_len run.answered ≡ vec_len clips) × (vec_len run.failures ≡ vec_len clips))
+    ensures proxies { IfOk result (λ runs. AllZip (λ clips run. HasProxies (vec_len clips) run)
         each.items runs.items) }
 {
     let options = keeping(options);

@@ -1,12 +1,11 @@
 //! What became of the run of one shard.
 
-ghost use Rattle.std.specs.Prelude.{◌≡◌, ◌≤◌, ◌&&◌, ℕ, [], IfOk, List, None, Option, map};
+ghost use Rattle.std.specs.Prelude.{◌≡◌, ◌≤◌, ◌&&◌, [], IfOk, None, map};
 ghost use Rattle.std.specs.Prelude.{vec_capacity, vec_items, vec_len};
 ghost use Rattle.std.specs.List.{All};
-ghost use Rattle.serial.specs.Shards.{Shard};
 ghost use Rattle.replay_shards.specs.Clips.{refusal_of_clips};
-ghost use Rattle.replay_sharded.specs.Files.{AreClipsOf, notes_left};
-ghost use Rattle.replay_sharded.specs.Runs.{IsRunOfShard, lines_by, notes_by};
+ghost use Rattle.replay_sharded.specs.Files.{notes_left};
+ghost use Rattle.replay_sharded.specs.Runs.{IsWorkOf, lines_by, notes_by};
 
 use observer::Unobserved;
 use replay_output::{Line, Options, ProxyFailure, StartError};
@@ -46,10 +45,7 @@ pub fn run_shard<
     requires least { 1 ≤ vec_len clips }
     requires most { vec_len clips ≤ MAX_PROXIES }
     requires fresh { All (λ own. refusal_of_clips own ≡ None) clips.items }
-    ensures run { IfOk result (λ run. (shard : Shard) (files : List (Option (List ℕ)))
-        → AreClipsOf S.remaining files shard clips.items → IsRunOfShard options files shard run) }
-    ensures proxies { IfOk result (λ run. (vec_len run.answered ≡ vec_len clips)
-        × (vec_len run.failures ≡ vec_len clips)) }
+    ensures run { IfOk result (IsWorkOf S.remaining options clips.items) }
 {
     let room = Vec::with_capacity(alloc, clips.len())?;
     let (outcome, ended, account) = run_over(

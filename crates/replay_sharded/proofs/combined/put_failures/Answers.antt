@@ -1,8 +1,7 @@
-use Rattle.std.proofs.Common.{◌≡◌, ◌<◌, length, refl, Some, ◌∷◌, [], ◌++◌, List, slice_get, subst, sym, ap, arith, take, ◌+◌}
+use Rattle.std.proofs.Common.{◌≡◌, ◌<◌, length, refl, Some, ◌∷◌, [], ◌++◌, List, slice_get, subst, sym, arith, take, ◌+◌}
 use Rattle.std.specs.Prelude.{vec_len}
 use Rattle.std.proofs.lemmas.Grind.{common_steps}
 use Rattle.std.proofs.lemmas.Option.{slice_get_read}
-use Rattle.std.specs.List.{AllZip}
 use Rattle.replay_output.specs.declared.failures.ProxyFailure.{ProxyFailure}
 use Rattle.shards.proofs.callers.Combining.{take_next}
 use Rattle.replay_workers.proofs.callers.Lists.{AllZip-also, all_at}
