@@ -131,6 +131,7 @@ pub fn run_over<
         (EndsAt B.stays ended.1.items) (O.has_seen observer.new) options streams.items
         (map vec_items ended.0.lines.items)
         ended.0.failures.items (is_complete ended.0 ended.2) ended.2.stop) }
+    ensures streams { IfOk result (λ ended. vec_len ended.1 ≡ vec_len streams) }
     ensures capacity { IfOk result
         (λ ended. All (HasCapacity options.capacity) ended.0.clients.items) }
     ensures setting { O.setting observer.new ≡ O.setting observer.old }

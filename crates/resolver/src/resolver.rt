@@ -231,6 +231,22 @@ impl Resolver {
         self.core.owed() + all_lanes::waiting(&self.all_lanes)
     }
 
+    /// Returns the number of batches that wait for their previous version.
+    pub fn held(&self) -> usize
+        ensures count { result ≡ length self.now.core.held }
+    {
+        self.core.held()
+    }
+
+    /// Returns the number of boundaries of the conflict set, that at the empty key included. It
+    /// never exceeds the limit.
+    pub fn boundaries(&self) -> usize
+        ensures count { result ≡ length self.now.core.set.map.boundaries }
+        ensures within { result ≤ self.now.core.set.map.limit }
+    {
+        self.core.set().boundaries()
+    }
+
     /// Returns how many answers were sent to the proxy, or 0 where there is no such proxy.
     pub fn sent(&self, proxy: usize) -> u64
         ensures count { result ≡ length (sent_to self.now.lanes proxy) }

@@ -1,8 +1,9 @@
 use Rattle.std.proofs.lemmas.Bool.{false≢true}
-use Rattle.std.proofs.Common.{◌≡◌, ℕ, List, [], ap, sym, subst, ◌∙◌, arith, rules, ℤ, length, w64, to_z, of_z}
+use Rattle.std.proofs.Common.{◌≡◌, ℕ, Global, List, [], ap, sym, subst, ◌∙◌, arith, rules, ℤ, length, w64, to_z, of_z}
 use Rattle.std.proofs.lemmas.Int.{ints, to_z-of_z}
-use Rattle.std.specs.Prelude.{negsuc, map, true, Option, None, IfSome, slice_get, vec_len}
+use Rattle.std.specs.Prelude.{negsuc, map, vec_items, true, Option, None, IfSome, slice_get, vec_len}
 use Rattle.std.specs.List.{All, AllZip}
+use Rattle.std.proofs.lemmas.List.{length-map}
 use Rattle.resolver.specs.declared.client.Client.{Client}
 use Rattle.resolver.specs.declared.stop.Stop.{Stop}
 use Rattle.keyspace.specs.Run.{Step}
@@ -11,6 +12,8 @@ use Rattle.resolver.specs.Resolver.{AreClients, SameClients, StandsOver}
 use Rattle.resolver.specs.Settled.{Settled}
 use Rattle.resolver.specs.Share.{share_of}
 use Rattle.resolver.proofs.callers.Lists.{written_back}
+use Rattle.replay_output.specs.declared.line.Line.{Line}
+use Rattle.replay_workers.specs.declared.threads.Worked.{Worked}
 use Rattle.replay_workers.specs.declared.worker.Finished.{Finished}
 use Rattle.replay_workers.specs.declared.outcome.Outcome.{Outcome}
 use Rattle.replay_workers.specs.Threads.{finished_of, given_each, HasWorkedOn, IsOutcomeOf}
@@ -117,9 +120,10 @@ returns g c =
     (sym c.settle-account.ensures.stop) is)) in
     let told = c.turn_to_end.ensures.accounted
     (accounted_new c.in_ok-resolver.resolver c.in_ok-resolver.ensures.stands c.in_ok-resolver.ensures.no_stop) in
+    let ran = is_run g.B.Batches.gives g.B.Batches.is_at_end g.B.Batches.is_at_fault g.B.Batches.stays c.args.options share streams clients worked.0 outcome c.join_all-outcome.result.1.items told.log resolver.lanes
+    account same c.in_ok-resolver.ensures.new_clients handed worked.2 worked.3 (settled told.log told.stands) whole (met told.log told.met) in
     record {
-      run = is_run g.B.Batches.gives g.B.Batches.is_at_end g.B.Batches.is_at_fault g.B.Batches.stays c.args.options share streams clients worked.0 outcome c.join_all-outcome.result.1.items told.log resolver.lanes
-          account same c.in_ok-resolver.ensures.new_clients handed worked.2 worked.3 (settled told.log told.stands) whole (met told.log told.met);
+      run = ran;
       observed = λ first.
           let Seen = g.O.Observer.has_seen c.turn_to_end.new.observer in
           let saw = c.turn_to_end.ensures.observed (observed_new (g.O.Observer.has_seen c.args.observer.now)
@@ -135,6 +139,18 @@ returns g c =
                 (subst (λ (stop : Option Stop). HasSeen Seen stop resolver.core.set.window saw.log)
                 (sym c.settle-account.ensures.stop) saw.seen));
           };
+      streams = omega (
+        arith,
+        c.join_all-outcome.result.1.ok.0,
+        ap length worked.3,
+        length-map worked.0 (λ (w : Worked g.row.B.Denot). w.batches),
+        ran.received_count,
+        length-map outcome.lines.items (vec_items {X = Line} {Z = Global}),
+        ap length worked.2.lines,
+        length-map (finished_of worked.0) (λ (f : Finished). f.lines),
+        length-map worked.0 (λ (w : Worked g.row.B.Denot). w.finished),
+        c.args.streams.ok.0,
+      );
       setting = c.turn_to_end.ensures.setting;
       capacity = subst (All (HasCapacity c.args.options.capacity))
           (sym (written_back outcome.clients.len now outcome.clients.items same_clients.count outcome.clients.ok.0))
