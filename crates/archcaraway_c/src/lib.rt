@@ -8,8 +8,9 @@
 //! The objects are plain values: [`SetObject`] is a conflict set that takes a batch as a frame and
 //! writes the reply as a frame; [`CoreObject`] is a [`resolver::Core`] with the same frames. A
 //! [`BatchObject`] has transactions that come without a frame, and both take it too. A
-//! [`PointsObject`] clips frames of batches to shards, and combines frames of replies. Every refusal
-//! is a [`Refusal`], a [`PointsRefusal`] or a [`CombineRefusal`], and its number is what C sees.
+//! [`PointsObject`] clips frames of batches to shards, and combines frames of replies. Every
+//! refusal is a [`Refusal`], a [`PointsRefusal`] or a [`CombineRefusal`], and its number is what C
+//! sees.
 #![tactic(auto)]
 
 mod batch_exports;

@@ -91,8 +91,8 @@ impl PointsObject {
     /// The first of these that holds decides. The bytes of the batch aren't one frame: `Frame` of
     /// `Wire` or `Behind`. From the front, a reply isn't a frame: `Reply`; bytes follow the last:
     /// `Behind`. From the front, a reply isn't one to the batch: `Misfit`. The buffer is too small:
-    /// `Frame` of `Buffer`. Memory may be refused instead: `Frame` of `Wire` of `Memory`, or `Reply`
-    /// of `Memory` while that reply is read.
+    /// `Frame` of `Buffer`. Memory may be refused instead: `Frame` of `Wire` of `Memory`, or
+    /// `Reply` of `Memory` while that reply is read.
     pub fn combine(
         &self,
         frame: &[u8],

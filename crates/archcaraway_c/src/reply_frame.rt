@@ -36,8 +36,8 @@ pub fn write_frame(frame: &[u8], buffer: &mut [u8]) -> Result<usize, Refusal>
     Ok(put_frame(frame, buffer))
 }
 
-/// Writes the frame of a reply to the front of a buffer, and returns its length. Returns `Buffer` if
-/// the buffer is shorter than that, and `Wire` of `Memory` if memory is refused.
+/// Writes the frame of a reply to the front of a buffer, and returns its length. Returns `Buffer`
+/// if the buffer is shorter than that, and `Wire` of `Memory` if memory is refused.
 pub fn write_reply(alloc: Global, reply: &Reply, buffer: &mut [u8]) -> Result<usize, Refusal>
     ensures spelled { IfOk result (λ count. SpellsReply (take count buffer.new) reply.now) }
     ensures within { IfOk result (λ count. count ≤ length buffer.new) }

@@ -47,7 +47,8 @@ impl<H, A: Allocator> Model for Chunk<H, A> {
 
     ghost view = { λ c. record {
       size = c.size;
-      cells = cells_of (with_free (slots_of c.size) (entries_of c.lengths.items c.headers.items)) c.width c.bytes.items;
+      cells = cells_of (with_free (slots_of c.size) (entries_of c.lengths.items c.headers.items))
+          c.width c.bytes.items;
     } };
 
     ghost invariant = { λ c. IsChunk c.lengths.items c.headers.items (vec_capacity c.lengths)

@@ -2,8 +2,8 @@
 
 ghost use Rattle.batches_program.specs.Opening.{MeetsEveryRange};
 
-/// The range that an opening batch writes overlaps every range that isn't empty. So a read below the
-/// version conflicts, unless its range is empty.
+/// The range that an opening batch writes overlaps every range that isn't empty. So a read below
+/// the version conflicts, unless its range is empty.
 pub fn opening_meets_every_range()
     ensures law { MeetsEveryRange }
 {}

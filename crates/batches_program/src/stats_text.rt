@@ -1,8 +1,8 @@
 //! What batches add up to, as lines.
 
 ghost use Rattle.std.specs.Prelude.{◌≡◌, ◌++◌, IfOk, OnOk, Some};
-ghost use Rattle.batches_program.specs.StatsText.{number_line, spread_line, spread_with, stats_text};
-ghost use Rattle.batches_program.specs.StatsText.{versions_line};
+ghost use Rattle.batches_program.specs.StatsText.{number_line, spread_line, spread_with};
+ghost use Rattle.batches_program.specs.StatsText.{stats_text, versions_line};
 
 use crate::failure::Failure;
 use crate::put::{put_decimal, put_mean, put_text};

@@ -140,9 +140,10 @@ impl ConflictSet {
         self.map.boundaries()
     }
 
-    /// Returns about how many bytes of memory the boundaries and the filter of single keys have used
-    /// so far. Memory of boundaries that were removed still counts, until [`ConflictSet::trim`]. The
-    /// vectors kept from batch to batch, and what the allocator adds, don't count.
+    /// Returns about how many bytes of memory the boundaries and the filter of single keys have
+    /// used so far. Memory of boundaries that were removed still counts, until
+    /// [`ConflictSet::trim`]. The vectors kept from batch to batch, and what the allocator adds,
+    /// don't count.
     pub fn bytes_held(&self) -> usize {
         self.map.bytes_held()
     }

@@ -2,13 +2,13 @@
 //!
 //! [`ConflictSet::resolve`] judges a batch after all writes that the set remembers, and remembers
 //! what the batch commits. [`ConflictSet::try_resolve`] refuses a batch that doesn't fit the limit,
-//! where `resolve` stops for good. First the history is asked, for as many read ranges of each transaction
-//! as `asking` lists, and `history` judges each transaction by the answers alone. Those that are
-//! left `in_batch` judges in order: a batch knows which gaps between its keys each of its ranges
-//! covers, and `gaps` keeps those that earlier transactions wrote. What the batch commits is marked
-//! by `marking`, its `union` is gathered by begins, and `writing` writes that. `laws` ties these
-//! parts to the reference definitions. A set that starts at a version has one write of every key,
-//! by `unknown`, in place of what was written before.
+//! where `resolve` stops for good. First the history is asked, for as many read ranges of each
+//! transaction as `asking` lists, and `history` judges each transaction by the answers alone. Those
+//! that are left `in_batch` judges in order: a batch knows which gaps between its keys each of its
+//! ranges covers, and `gaps` keeps those that earlier transactions wrote. What the batch commits is
+//! marked by `marking`, its `union` is gathered by begins, and `writing` writes that. `laws` ties
+//! these parts to the reference definitions. A set that starts at a version has one write of every
+//! key, by `unknown`, in place of what was written before.
 //!
 //! The layer above may use the contracts of [`ConflictSet`], which see it as its window, the
 //! greatest version resolved, its step map and its stop, and the laws of [`laws`].

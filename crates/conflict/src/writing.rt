@@ -34,8 +34,8 @@ use keyspace::{Batch, Entry, Txns};
 use std::alloc::AllocError;
 use stepmap::{KeyLengths, StepMap, laws};
 
-/// Raises the edge to this one, writes what the batch commits at its version, and returns the number
-/// of the ranges that it is united to. The entries are those of its transactions, in order.
+/// Raises the edge to this one, writes what the batch commits at its version, and returns the
+/// number of the ranges that it is united to. The entries are those of its transactions, in order.
 ///
 /// An error leaves the function as it was at and above the edge. If the batch is refused since it
 /// doesn't fit the limit, nothing changes.

@@ -42,7 +42,8 @@ pub struct Txns {
     write_order: Vec<u32>,
     // Of each range that is a single key; or none at all, if there is no such range.
     hashes: Vec<Option<u32>>,
-    ghost tables: { AreTables buffer.items spans.items rows.items } by { AreTables-prop buffer.items spans.items rows.items },
+    ghost tables: { AreTables buffer.items spans.items rows.items } by { AreTables-prop buffer.items
+        spans.items rows.items },
     ghost few: { vec_len rows ≤ MAX_TXNS },
 }
 
@@ -152,8 +153,8 @@ impl Txns {
         first_span(&self.rows, index) + read as u32
     }
 
-    /// Returns the index in [`Txns::ranges`] of the first write range of a transaction. Those of its
-    /// other write ranges follow.
+    /// Returns the index in [`Txns::ranges`] of the first write range of a transaction. Those of
+    /// its other write ranges follow.
     pub fn first_write_index(&self, index: usize) -> u32
         requires within { index < length self.now }
         ensures writes { (txn : TxnValue) (write : ℕ) (range : Range)
@@ -194,8 +195,8 @@ impl Txns {
     }
 
     /// Returns which of the gaps between the begins of the ranges each of these covers. The index
-    /// of a range is that in [`Txns::ranges`]. If all ranges are single keys, a key that is read and
-    /// not written may have an empty run.
+    /// of a range is that in [`Txns::ranges`]. If all ranges are single keys, a key that is read
+    /// and not written may have an empty run.
     pub fn ranks(&self) -> &Ranks
         ensures ranked { AreRankedFor (writes_in self.now) (ranges_in self.now) result.now }
         ensures exact { AreRanked (ranges_in self.now) result.now

@@ -37,7 +37,8 @@ pub struct UnorderedBatch {
     ghost rises: { previous <ℤ version },
     ghost received_from: { negsuc 0 ≤ℤ received },
     ghost received_before: { received <ℤ version },
-    ghost tables: { AreTables buffer.items spans.items rows.items } by { AreTables-prop buffer.items spans.items rows.items },
+    ghost tables: { AreTables buffer.items spans.items rows.items } by { AreTables-prop buffer.items
+        spans.items rows.items },
     ghost few: { length (txns_told buffer.items spans.items rows.items) ≤ MAX_TXNS },
 }
 

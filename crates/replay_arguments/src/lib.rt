@@ -1,8 +1,8 @@
 //! The command line of the program `replay`, and the files that it names.
 //!
 //! [`read_words`] reads the arguments. It returns a [`CommandLine`], which has one [`Task`], or a
-//! [`Refusal`] that says how the program ends. [`open_files`] opens the files by their names, through
-//! any [`Files`].
+//! [`Refusal`] that says how the program ends. [`open_files`] opens the files by their names,
+//! through any [`Files`].
 //!
 //! What a command line asks for is defined in `specs/Asks.antt`, and why arguments are of no use in
 //! `specs/Words.antt`. `specs/Opening.antt` defines what is opened.

@@ -14,8 +14,8 @@ use byteorder::{BigEndian, ByteOrder};
 use std::alloc::Global;
 use wire::{MAX_BODY_LENGTH, WireError, decode_reply};
 
-/// Returns what is at a position of a file, if decoding a batch there had this fault. The front is as
-/// much of the bytes from there on as settles what the frame says, or all of them.
+/// Returns what is at a position of a file, if decoding a batch there had this fault. The front is
+/// as much of the bytes from there on as settles what the frame says, or all of them.
 pub fn classify(alloc: Global, position: Position, front: &[u8], fault: WireError) -> Finding
     requires some { 0 < length front.now }
     requires fault { fault ≢ WireError.Memory → batch_fault front.now ≡ Some fault }

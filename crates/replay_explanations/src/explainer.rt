@@ -44,8 +44,8 @@ impl Model for Explainer {
 }
 
 impl Explainer {
-    /// Creates an explainer that has seen nothing, without taking memory. `window` is how far back a
-    /// transaction may read, in versions.
+    /// Creates an explainer that has seen nothing, without taking memory. `window` is how far back
+    /// a transaction may read, in versions.
     pub fn new(alloc: Global, window: i64, form: ExplanationForm) -> Self
         requires least_window { pos 1 ≤ℤ window }
         ensures none { HasExplained result [] }
@@ -61,7 +61,8 @@ impl Explainer {
         }
     }
 
-    /// Returns how far back a transaction may read, in versions, as [`new`](Self::new) was given it.
+    /// Returns how far back a transaction may read, in versions, as [`new`](Self::new) was given
+    /// it.
     pub fn window(&self) -> i64
         ensures window { result ≡ self.now.history.window }
     {

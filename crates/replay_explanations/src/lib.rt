@@ -5,10 +5,10 @@
 //! with a rejection by proxy and version, and [`Explainer::explanation`] returns it. The [`laws`]
 //! say that each transaction rejected as a conflict has a line, or an object.
 //!
-//! `specs/` says, in reading order, the objects of JSON (`Json`), which lines or objects a batch has
-//! (`Lines`) and what an explainer holds of the batches that it saw (`Explainer`). `forms` appends
-//! numbers, keys and ranges to a text, `lines` the lines, `json` the objects, `form` either of them,
-//! and `batch_lines` the text of a batch; `texts` keeps them.
+//! `specs/` says, in reading order, the objects of JSON (`Json`), which lines or objects a batch
+//! has (`Lines`) and what an explainer holds of the batches that it saw (`Explainer`). `forms`
+//! appends numbers, keys and ranges to a text, `lines` the lines, `json` the objects, `form` either
+//! of them, and `batch_lines` the text of a batch; `texts` keeps them.
 #![tactic(auto)]
 
 mod batch_lines;

@@ -57,8 +57,8 @@ impl Line {
         })
     }
 
-    /// Puts a note under the line, if the line is shown: further lines, in ASCII. After an error the
-    /// text is unspecified. An empty note takes no memory.
+    /// Puts a note under the line, if the line is shown: further lines, in ASCII. After an error
+    /// the text is unspecified. An empty note takes no memory.
     pub fn add_note(&mut self, note: &[u8]) -> io::Result<()>
         ensures text { OnOk result (self.new.text ≡ with_note self.old.text note.now) }
         ensures answer { self.new.answer ≡ self.old.answer }
@@ -73,8 +73,9 @@ impl Line {
         self.text.write_all(note)
     }
 
-    /// Puts a member at the end of a line of JSON, if the line is shown. `member` is ASCII without a
-    /// comma at its ends. After an error the text is unspecified. An empty member takes no memory.
+    /// Puts a member at the end of a line of JSON, if the line is shown. `member` is ASCII without
+    /// a comma at its ends. After an error the text is unspecified. An empty member takes no
+    /// memory.
     ///
     /// It is an error if the text doesn't end in `}` and a line feed, letter by letter. JSON does.
     pub fn add_member(&mut self, member: &[u8]) -> io::Result<()>

@@ -3,7 +3,8 @@
 
 ghost use Rattle.std.specs.Prelude.{◌≡◌, ◌≤◌, ◌<◌, ◌≢◌, map, true, vec_len};
 ghost use Rattle.std.specs.Io.KnownBytes.{Keeps};
-ghost use Rattle.replay_program.specs.Explained.{FailsToExplain, IsReplayedWithExplanations, explanation_form};
+ghost use Rattle.replay_program.specs.Explained.{FailsToExplain, IsReplayedWithExplanations};
+ghost use Rattle.replay_program.specs.Explained.{explanation_form};
 ghost use Rattle.replay_program.specs.Met.{HasMet};
 ghost use Rattle.replay_program.specs.Replayed.{written};
 
@@ -25,11 +26,12 @@ pub use notes::explain_lines;
 pub use report::{print_explained, report_loss};
 
 /// Replays the files of these readers as [`replay_over`](crate::replay_over) does. Prints the lines
-/// of the answers to `out`, and with each what explains the rejections in its batch: lines under it,
-/// or a member of its object of JSON.
+/// of the answers to `out`, and with each what explains the rejections in its batch: lines under
+/// it, or a member of its object of JSON.
 ///
-/// After a stop, a batch that was processed by the last step may have an answer without explanation.
-/// If memory is refused for an explanation, its proxy has a loss, and nothing is printed to `out`.
+/// After a stop, a batch that was processed by the last step may have an answer without
+/// explanation. If memory is refused for an explanation, its proxy has a loss, and nothing is
+/// printed to `out`.
 pub fn explain_over<
     S: Source + Send + Drop + 'static,
     G: Gatekeeper + ShareKeeper + Send + Sync + Drop + 'static,

@@ -3,8 +3,8 @@
 //!
 //! [`run`] is the program `replay` over any words, files and streams, and [`run_in`] takes the
 //! words from an environment. Both are in `program`. `replay` does all that follows the opening of
-//! the files if the answers are printed, `explain` if their rejections are explained too, `check` if
-//! they are compared, and `summary` if they are summarized.
+//! the files if the answers are printed, `explain` if their rejections are explained too, `check`
+//! if they are compared, and `summary` if they are summarized.
 //!
 //! What is printed is defined by `IsReplayed`, in `specs/Replayed.antt`, and how the program ends
 //! in `specs/Program.antt`. The public names of the crates below, which the program is made of, are

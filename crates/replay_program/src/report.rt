@@ -13,8 +13,8 @@ pub struct RunReport<W> {
     pub status: Status,
     /// What the run met.
     pub met: Met,
-    /// The recorder of each proxy, if it has one, at its number. Empty if answers were not printed as
-    /// they come, or if the run could not start.
+    /// The recorder of each proxy, if it has one, at its number. Empty if answers were not printed
+    /// as they come, or if the run could not start.
     pub recorders: Vec<Option<Recorder<W>>>,
     /// The writer of the file for the output, if that was created.
     pub output: Option<W>,

@@ -43,8 +43,8 @@ pub struct SummaryRequest {
 
 /// Replays the files of these readers as [`replay_over`](crate::replay_over) does, and prints the
 /// summary of all answers to `out`, and one line a failure to `error`. If they are requested, the
-/// summary lists the ranges that conflict most. Lines of answers are made as the options say, and not
-/// printed.
+/// summary lists the ranges that conflict most. Lines of answers are made as the options say, and
+/// not printed.
 ///
 /// If memory is refused for the ranges, nothing is printed to `out`, and the last proxy has a loss.
 /// After a stop, the conflicts of the last step may not be counted.

@@ -16,8 +16,8 @@ use std::alloc::{AllocError, Global};
 
 /// Combines the answers of all shards to a batch of this version: `Never` if a shard says so,
 /// otherwise `Held` if one says so, otherwise the combined reply. If the shards have replied to
-/// different batches of this version, the answer is `Never`. Each shard has its answer and its notes
-/// at its number; the notes are in the order of their versions.
+/// different batches of this version, the answer is `Never`. Each shard has its answer and its
+/// notes at its number; the notes are in the order of their versions.
 ///
 /// An error is that memory was refused.
 #[tactic(auto, using(crate::proofs::Replied::natural_of))]

@@ -33,8 +33,8 @@ struct InOrder {
 }
 
 /// Combines what all shards have answered to this proxy, and returns the lines of the combined
-/// answers, in the order of their versions. An answer that another shard lacks, as after a stop, has
-/// no line.
+/// answers, in the order of their versions. An answer that another shard lacks, as after a stop,
+/// has no line.
 ///
 /// An error is that memory was refused.
 #[tactic(auto, using(crate::proofs::Sorted::rise_each, crate::proofs::Sorted::notes_rise_each))]
@@ -46,7 +46,8 @@ pub fn combine_answered(
 ) -> Result<Vec<Line>, AllocError>
     requires some { 0 < vec_len each }
     requires kept { All AreKept each.items }
-    ensures answers { IfOk result (λ lines. AreAnswersTogether each.items (answers_of lines.items)) }
+    ensures answers { IfOk result
+        (λ lines. AreAnswersTogether each.items (answers_of lines.items)) }
     ensures lines { IfOk result (λ lines. All (IsLineOf style proxy) lines.items) }
 {
     let sorted = in_order(alloc, each)?;

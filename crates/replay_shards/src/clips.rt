@@ -1,12 +1,14 @@
 //! The batches of a file, clipped to a shard.
 
-ghost use Rattle.std.specs.Prelude.{◌≡◌, ◌<◌, ◌++◌, [], IfOk, None, OnErr, OnOk, length, map, slice_get};
+ghost use Rattle.std.specs.Prelude.{◌≡◌, ◌<◌, ◌++◌, [], IfOk, None, OnErr, OnOk, length, map};
+ghost use Rattle.std.specs.Prelude.{slice_get};
 ghost use Rattle.std.specs.Io.KnownBytes.{IsAtEnd};
 ghost use Rattle.std.specs.List.{All};
 ghost use Rattle.serial.specs.Shards.{shards};
 ghost use Rattle.replay_workers.specs.Worker.{IsFaultAt};
 ghost use Rattle.replay_shards.specs.Clips.{GivesClip, GivesNoClip, IsNotedClip};
-ghost use Rattle.replay_shards.specs.Clips.{bytes_left, failures_of, refusal_of_clips, shard_of_clips};
+ghost use Rattle.replay_shards.specs.Clips.{bytes_left, failures_of, refusal_of_clips};
+ghost use Rattle.replay_shards.specs.Clips.{shard_of_clips};
 ghost use Rattle.replay_shards.specs.Notes.{note_with};
 
 use crate::note::{Note, requests_report};

@@ -1,7 +1,8 @@
 //! The replies of all shards to a batch as one.
 
 ghost use Rattle.std.specs.Prelude.{◌≡◌, ◌<◌, ◌≤◌, ◌↔◌, ◌⊎◌, ℕ, All, Any, Contains, IfOk};
-ghost use Rattle.std.specs.Prelude.{IsTrue, MatchOption, Some, length, pos, slice_get, vec_len, ◌≤ℤ◌};
+ghost use Rattle.std.specs.Prelude.{IsTrue, MatchOption, Some, length, pos, slice_get, vec_len};
+ghost use Rattle.std.specs.Prelude.{◌≤ℤ◌};
 ghost use Rattle.std.specs.List.Sorted.{IsStrictlyIncreasing};
 ghost use Rattle.keyspace.specs.declared.reply.Entry.{Entry as EntryValue};
 ghost use Rattle.keyspace.specs.declared.batch.TheConstants.{MAX_TXNS};

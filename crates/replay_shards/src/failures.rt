@@ -32,7 +32,8 @@ pub fn failure_together(each: &[ProxyFailure]) -> ProxyFailure
 
 /// Returns the stop of the first shard that met one.
 pub fn first_stop(stops: &[Option<Stop>]) -> Option<ShardStop>
-    ensures first { MatchOption result (All (λ stop. stop ≡ None) stops.now) (IsFirstStop stops.now) }
+    ensures first { MatchOption result (All (λ stop. stop ≡ None) stops.now)
+        (IsFirstStop stops.now) }
 {
     for (shard, own) in stops.iter().enumerate() {
         if let Some(stop) = own {

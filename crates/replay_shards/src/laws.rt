@@ -10,8 +10,8 @@ ghost use Rattle.replay_shards.specs.Clips.{GaveClips, GivesClip, shard_of_clips
 
 use wire::Source;
 
-/// What a stream has given are the clips of the batches of the file, one by one and in order, and its
-/// notes are those of these batches.
+/// What a stream has given are the clips of the batches of the file, one by one and in order, and
+/// its notes are those of these batches.
 pub fn streams_give_clips<S: Source>()
     ensures clips { (shard : Shard) (first last : Clips S) (clips : List BatchValue)
         → shard_of_clips first ≡ Some shard

@@ -1,11 +1,11 @@
-//! What several resolvers of `replay` need over values: the clips that a worker sends to one of them,
-//! and the answers of all of them as one.
+//! What several resolvers of `replay` need over values: the clips that a worker sends to one of
+//! them, and the answers of all of them as one.
 //!
 //! [`Clips`] are the batches of a file, clipped to a shard: a stream that a worker sends to the
 //! resolver of that shard. No shard waits for another, so shards may answer a proxy in different
-//! orders. [`combine_answered`] combines what all of them have answered to a proxy: by version, never
-//! by position. Split points are read from a file ([`read_points`]) or chosen by the first batches
-//! ([`points_of_sample`]).
+//! orders. [`combine_answered`] combines what all of them have answered to a proxy: by version,
+//! never by position. Split points are read from a file ([`read_points`]) or chosen by the first
+//! batches ([`points_of_sample`]).
 //!
 //! `specs/` says, in reading order, which split points a file has (`Points`) and by which batches
 //! they are chosen (`Sampling`), what a stream of clips gives (`Clips`), what is kept for reports

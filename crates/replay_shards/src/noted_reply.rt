@@ -50,7 +50,8 @@ impl NotedReply<'_> {
         &self.reply.entries.as_slice()[index]
     }
 
-    // Returns the original indices of the read ranges of a transaction, or none without a note of it.
+    // Returns the original indices of the read ranges of a transaction, or none without a note of
+    // it.
     fn indices(&self, index: usize) -> &[u16]
         ensures indices { index < length (noted_in self.now).reply.entries
             → slice_get (noted_in self.now).reads index ≡ Some result.now }

@@ -1,7 +1,7 @@
 //! Split points by the first batches of files.
 
-ghost use Rattle.std.specs.Prelude.{◌≡◌, ◌≤◌, ◌+◌, ◌++◌, IfOk, List, OnOk, flat_map, map, vec_items};
-ghost use Rattle.std.specs.Prelude.{vec_len};
+ghost use Rattle.std.specs.Prelude.{◌≡◌, ◌≤◌, ◌+◌, ◌++◌, IfOk, List, OnOk, flat_map, map};
+ghost use Rattle.std.specs.Prelude.{vec_items, vec_len};
 ghost use Rattle.std.specs.List.{AllZip};
 ghost use Rattle.keyspace.specs.declared.batch.Batch.{Batch as BatchValue};
 ghost use Rattle.shards.specs.Balanced.{begins_of, IsBalanced};

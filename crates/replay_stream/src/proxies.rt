@@ -199,7 +199,8 @@ pub fn join_all<S: Source, W: Sink + Drop, R: Threads>(
         proxies.items }
     requires passed { HavePassedAll (outlets_of proxies.items) }
     ensures joined { (joined : List (Joined W))
-        × AllZip (IsJoined S.remaining (state_by W.given W.failures)) proxies.items joined × IsStreamedOf joined result }
+        × AllZip (IsJoined S.remaining (state_by W.given W.failures)) proxies.items joined
+        × IsStreamedOf joined result }
     ensures failed { result.failed ≡ streamed.failed }
 {
     let mut streamed = streamed;
@@ -227,7 +228,8 @@ fn join_recorder<W: Sink + Drop, R: Threads>(
         recorder) }
     requires closed { IsClosed outlet.old.records }
     ensures outlet { outlet.new ≡ record outlet.old { records = outlet.new.records } }
-    ensures joins { JoinsRecorder (state_by W.given W.failures) (option_map (λ r. r.handle.promise.out.value) recorder)
+    ensures joins { JoinsRecorder (state_by W.given W.failures)
+        (option_map (λ r. r.handle.promise.out.value) recorder)
         (option_map (λ r. r.handle.promise.answers.value) recorder) outlet.old.records
         outlet.new.records result }
 {

@@ -54,9 +54,10 @@ impl<W: Sink> Recorder<W> {
     fn write(&mut self, alloc: Global, answer: &Answer, progress: &Progress)
         ensures answers { self.new.answers ≡ self.old.answers }
         ensures writes { (first taken : List AnswerValue) (before : SinkState)
-            → WritesRecords first taken before (state_by W.given W.failures self.old.out) self.old.failure
-            → WritesRecords first (taken ++ answer.now ∷ []) before (state_by W.given W.failures self.new.out)
-            self.new.failure }
+            → WritesRecords first taken before (state_by W.given W.failures self.old.out)
+            self.old.failure
+            → WritesRecords first (taken ++ answer.now ∷ []) before
+            (state_by W.given W.failures self.new.out) self.new.failure }
     {
         if self.failure.is_some() {
             return;

@@ -179,8 +179,8 @@ impl<S: Source> StartedSender<S> {
 impl<W: Sink> StartedRecorder<W> {
     /// Waits for the recorder to end.
     pub fn join<R: Threads>(self, rt: &R) -> Recorder<W>
-        ensures recorded { HasRecorded (state_by W.given W.failures) self.handle.promise.answers.value
-            self.handle.promise.out.value result }
+        ensures recorded { HasRecorded (state_by W.given W.failures)
+            self.handle.promise.answers.value self.handle.promise.out.value result }
     {
         self.handle.join(rt)
     }

@@ -49,8 +49,8 @@ pub struct Finished {
     pub fault: Option<WireError>,
     /// The line of an answer could not be kept. The answers after it were dropped.
     pub lost: bool,
-    /// The batch that was read last, if it could not be sent: the answers had ended, and the lane is
-    /// left open, or the lane takes no more.
+    /// The batch that was read last, if it could not be sent: the answers had ended, and the lane
+    /// is left open, or the lane takes no more.
     pub unsent: Option<Batch>,
     /// How many batches were unanswered at most, after one was sent that nobody had admitted.
     pub most_unanswered: MostUnanswered,
@@ -107,7 +107,8 @@ pub fn work<S: Source + Drop, G: Gatekeeper + ShareKeeper, R: Wait>(
     reader: S,
     gatekeeper: &G,
 ) -> Finished
-    ensures worked { HasWorked assignment.style assignment.proxy (S.remaining reader) client result }
+    ensures worked { HasWorked assignment.style assignment.proxy (S.remaining reader)
+        client result }
     ensures within_share { IsWithinShare assignment client result }
 {
     let mut frames = read_frames(alloc, reader);
@@ -187,8 +188,8 @@ impl Worker {
     }
 
     // Sends a batch as soon as the gatekeeper, the share and the lane let it, and takes answers
-    // before each try. Hands the batch back where the answers have ended, or where the lane takes no
-    // more.
+    // before each try. Hands the batch back where the answers have ended, or where the lane takes
+    // no more.
     #[tactic(auto, using(crate::proofs::Keeping::inbox_goes_on, crate::proofs::Keeping::sends_on))]
     fn send<G: Gatekeeper + ShareKeeper, R: Wait>(
         &mut self,

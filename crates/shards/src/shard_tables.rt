@@ -56,9 +56,9 @@ pub(crate) struct ShardTables {
 }
 
 impl ShardTables {
-    /// Creates the tables of the shard, without transactions. Their keys lie in this buffer, to which
-    /// the ends of the shard are appended. Returns an error if memory is refused, or if the buffer
-    /// has more than 4 GiB.
+    /// Creates the tables of the shard, without transactions. Their keys lie in this buffer, to
+    /// which the ends of the shard are appended. Returns an error if memory is refused, or if the
+    /// buffer has more than 4 GiB.
     pub fn new(
         alloc: Global,
         buffer: Vec<u8>,

@@ -93,8 +93,8 @@ impl<const N: usize> Boundaries<N> {
         Ok(())
     }
 
-    // Returns the version at the key, and moves `next` to the key of the first boundary after it, or
-    // empties it if there is none.
+    // Returns the version at the key, and moves `next` to the key of the first boundary after it,
+    // or empties it if there is none.
     fn look_behind(&self, key: &[u8], next: &mut Vec<u8>) -> i64
         requires keys { All (λ b. IsKey b.key) self.now.boundaries }
         requires any_key { MAX_KEY_LENGTH ≤ vec_capacity next.old }

@@ -154,9 +154,9 @@ impl StepMap {
         Ok(())
     }
 
-    /// Returns about how many bytes of memory the boundaries and the filter have used so far. Memory
-    /// of boundaries that were removed still counts, until [`StepMap::trim`]. What the allocator adds
-    /// doesn't count.
+    /// Returns about how many bytes of memory the boundaries and the filter have used so far.
+    /// Memory of boundaries that were removed still counts, until [`StepMap::trim`]. What the
+    /// allocator adds doesn't count.
     pub fn bytes_held(&self) -> usize {
         let boundaries = self.boundaries.bytes_held();
         boundaries.saturating_add(self.filter.bytes_held())

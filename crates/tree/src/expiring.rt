@@ -50,7 +50,8 @@ impl<'a, P: Bound, const N: usize> LeafChange<N> for Expiring<'a, P> {
     ghost wants = { λ t items. Unit {0} };
 
     ghost gives = { λ t done run is_first next was now.
-        GivesUnexpired (P.below t.bound.now) t.count t.edge t.before done.removal run next was now };
+        GivesUnexpired (P.below t.bound.now) t.count t.edge t.before done.removal run next was
+        now };
 
     fn leaf_bound(&self) -> &P {
         self.bound

@@ -84,7 +84,8 @@ impl<'a, 'b, P: Bound, Q: Bound, R: Bound, const N: usize> LeafChange<N>
     ghost wants = { λ o items. IsPartOfPartitioned (P.below o.new.now.from.now) items };
 
     ghost gives = { λ o done. GivesWritten (P.below o.new.now.from.now) (Q.below o.new.now.to.now)
-        (R.below o.new.now.past.now) (item_of o.new.now.first) o.new.now.second o.new.now.last done.written };
+        (R.below o.new.now.past.now) (item_of o.new.now.first) o.new.now.second o.new.now.last
+        done.written };
 
     fn leaf_bound(&self) -> &Q {
         self.new.to

@@ -33,8 +33,8 @@ pub fn write_in_leaf<P: Bound, Q: Bound, R: Bound, const N: usize>(
         × (taken.new.items ≡ taken.old.items))
         (λ ended. (new.now.first.version ≡ leaf.version)
         × IsWrittenInLeaf (P.below new.now.from.now) (Q.below new.now.to.now)
-        (R.below new.now.past.now) (item_of new.now.first) new.now.second new.now.last ended (Q.bytes new.now.to.now)
-        (map item_of taken.new.items) nodes.old nodes.new leaf.slot) }
+        (R.below new.now.past.now) (item_of new.now.first) new.now.second new.now.last ended
+        (Q.bytes new.now.to.now) (map item_of taken.new.items) nodes.old nodes.new leaf.slot) }
 {
     if new.first.version != leaf.version {
         return None;
@@ -60,8 +60,8 @@ fn find_run<P: Bound, Q: Bound, R: Bound, const N: usize>(
         (Q.bytes new.now.to.now) leaf.now }
     ensures run { IfSome result (λ run. IsFoundRun (P.bytes new.now.from.now)
         (Q.bytes new.now.to.now) (P.below new.now.from.now)
-        (Q.below new.now.to.now) (R.below new.now.past.now) (P.target new.now.from.now) (Q.target new.now.to.now) new.now.last leaf.now
-        run) }
+        (Q.below new.now.to.now) (R.below new.now.past.now) (P.target new.now.from.now)
+        (Q.target new.now.to.now) new.now.last leaf.now run) }
 {
     let prefix_len = leaf.prefix_len();
     let end_head = new.to.head(prefix_len);

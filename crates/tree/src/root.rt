@@ -133,7 +133,8 @@ pub fn overwrite<P: Bound, Q: Bound, R: Bound, const N: usize>(
     requires raised { IsRaisedInTree nodes.old root.old.slot root.old.height raised.old }
     ensures items { IsChangedWithin (Q.below new.now.to.now)
         (GivesWritten (P.below new.now.from.now) (Q.below new.now.to.now)
-        (R.below new.now.past.now) (item_of new.now.first) new.now.second new.now.last result (map item_of taken.new.items)) true None
+        (R.below new.now.past.now) (item_of new.now.first) new.now.second new.now.last result
+        (map item_of taken.new.items)) true None
         (items_in nodes.old root.old.height root.old.slot)
         (items_in nodes.new root.new.height root.new.slot) }
     ensures tree { IsNewTree (Q.bytes new.now.to.now) nodes.old nodes.new root.new.slot

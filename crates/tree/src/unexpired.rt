@@ -25,8 +25,8 @@ impl Unexpired {
     // Counts one item more, of this version.
     fn after(self, edge: i64, version: i64) -> Unexpired
         requires few { self.count + 1 < 2 ^ 64 }
-        ensures counted { (key : ℕ) → IsCounted edge self (record { key = key; version = version } ∷ [])
-            result }
+        ensures counted { (key : ℕ) → IsCounted edge self
+            (record { key = key; version = version } ∷ []) result }
     {
         if is_expired(edge, self.last, version) {
             return Unexpired {

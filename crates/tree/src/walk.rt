@@ -97,8 +97,8 @@ pub trait LeafChange<const N: usize> {
     ) -> Outcome
         requires can_change { CanChangeLeaf (Self.LeafBound.bytes (bound_of self.old))
             (Self.LeafBound.below (bound_of self.old))
-            (Self.LeafBound.target (bound_of self.old)) (wants self.old) nodes.old 0 slot place.common_prefix_len
-            taken.old.items }
+            (Self.LeafBound.target (bound_of self.old)) (wants self.old) nodes.old 0 slot
+            place.common_prefix_len taken.old.items }
         ensures changed { IsChanged (Self.LeafBound.bytes (bound_of self.old)) nodes.old nodes.new 0
             slot result }
         ensures items { gives self.old self.new (map item_of taken.new.items) place.is_first
@@ -126,13 +126,14 @@ pub fn change_leaf<C: LeafChange<N>, const N: usize>(
 ) -> Outcome
     requires can_change { CanChangeLeaf (C.LeafBound.bytes (C.bound_of change.old))
         (C.LeafBound.below (C.bound_of change.old))
-        (C.LeafBound.target (C.bound_of change.old)) (C.wants change.old) nodes.old height slot place.common_prefix_len
-        taken.old.items }
+        (C.LeafBound.target (C.bound_of change.old)) (C.wants change.old) nodes.old height slot
+        place.common_prefix_len taken.old.items }
     ensures changed { IsChanged (C.LeafBound.bytes (C.bound_of change.old)) nodes.old nodes.new
         height slot result }
     ensures items { IsChangedWithin (C.LeafBound.below (C.bound_of change.old))
         (C.gives change.old change.new (map item_of taken.new.items))
-        place.is_first place.behind (items_in nodes.old height slot) (items_with nodes.new height slot (added_by result)) }
+        place.is_first place.behind (items_in nodes.old height slot)
+        (items_with nodes.new height slot (added_by result)) }
     ensures leaf_bound { C.bound_of change.new ≡ C.bound_of change.old }
 {
     if height == 0 {

@@ -15,5 +15,6 @@ pub struct Tables {
     pub spans: Vec<Span>,
     /// Each transaction, and which spans it has.
     pub rows: Vec<Row>,
-    ghost rows_fit: { AreRows 0 rows.items (vec_len spans) } by { AreRows-prop 0 rows.items (vec_len spans) },
+    ghost rows_fit: { AreRows 0 rows.items (vec_len spans) } by { AreRows-prop 0 rows.items
+        (vec_len spans) },
 }

@@ -25,8 +25,9 @@ use std::alloc::Global;
 use stepmap::StepMap;
 
 impl ConflictSet {
-    /// Judges a batch, and remembers what it commits: [`ConflictSet::resolve`] if a set is to stop at
-    /// a batch that doesn't fit the limit, and [`ConflictSet::try_resolve`] if it is to refuse it.
+    /// Judges a batch, and remembers what it commits: [`ConflictSet::resolve`] if a set is to stop
+    /// at a batch that doesn't fit the limit, and [`ConflictSet::try_resolve`] if it is to refuse
+    /// it.
     pub fn resolve_when(&mut self, batch: &Batch, when_full: WhenFull) -> Result<Reply, SetStop>
         requires rising { self.old.resolved <ℤ batch.now.version }
         ensures judged { IfOk result (λ reply. (ws : List Write) → MapCovers self.old.map ws

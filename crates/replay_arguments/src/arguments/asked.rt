@@ -44,8 +44,8 @@ pub fn asked_of<'m, 'a>(matches: &'m ArgMatches<'a>) -> Result<Asked<'m, 'a>, Mi
     })
 }
 
-// Returns the options with this style and these reports, unless a number is out of its range. `clap`
-// refuses such numbers itself.
+// Returns the options with this style and these reports, unless a number is out of its range.
+// `clap` refuses such numbers itself.
 fn options_of(matches: &ArgMatches, style: Style, reports: Reports) -> Option<Options>
     ensures numbers { IfSome result (HoldsNumbers (rows_of (found_of matches.now))) }
     ensures style { IfSome result (λ options. options.style ≡ style) }

@@ -25,7 +25,8 @@ pub struct Details {
 
 /// Returns the details. An error is the first one of something that isn't printed.
 pub fn details_of(matches: &ArgMatches, printing: Printing) -> Result<Details, Mistake>
-    ensures details { HoldsSummary (rows_of (found_of matches.now)) printing.style.form printing.summary
+    ensures details { HoldsSummary (rows_of (found_of matches.now)) printing.style.form
+        printing.summary
         → IfOk result (HoldsDetails (rows_of (found_of matches.now))) }
     ensures none { OnErr result (
         HoldsSummary (rows_of (found_of matches.now)) printing.style.form printing.summary

@@ -56,8 +56,8 @@ pub fn print_answers<W: Sink>(
 }
 
 /// Sorts the lines of each proxy by version, those of one version in the order received. An error
-/// is the number of the proxy whose lines could not be sorted, since memory was refused. The order is
-/// unspecified then.
+/// is the number of the proxy whose lines could not be sorted, since memory was refused. The order
+/// is unspecified then.
 pub fn sort_lines(alloc: Global, received: &mut [Vec<Line>]) -> Result<(), usize>
     ensures ok { OnOk result (map vec_items received.new
         ≡ map (in_order_by version_of_line) (map vec_items received.old)) }

@@ -20,7 +20,8 @@ use std::alloc::Global;
 use wire::Sink;
 
 /// Puts the explanation of each answer under its line or into it, and prints all lines and what
-/// failed, as [`print_report`] does. `received` and `failures` hold those of each proxy at its number.
+/// failed, as [`print_report`] does. `received` and `failures` hold those of each proxy at its
+/// number.
 ///
 /// If memory is refused for an explanation, nothing is printed to `out`, and its proxy has a loss
 /// from then on.

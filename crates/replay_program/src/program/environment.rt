@@ -54,7 +54,8 @@ pub fn run_in<R: Threads + Wait + Copy + Send + 'static, V: Env, F: Files, O: Si
         → Keeps (E.given error.old) (E.given error.new) }
     ensures failed { result.status ≡ Status.Failed → HasNoMemory
         (written (O.given out.old) (O.given out.new) (O.failures out.old) (O.failures out.new))
-        (written (E.given error.old) (E.given error.new) (E.failures error.old) (E.failures error.new))
+        (written (E.given error.old) (E.given error.new) (E.failures error.old)
+        (E.failures error.new))
         ⊎ ((words : List (List ℕ)) × IsFailed (state_by F.Writer.given F.Writer.failures)
         (named_files (F.contents files.now) (F.has_opened files.now) (F.cannot_open files.now)
         (F.begun files.now) (F.has_created files.now) (F.cannot_create files.now)) words result
@@ -63,7 +64,8 @@ pub fn run_in<R: Threads + Wait + Copy + Send + 'static, V: Env, F: Files, O: Si
         (E.failures error.new))) }
     ensures mistaken { result.status ≡ Status.Usage → HasReadNoText
         (written (O.given out.old) (O.given out.new) (O.failures out.old) (O.failures out.new))
-        (written (E.given error.old) (E.given error.new) (E.failures error.old) (E.failures error.new))
+        (written (E.given error.old) (E.given error.new) (E.failures error.old)
+        (E.failures error.new))
         ⊎ ((words : List (List ℕ)) × IsMistaken words) }
     ensures nothing { result.status ≡ Status.Usage → O.given out.new ≡ O.given out.old }
     ensures usage { result.status ≡ Status.Usage → (text : List ℕ)

@@ -4,7 +4,8 @@ ghost use Rattle.std.specs.Prelude.{◌≡◌, ◌≢◌, ◌<◌, ℕ, List, No
 ghost use Rattle.std.specs.Io.KnownBytes.{Keeps};
 ghost use Rattle.replay_arguments.specs.Asks.{Asks};
 ghost use Rattle.replay_program.specs.Met.{HasMet};
-ghost use Rattle.replay_program.specs.Program.{FindsDifferences, IsTaskDone, TaskFails, named_files};
+ghost use Rattle.replay_program.specs.Program.{FindsDifferences, IsTaskDone, TaskFails};
+ghost use Rattle.replay_program.specs.Program.{named_files};
 ghost use Rattle.replay_program.specs.Replayed.{written};
 ghost use Rattle.replay_stream.specs.Sinks.{state_by};
 

@@ -19,9 +19,9 @@ use std::sync::{Arc, Wait};
 use std::thread::Threads;
 use wire::{Sink, Source};
 
-/// Replays the files of these readers as [`replay_over`](crate::replay_over) does. Prints one line per answer to `out`,
-/// writes the summary of all answers, and prints one line a failure to `error`. A failure of one
-/// writer doesn't keep the text from the other.
+/// Replays the files of these readers as [`replay_over`](crate::replay_over) does. Prints one line
+/// per answer to `out`, writes the summary of all answers, and prints one line a failure to
+/// `error`. A failure of one writer doesn't keep the text from the other.
 ///
 /// If memory is refused to sort the lines or for the summary, neither text is begun.
 pub fn replay_and_summarize_over<

@@ -34,8 +34,8 @@ pub struct BesideReport {
 }
 
 /// Sorts the lines of the answers, prints them to `out` and writes their summary. Then prints what
-/// failed to `error`, as [`print_failures`] does. `received` and `failures` hold those of each proxy at
-/// its number. If one writer fails, the other is given its text all the same.
+/// failed to `error`, as [`print_failures`] does. `received` and `failures` hold those of each
+/// proxy at its number. If one writer fails, the other is given its text all the same.
 ///
 /// If memory is refused, neither text is begun. A proxy whose lines could not be sorted has a loss
 /// then, or the last one if there is no summary.

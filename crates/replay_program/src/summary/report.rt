@@ -21,13 +21,13 @@ use std::alloc::Global;
 use wire::{Failed, Sink, write_and_flush};
 
 /// Prints the summary of the answers, with the text of these ranges, to `out`, and flushes it. Then
-/// prints what failed to `error`, as [`print_failures`] does. `received` holds the lines of each proxy
-/// at its number, in the order in which the answers were received, and `failures` what failed of it.
-/// Without ranges their text is empty.
+/// prints what failed to `error`, as [`print_failures`] does. `received` holds the lines of each
+/// proxy at its number, in the order in which the answers were received, and `failures` what failed
+/// of it. Without ranges their text is empty.
 ///
-/// If memory is refused while the lines of a proxy are sorted, nothing is printed to `out`, and that
-/// proxy has a loss from then on. The last proxy has it if memory is refused for the summary, or if a
-/// number of it is beyond 64 bits.
+/// If memory is refused while the lines of a proxy are sorted, nothing is printed to `out`, and
+/// that proxy has a loss from then on. The last proxy has it if memory is refused for the summary,
+/// or if a number of it is beyond 64 bits.
 pub fn print_summary<O: Sink, E: Sink>(
     alloc: Global,
     out: &mut O,
