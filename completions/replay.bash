@@ -14,6 +14,8 @@ _replay() {
                 ' --capacity') wanted=OTHER ;;
                 ' --window') wanted=OTHER ;;
                 ' --limit') wanted=OTHER ;;
+                ' --resolvers') wanted=OTHER ;;
+                ' --split-points') wanted=FILE ;;
                 ' --only') wanted='committed conflict tooold' ;;
                 ' --versions') wanted=OTHER ;;
                 ' --check') wanted=FILE ;;
@@ -32,7 +34,7 @@ _replay() {
         :
     elif [[ ! $ended && $current == -* ]]; then
         case $command in
-            '') wanted='--capacity --window --limit --report-all --frames --json --quiet --only --versions --explain --summary --check --stream --replies -o --output --summary-to --top --verbose -h --help -V --version' ;;
+            '') wanted='--capacity --window --limit --report-all --resolvers --split-points --frames --json --quiet --only --versions --explain --summary --check --stream --replies -o --output --summary-to --top --verbose -h --help -V --version' ;;
             *) wanted=OTHER ;;
         esac
     else

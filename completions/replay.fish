@@ -4,6 +4,8 @@ complete --command replay --long-option capacity --exclusive --description 'Batc
 complete --command replay --long-option window --exclusive --description 'Versions that the resolver looks back, from 1 to 1099511627776 [default: 5000000]'
 complete --command replay --long-option limit --exclusive --description 'Boundaries that the conflict set keeps at most, from 1 to 16777216 [default: 1000000]'
 complete --command replay --long-option report-all --description 'Resolves every transaction as if it asked for its conflicting read ranges'
+complete --command replay --long-option resolvers --exclusive --description 'Resolvers, each with a shard of the keys and its own threads, from 1 to 16 [default: 1]'
+complete --command replay --long-option split-points --require-parameter --force-files --description 'With --resolvers, a file of the keys between their shards, one a line'
 complete --command replay --long-option frames --description 'Prints each reply as its frame in hexadecimal, in place of words'
 complete --command replay --long-option json --description 'Prints each answer as a line of JSON'
 complete --command replay --long-option quiet --description 'Prints no lines of answers'

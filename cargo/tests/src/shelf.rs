@@ -21,6 +21,9 @@ const BATCHES: [(&str, &[&str], &[u8]); 4] = [
 /// The files of replies that the rows name.
 const REPLIES: [(&str, &[&str]); 2] = [("same", &["100 committed", "0 empty"]), ("others", &["50 empty", "0 tooold", "100 tooold"])];
 
+/// A file of split points.
+const POINTS: (&str, &[u8]) = ("point", b"b\n");
+
 /// Files in memory. Any file can be written but one whose name is `sealed`.
 struct Shelf;
 
@@ -32,10 +35,17 @@ impl Files for Shelf {
         if let Some((_, batches, rest)) = BATCHES.iter().find(|(known, ..)| *known == name) {
             return Ok(reader(file_of(batches, rest)));
         }
+        if name == POINTS.0 {
+            return Ok(reader(POINTS.1.to_vec()));
+        }
         match REPLIES.iter().find(|(known, _)| *known == name) {
             Some((_, replies)) => Ok(reader(replies.iter().flat_map(|text| reply_frame(&reply(text))).collect())),
             None => Err(FileError::CannotOpen),
         }
+    }
+
+    fn is_regular(&self, name: &str) -> bool {
+        BATCHES.iter().any(|(known, ..)| *known == name)
     }
 
     fn create(&self, name: &str) -> Result<StdSink<Vec<u8>>, FileError> {

@@ -19,6 +19,7 @@ mod lines;
 mod program;
 mod records;
 mod replay_explanations;
+mod replay_sharded;
 mod replay_shards;
 mod reporting;
 mod reports;

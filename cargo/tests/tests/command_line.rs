@@ -55,7 +55,9 @@ fn details_text(line: &CommandLine) -> String {
     let output = line.output.map(|name| format!(" to {name}"));
     let summary = line.summary_to.map(|file| format!(" summary {:?} to {}", file.form, file.name));
     let verbose = line.verbose.then(|| " verbose".to_owned());
-    [output, summary, verbose].into_iter().flatten().collect()
+    let several = line.sharding.is_several().then(|| format!(" by {}", line.sharding.resolvers));
+    let points = line.sharding.split_points.map(|name| format!(" points {name}"));
+    [output, summary, verbose, several, points].into_iter().flatten().collect()
 }
 
 fn filter_text(filter: &Filter) -> String {
@@ -172,6 +174,23 @@ fn refused_words() {
         "--report-all --report-all f",
         "--report f",
         "--Report-all f",
+        "--resolvers 0 f",
+        "--resolvers 17 f",
+        "--resolvers many f",
+        "--resolvers 2 --resolvers 2 f",
+        "--split-points p f",
+        "--split-points p --resolvers 1 f",
+        "--split-points p --split-points q --resolvers 2 f",
+        "--resolvers 2 -",
+        "--resolvers 2 f -",
+        "--resolvers 2 --split-points - --check - f",
+        "--resolvers 2 --stream f",
+        "--resolvers 2 --explain f",
+        "--resolvers 2 --explain --json f",
+        "--resolvers 2 --report-all f",
+        "--split-points p --resolvers 2 f -o p",
+        "--split-points p --resolvers 2 f --summary-to p",
+        "--resolvers 2 --summary --top 5 f",
     ] {
         refuses(given);
     }
@@ -206,9 +225,16 @@ fn reasons_of_refusals() {
         ("--top 5 f", "error: --top is wanted with --summary\n"),
         ("--top 5 --summary-to r f", "error: --top is wanted with --summary\n"),
         ("--replies r f", "error: --replies OUT is wanted with --stream\n"),
+        ("--resolvers 2 --stream f", "error: --resolvers above 1 is wanted without --stream, --explain, --top and --report-all\n"),
+        ("--resolvers 2 --explain f", "error: --resolvers above 1 is wanted without --stream, --explain, --top and --report-all\n"),
+        ("--resolvers 2 f -", "error: --resolvers above 1 is wanted without standard input (-) as a FILE\n"),
+        ("--split-points p f", "error: --split-points POINTS is wanted with --resolvers above 1\n"),
         ("--stream --replies r f g", "error: --replies OUT is wanted once a file\n"),
         ("- f -", "error: standard input (-) can be given only once\n"),
+        ("--resolvers 2 --report-all f", "error: --resolvers above 1 is wanted without --stream, --explain, --top and --report-all\n"),
         ("f g -o g", WRITTEN_INPUT),
+        ("--resolvers 2 --split-points p f -o p", WRITTEN_INPUT),
+        ("--resolvers 2 --split-points p f --summary-to p", WRITTEN_INPUT),
         ("--check r f -o r", WRITTEN_INPUT),
         ("f --summary-to=f", WRITTEN_INPUT),
         ("--stream f g --replies r --replies f", WRITTEN_INPUT),
@@ -275,6 +301,18 @@ fn words_and_options() {
         ("--report-all --summary --top 3 a", "a | 16 5000000 1000000 report-all summary Words top 3"),
         ("--summary-to r --report-all --quiet a", "a | 16 5000000 1000000 report-all quiet summary Words to r"),
         ("-- --report-all", "--report-all | 16 5000000 1000000"),
+        ("--resolvers 1 a", "a | 16 5000000 1000000"),
+        ("--resolvers 1 -", "- | 16 5000000 1000000"),
+        ("--resolvers=+2 a b", "a b | 16 5000000 1000000 by 2"),
+        ("a --resolvers 16 --split-points=p", "a | 16 5000000 1000000 by 16 points p"),
+        ("--resolvers 2 --split-points - a", "a | 16 5000000 1000000 by 2 points -"),
+        ("--resolvers 3 --json --quiet -o r a", "a | 16 5000000 1000000 json quiet to r by 3"),
+        ("--resolvers 3 --summary a", "a | 16 5000000 1000000 summary Words by 3"),
+        ("--resolvers 3 --summary-to r a", "a | 16 5000000 1000000 summary Words to r by 3"),
+        ("--resolvers 2 --split-points - -o - a", "a | 16 5000000 1000000 to - by 2 points -"),
+        ("--resolvers 1 --report-all a", "a | 16 5000000 1000000 report-all"),
+        ("--resolvers 3 --verbose a", "a | 16 5000000 1000000 verbose by 3"),
+        ("--resolvers 3 --check - a", "a | 16 5000000 1000000 kept check - by 3"),
     ] {
         assert_eq!(read(given), expected);
     }

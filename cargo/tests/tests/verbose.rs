@@ -72,6 +72,10 @@ impl Files for Named {
         Ok(StdSource::new(Content { bytes: Cursor::new(bytes), fails }))
     }
 
+    fn is_regular(&self, name: &str) -> bool {
+        name != "folder" && bytes_of(name).is_some()
+    }
+
     fn create(&self, name: &str) -> Result<Self::Writer, FileError> {
         Ok(StdSink::new(Taking(name != "full")))
     }
@@ -187,12 +191,42 @@ fn stream_says_no_version() {
     assert_eq!(told(&["--verbose", "--stream", "--limit", "3", "writes"]), "failed: replay: stop 3 ArenaFull\n");
 }
 
+const CUT: &str = "  cut ends inside frame 2 at byte 31, 3 bytes too early: \
+    record it again, or keep the frames before it with `head -c 31`\n";
+
+/// Several resolvers: their files and a full gate are explained as those of one. They have no version in common, so nothing is said of
+/// a full arena. A file that isn't regular is not opened.
+#[test]
+fn several_resolvers() {
+    let irregular = "failed: replay: proxy 0: not a regular file\n";
+    let rows: [(&[&str], &str, &str); 11] = [
+        (&["cut"], SHORT, CUT),
+        (&["--summary", "cut"], SHORT, CUT),
+        (&["--check", "replies", "cut"], SHORT, CUT),
+        (&["json"], "failed: replay: proxy 0: wire 2 Long\n", "  json is JSON: run `batches encode`, and replay its output\n"),
+        (&["late"], "failed: replay: stop 2 GateFull\nreplay: shard 0\n", ALL_HELD),
+        (&["--summary", "gap"], "failed: replay: stop 2 GateFull\nreplay: shard 0\n", GATE_FULL),
+        (&["--limit", "1", "first"], "failed: replay: stop 3 ArenaFull\nreplay: shard 1\n", ""),
+        (&["none"], irregular, ""),
+        (&["folder"], irregular, ""),
+        (&["--split-points", "none", "first"], "failed: replay: split points: cannot open\n", ""),
+        (&["--check", "none", "first"], "failed: replay: replies 0: cannot open\n", ""),
+    ];
+    for (words, fixed, further) in rows {
+        let words: Vec<_> = ["--resolvers", "2"].iter().chain(words).copied().collect();
+        assert_eq!(told(&words), fixed, "{words:?}");
+        let verbose: Vec<_> = words.iter().chain(&["--verbose"]).copied().collect();
+        assert_eq!(told(&verbose), format!("{fixed}{further}"), "{words:?}");
+    }
+    assert_eq!(told(&["--resolvers", "2", "--verbose", "first", "second"]), "done: ");
+}
+
 const OUTPUT: &str = "  the output can't be written: free its disk, or read it to its end\n";
 
 /// A failed write has no fixed line.
 #[test]
 fn output_that_fails() {
-    let rows: [&[&str]; 7] = [
+    let rows: [&[&str]; 11] = [
         &["first"],
         &["--explain", "first"],
         &["--summary", "first"],
@@ -200,6 +234,10 @@ fn output_that_fails() {
         &["--summary-to", "to", "first"],
         &["--stream", "first"],
         &["--check", "replies", "first"],
+        &["--resolvers", "2", "first"],
+        &["--resolvers", "2", "--summary", "first"],
+        &["--resolvers", "2", "--summary-to", "to", "first"],
+        &["--resolvers", "2", "--check", "replies", "first"],
     ];
     for words in rows {
         for (verbose, expected) in [(false, "failed: ".to_owned()), (true, format!("failed: {OUTPUT}"))] {

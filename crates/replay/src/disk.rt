@@ -83,6 +83,10 @@ impl<R: fs::Files<File = File> + AllocGlobal> Files for Disk<'_, R> {
 
     ghost lacks_memory = { λ _ _. ⊤ };
 
+    ghost is_regular = { λ _ _. ⊤ };
+
+    ghost is_irregular = { λ _ _. ⊤ };
+
     ghost begun = { λ _ _. None };
 
     ghost has_created = { λ _ _. ⊤ };
@@ -93,6 +97,13 @@ impl<R: fs::Files<File = File> + AllocGlobal> Files for Disk<'_, R> {
         let input = self.input(name)?;
         let reader = BufReader::new(self.rt.alloc(), input).map_err(|_| FileError::Memory)?;
         Ok(StdSource::new(reader))
+    }
+
+    fn is_regular(&self, name: &str) -> bool {
+        match fs::metadata(self.rt, name) {
+            Ok(metadata) => metadata.is_file(),
+            Err(_) => false,
+        }
     }
 
     // What is printed to it is gathered, as for standard output, and passed on by each flush.

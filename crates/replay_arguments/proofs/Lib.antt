@@ -6,3 +6,4 @@ pub mod Summaries
 pub mod Openings
 pub mod Explaining
 pub mod Lines
+pub mod Resolvers

@@ -11,6 +11,7 @@ use Rattle.replay_output.specs.declared.options.style.Style.{Style}
 use Rattle.replay_summary.specs.declared.text.SummaryForm.{SummaryForm}
 use Rattle.replay_arguments.specs.declared.arguments.CommandLine.{CommandLine}
 use Rattle.replay_arguments.specs.declared.arguments.asked.Asked.{Asked}
+use Rattle.replay_arguments.specs.declared.arguments.sharding.Sharding.{Sharding}
 use Rattle.replay_arguments.specs.declared.arguments.summary_file.SummaryFile.{SummaryFile}
 use Rattle.replay_arguments.specs.declared.arguments.task.Task.{Task}
 use Rattle.replay_arguments.specs.declared.arguments.task.Task.TheVariants.{Print, Explain, Summarize, Stream, Check}
@@ -23,6 +24,7 @@ use Rattle.replay_arguments.specs.Words.{
   HoldsNumbers,
   HoldsOptions,
   HoldsReports,
+  HoldsSharding,
   HoldsStream,
   HoldsSummary,
   HoldsSummaryFile,
@@ -171,4 +173,5 @@ module _ (words : List (List ℕ)) (asked : Asked) (line : CommandLine) (holds :
     beside = λ some. holds.names.beside (ap is_some (sym is.summary_to) ∙ some);
     top = (task_holds (rows_of_words words) asked holds line.task is.task).1;
     verbose = subst (HoldsVerbose (rows_of_words words)) (sym is.verbose) holds.details.verbose;
+    sharding = subst (λ (sharding : Sharding). HoldsSharding (rows_of_words words) sharding) (sym is.sharding) holds.sharding;
   }

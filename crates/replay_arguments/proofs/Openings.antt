@@ -1,4 +1,4 @@
--- One file more is opened.
+-- One file more is opened, or is a regular one.
 use Rattle.std.specs.Prelude.{◌≡◌, ℕ, zero, suc, ◌+◌, ◌<◌, List, [], ◌∷◌, ◌++◌, length, map, take, Option, slice_index_or}
 use Rattle.std.specs.Borrow.{Bor}
 use Rattle.std.specs.List.{All}
@@ -40,3 +40,11 @@ module _ {R : Type 0} (remaining : R → Option (List ℕ)) (contents : List ℕ
             ∙ ap (map contents) (sym more),
         All-same has_opened _ _ more (All-push has_opened (take proxy texts) _ before.1 opened),
       )
+
+-- what holds of the first names holds of one more
+pub each_more : (Holds : List ℕ → Type 0) (names : List (Bor (List ℕ))) (proxy : ℕ) (d : Bor (List ℕ)) → proxy < length names
+    → Holds (slice_index_or names proxy d).now → All Holds (take proxy (map (λ name. name.now) names))
+    → All Holds (take (proxy + 1) (map (λ name. name.now) names))
+each_more Holds names proxy d inside one before =
+    All-same Holds _ _ (take_more (λ (name : Bor (List ℕ)). name.now) names proxy d inside)
+    (All-push Holds (take proxy (map (λ (name : Bor (List ℕ)). name.now) names)) _ before one)

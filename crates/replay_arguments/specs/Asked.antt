@@ -5,7 +5,7 @@ use Rattle.replay_output.specs.declared.options.form.Form.TheVariants.{Kept}
 use Rattle.replay_arguments.specs.Details.{HoldsDetails}
 use Rattle.replay_arguments.specs.Names.{HoldsNames}
 use Rattle.replay_arguments.specs.Printing.{HoldsPrinting}
-use Rattle.replay_arguments.specs.Words.{HoldsNumbers, HoldsReports}
+use Rattle.replay_arguments.specs.Words.{HoldsNumbers, HoldsReports, HoldsSharding}
 use Rattle.replay_arguments.specs.declared.arguments.CommandLine.{CommandLine}
 use Rattle.replay_arguments.specs.declared.arguments.asked.Asked.{Asked}
 use Rattle.replay_arguments.specs.declared.arguments.task.Task.{Task}
@@ -18,6 +18,7 @@ pub record HoldsAsked (rows : List Row) (asked : Asked) : Type 0 where
   pub style : asked.options.style ≡ asked.printing.style
   pub reports : HoldsReports rows asked.options.reports
   pub names : HoldsNames rows asked.printing asked.names
+  pub sharding : HoldsSharding rows asked.sharding
 
 -- the answers are printed at the end, without a summary or explanations
 pub record IsPrinting (asked : Asked) : Type 0 where
@@ -42,3 +43,4 @@ pub record IsLineOf (asked : Asked) (line : CommandLine) : Type 0 where
   pub summary_to : line.summary_to ≡ asked.names.summary
   pub verbose : line.verbose ≡ asked.details.verbose
   pub options : line.options ≡ asked.options
+  pub sharding : line.sharding ≡ asked.sharding

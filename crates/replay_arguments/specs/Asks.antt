@@ -11,6 +11,7 @@ use Rattle.replay_arguments.specs.Words.{
   HasInputOnce,
   HoldsExplain,
   HoldsOptions,
+  HoldsSharding,
   HoldsStream,
   HoldsSummary,
   HoldsSummaryFile,
@@ -94,3 +95,4 @@ pub record Asks (words : List (List ℕ)) (line : CommandLine) : Type 0 where
   pub beside : is_some line.summary_to ≡ true → IsBeside (rows_of_words words)
   pub top : HoldsTop (rows_of_words words) (top_of line.task)
   pub verbose : HoldsVerbose (rows_of_words words) line.verbose
+  pub sharding : HoldsSharding (rows_of_words words) line.sharding

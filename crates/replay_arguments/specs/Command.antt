@@ -8,6 +8,7 @@ use Rattle.lane.specs.declared.ends.TheConstants.{MAX_CAPACITY}
 use Rattle.conflict.specs.declared.conflict_set.TheConstants.{MAX_WINDOW}
 use Rattle.stepmap.specs.declared.step_map.TheConstants.{MAX_LIMIT}
 use Rattle.replay_arguments.specs.declared.arguments.details.TheConstants.{MAX_TOP}
+use Rattle.replay_arguments.specs.declared.arguments.sharding.TheConstants.{MAX_RESOLVERS}
 
 -- an option `--name N` with this default
 abbrev pub number_rule : List ℕ → List ℕ → ValueParser → Rule
@@ -29,6 +30,13 @@ limit_rule = number_rule (codes "limit") (codes "1000000") (Unsigned 1 MAX_LIMIT
 
 abbrev pub report_all_rule : Rule
 report_all_rule = record (new_rule (codes "report-all")) { long = Some (codes "report-all"); action = Some SetTrue }
+
+abbrev pub resolvers_rule : Rule
+resolvers_rule = number_rule (codes "resolvers") (codes "1") (Unsigned 1 MAX_RESOLVERS)
+
+-- an option `--split-points POINTS`
+abbrev pub split_points_rule : Rule
+split_points_rule = record (new_rule (codes "split-points")) { long = Some (codes "split-points"); value_names = 1 }
 
 abbrev pub frames_rule : Rule
 frames_rule = record (new_rule (codes "frames")) { long = Some (codes "frames"); action = Some SetTrue }
@@ -100,7 +108,9 @@ plain_app = new_app (codes "replay")
 
 -- the options that say how batches are resolved
 abbrev pub with_resolving : App → App
-with_resolving app = with_rule (with_rule (with_rule (with_rule app capacity_rule) window_rule) limit_rule) report_all_rule
+with_resolving app =
+    with_rule (with_rule (with_rule (with_rule (with_rule (with_rule app capacity_rule) window_rule) limit_rule) report_all_rule)
+    resolvers_rule) split_points_rule
 
 -- the options that say what is printed
 abbrev pub with_printing : App → App
@@ -114,9 +124,9 @@ with_files app =
     with_rule (with_rule (with_rule (with_rule (with_rule (with_rule (with_rule app check_rule) stream_rule) replies_rule)
     output_rule) summary_to_rule) top_rule) verbose_rule
 
--- `replay [--capacity N] [--window N] [--limit N] [--report-all] [--frames] [--json] [--quiet] [--only VERDICT] [--versions A..B]
--- [--explain] [--summary] [--check REPLIES].. [--stream] [--replies OUT].. [--output FILE] [--summary-to FILE] [--top N]
--- [--verbose] FILE..`, with `--help` and `--version`
+-- `replay [--capacity N] [--window N] [--limit N] [--report-all] [--resolvers N] [--split-points POINTS] [--frames] [--json] [--quiet]
+-- [--only VERDICT] [--versions A..B] [--explain] [--summary] [--check REPLIES].. [--stream] [--replies OUT].. [--output FILE]
+-- [--summary-to FILE] [--top N] [--verbose] FILE..`, with `--help` and `--version`
 unfoldable pub replay_app : App
 replay_app =
     with_rule (with_files (with_printing (with_resolving (record plain_app { top = record plain_app.top { has_version = true } }))))

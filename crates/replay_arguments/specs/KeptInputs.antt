@@ -17,25 +17,33 @@ named (Some names) = names
 abbrev pub is_among : List ℕ → List (List ℕ) → Bool
 is_among name names = list_any (λ other. bytes_eq other name) names
 
--- whether a file of this name is read, as one of these files of batches or of replies. That of standard input names no file there.
-abbrev pub is_read : List (List ℕ) → List (List ℕ) → List ℕ → Bool
-is_read files replies name = not (bytes_eq name standard_input) && (is_among name files || is_among name replies)
+-- whether this is the other name, if that is given
+abbrev pub is_name : List ℕ → Option (List ℕ) → Bool
+is_name name None = false
+is_name name (Some other) = bytes_eq other name
+
+-- whether a file of this name is read, as one of these files of batches or of replies, or as that of split points. That of standard input
+-- names no file there.
+abbrev pub is_read : List (List ℕ) → List (List ℕ) → Option (List ℕ) → List ℕ → Bool
+is_read files replies points name =
+    not (bytes_eq name standard_input) && (is_among name files || (is_among name replies || is_name name points))
 
 -- the same of a name that may not be given
-abbrev pub is_read_if_any : List (List ℕ) → List (List ℕ) → Option (List ℕ) → Bool
-is_read_if_any files replies None = false
-is_read_if_any files replies (Some name) = is_read files replies name
+abbrev pub is_read_if_any : List (List ℕ) → List (List ℕ) → Option (List ℕ) → Option (List ℕ) → Bool
+is_read_if_any files replies points None = false
+is_read_if_any files replies points (Some name) = is_read files replies points name
 
--- whether a file of batches or of replies is also the file for the output or for the summary, or one for records
-abbrev pub writes_input : List (List ℕ) → List (List ℕ) → Option (List ℕ) → Option (List ℕ) → List (List ℕ) → Bool
-writes_input files replies output summary records =
-    is_read_if_any files replies output || (is_read_if_any files replies summary || list_any (is_read files replies) records)
+-- whether a file of batches or of replies, or that of split points, is also the file for the output or for the summary, or one for records
+abbrev pub writes_input : List (List ℕ) → List (List ℕ) → Option (List ℕ) → Option (List ℕ) → Option (List ℕ) → List (List ℕ) → Bool
+writes_input files replies points output summary records =
+    is_read_if_any files replies points output
+    || (is_read_if_any files replies points summary || list_any (is_read files replies points) records)
 
 -- whether the same is found
 abbrev pub has_written_input : List Row → Bool
 has_written_input rows =
-    writes_input (named (all_of (codes "FILE") rows)) (named (all_of (codes "check") rows)) (first_of (codes "output") rows)
-    (first_of (codes "summary-to") rows) (named (all_of (codes "replies") rows))
+    writes_input (named (all_of (codes "FILE") rows)) (named (all_of (codes "check") rows)) (first_of (codes "split-points") rows)
+    (first_of (codes "output") rows) (first_of (codes "summary-to") rows) (named (all_of (codes "replies") rows))
 
 -- no file that is found to be written is one that is read
 abbrev pub KeepsInputs : List Row → Type 0

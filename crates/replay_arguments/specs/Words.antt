@@ -25,6 +25,8 @@ use Rattle.replay_summary.specs.declared.text.SummaryForm.TheVariants as summari
 use Rattle.replay_arguments.specs.Command.{replay_app}
 pub use Rattle.replay_arguments.specs.KeptInputs.{KeepsInputs, named, standard_input}
 use Rattle.replay_arguments.specs.declared.arguments.details.TheConstants.{MAX_TOP}
+use Rattle.replay_arguments.specs.declared.arguments.sharding.Sharding.{Sharding}
+use Rattle.replay_arguments.specs.declared.arguments.sharding.TheConstants.{MAX_RESOLVERS}
 use Rattle.replay_arguments.specs.declared.arguments.summary_file.SummaryFile.{SummaryFile}
 use Rattle.replay_arguments.specs.declared.arguments.refusal.Refusal.{Refusal}
 use Rattle.replay_arguments.specs.declared.arguments.refusal.Refusal.TheVariants.{Memory, Refused, Shown}
@@ -202,10 +204,18 @@ abbrev pub inputs_of : Option (List (List ℕ)) → ℕ
 inputs_of None = 0
 inputs_of (Some names) = count_inputs names
 
--- Of all names that are found, of files and of files of replies, at most one is that of standard input. It can be read only
--- once.
+-- the same of one name that may not be given
+abbrev pub inputs_in : Option (List ℕ) → ℕ
+inputs_in None = 0
+inputs_in (Some name) = count_inputs (name ∷ [])
+
+-- Of all names that are found, of files, of files of replies and of that of split points, at most one is that of standard input. It can be
+-- read only once.
 abbrev pub HasInputOnce : List Row → Type 0
-HasInputOnce rows = inputs_of (all_of (codes "FILE") rows) + inputs_of (all_of (codes "check") rows) ≤ 1
+HasInputOnce rows =
+    inputs_of (all_of (codes "FILE") rows)
+    + (inputs_of (all_of (codes "check") rows) + inputs_in (first_of (codes "split-points") rows))
+    ≤ 1
 
 -- whether answers are printed as they come
 abbrev pub HoldsStream : List Row → Bool → Type 0
@@ -313,6 +323,36 @@ HoldsVerbose rows verbose = one_of (codes "verbose") rows ≡ Some (bool_text ve
 abbrev pub HasVerbose : List Row → Type 0
 HasVerbose rows = (verbose : Bool) × HoldsVerbose rows verbose
 
+-- What is found for several resolvers: answers that are printed at the end, without explanations or ranges, reports of the transactions
+-- that ask for them, and files that can be opened several times.
+pub record IsShared (rows : List Row) : Type 0 where
+  pub at_end : HoldsStream rows false
+  pub unexplained : HoldsExplain rows false
+  pub no_ranges : HoldsTop rows None
+  pub asked : HoldsReports rows Asked
+  pub no_input : inputs_of (all_of (codes "FILE") rows) ≡ 0
+
+-- the number of resolvers that is found
+pub record HoldsResolvers (rows : List Row) (resolvers : ℕ) : Type 0 where
+  pub number : option_map (λ text. digits_value 10 (without_leading_plus text)) (one_of (codes "resolvers") rows) ≡ Some resolvers
+  pub least : 1 ≤ resolvers
+  pub most : resolvers ≤ MAX_RESOLVERS
+
+-- some number within its range is found
+abbrev pub HasResolvers : List Row → Type 0
+HasResolvers rows = Has (IsUnsignedIn 1 MAX_RESOLVERS) (codes "resolvers") rows
+
+-- the number of resolvers that is found, and the file of split points, if one is given
+pub record HoldsSharding (rows : List Row) (sharding : Sharding) : Type 0 where
+  pub resolvers : HoldsResolvers rows sharding.resolvers
+  pub split_points : first_of (codes "split-points") rows ≡ option_map (λ name. name.now) sharding.split_points
+  pub one : sharding.resolvers ≡ 1 → sharding.split_points ≡ None
+  pub several : 2 ≤ sharding.resolvers → IsShared rows
+
+-- some number is found that fits the other options
+abbrev pub HasSharding : List Row → Type 0
+HasSharding rows = HasResolvers rows × ((sharding : Sharding) × HoldsSharding rows sharding)
+
 -- What the options that are found ask to print is of no use: two forms, a filter that is none or beside a comparison, answers that are
 -- to be compared as they come, a summary beside another option that says what to print, or explanations without lines of words or of
 -- JSON.
@@ -340,13 +380,15 @@ pub data DetailsNothing (rows : List Row) : Type 0 where
   no_top : ¬ (HasTop rows) → DetailsNothing rows
   no_verbose : ¬ (HasVerbose rows) → DetailsNothing rows
 
--- the arguments that are found are of no use: what to print, its details, the reports, the names, or a number out of its range
+-- the arguments that are found are of no use: what to print, its details, the reports, the names, a number out of its range, or what several
+-- resolvers can't have, or one
 pub data IsOfNoUse (rows : List Row) : Type 0 where
   no_printing : PrintsNothing rows → IsOfNoUse rows
   no_details : DetailsNothing rows → IsOfNoUse rows
   no_reports : ¬ (HasReports rows) → IsOfNoUse rows
   no_numbers : ¬ (HasNumbers rows) → IsOfNoUse rows
   no_names : NamesNothing rows → IsOfNoUse rows
+  no_sharding : ¬ (HasSharding rows) → IsOfNoUse rows
 
 -- The words are mistaken: `clap` finds a mistake, or else the arguments that it finds are of no use.
 abbrev pub IsMistaken : List (List ℕ) → Type 0

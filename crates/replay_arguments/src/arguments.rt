@@ -25,12 +25,14 @@ mod names;
 mod printing;
 mod refusal;
 mod reporting;
+mod sharding;
 mod summary;
 mod summary_file;
 mod task;
 
 pub use details::MAX_TOP;
 pub use refusal::Refusal;
+pub use sharding::{MAX_RESOLVERS, Sharding};
 pub use summary_file::SummaryFile;
 pub use task::Task;
 
@@ -38,7 +40,8 @@ pub use task::Task;
 #[derive(Debug, Drop)]
 pub struct CommandLine<'a> {
     /// The names of the files of batches, from 1 to [`MAX_PROXIES`](resolver::MAX_PROXIES). At most
-    /// one name of these and of replies is [`STANDARD_INPUT`](crate::STANDARD_INPUT).
+    /// one name of these, of replies and of split points is
+    /// [`STANDARD_INPUT`](crate::STANDARD_INPUT).
     pub files: Vec<&'a str>,
     /// What is printed.
     pub task: Task<'a>,
@@ -49,6 +52,7 @@ pub struct CommandLine<'a> {
     /// A failure is explained by one more line on standard error.
     pub verbose: bool,
     pub options: Options,
+    pub sharding: Sharding<'a>,
 }
 
 /// Reads the words of the command line, of which the first is the program's name. An error says how
@@ -78,6 +82,7 @@ impl<'a> CommandLine<'a> {
             summary_to: asked.names.summary,
             verbose: asked.details.verbose,
             options: asked.options,
+            sharding: asked.sharding,
         })
     }
 }

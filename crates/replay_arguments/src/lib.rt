@@ -11,8 +11,10 @@
 mod arguments;
 mod opening;
 
-pub use arguments::{CommandLine, MAX_TOP, Refusal, SummaryFile, Task, read_words};
+pub use arguments::{
+    CommandLine, MAX_RESOLVERS, MAX_TOP, Refusal, Sharding, SummaryFile, Task, read_words,
+};
 pub use opening::{
     FileError, Files, OpeningError, STANDARD_INPUT, WrittenFile, create_files, fail_to_create,
-    fail_to_create_file, fail_to_open, open_files,
+    fail_to_create_file, fail_to_open, first_irregular, open_files,
 };

@@ -1,7 +1,7 @@
 //! The files of a command line, opened before anything else is done.
 
 ghost use Rattle.std.specs.Prelude.{◌≡◌, ◌↔◌, ◌<◌, ◌≤◌, ◌⊎◌, ℕ, [], map, length, vec_capacity};
-ghost use Rattle.std.specs.Prelude.{IfOk, IsErr, OnErr, OnOk};
+ghost use Rattle.std.specs.Prelude.{IfOk, IsErr, MatchOption, OnErr, OnOk};
 ghost use Rattle.std.specs.Io.KnownBytes.{Appends};
 ghost use Rattle.std.specs.List.{All};
 ghost use Rattle.replay_arguments.specs.Opening.{IsFirstRefused, contents_each, creating_line};
@@ -92,6 +92,21 @@ fn open_each<F: Files>(
         readers.push_reserved(reader);
     }
     Ok(readers)
+}
+
+/// Returns the index of the first of these names that isn't that of a regular file.
+pub fn first_irregular<F: Files>(files: &F, names: &[&str]) -> Option<usize>
+    ensures first { MatchOption result
+        (All (F.is_regular files.now) (map (λ name. name.now) names.now))
+        (IsFirstRefused (F.is_regular files.now) (F.is_irregular files.now)
+        (map (λ name. name.now) names.now)) }
+{
+    for (proxy, name) in names.iter().enumerate() {
+        if !files.is_regular(name) {
+            return Some(proxy);
+        }
+    }
+    None
 }
 
 /// Opens the files of these names to be written, of which each is for the answers to the proxy at

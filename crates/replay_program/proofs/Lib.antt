@@ -2,6 +2,7 @@ pub mod Reporting
 pub mod Replaying
 pub mod Meeting
 pub mod Saying
+pub mod Unopened
 pub mod Streaming
 pub mod Writers
 pub mod Programs

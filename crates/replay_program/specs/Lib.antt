@@ -5,6 +5,9 @@ pub mod Replayed
 pub mod Met
 pub mod Explained
 pub mod Summarized
+pub mod Sharded
 pub mod Streamed
 pub mod Verbose
 pub mod Program
+pub mod ShardedProgram
+pub mod Ended

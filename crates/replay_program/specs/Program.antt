@@ -11,9 +11,7 @@ use Rattle.replay_arguments.specs.declared.opening.OpeningError.TheVariants as o
 use Rattle.replay_arguments.specs.declared.opening.files.FileError.TheVariants as file_error
 use Rattle.replay_arguments.specs.declared.opening.written.WrittenFile.{WrittenFile}
 use Rattle.replay_arguments.specs.declared.opening.written.WrittenFile.TheVariants.{Output, Summary}
-use Rattle.replay_arguments.specs.Asks.{Asks}
 use Rattle.replay_arguments.specs.Opening.{IsFirstRefused, contents_each, creating_line, opening_line, written_line}
-use Rattle.replay_arguments.specs.Words.{AsksForText}
 use Rattle.replay_output.specs.declared.options.Options.{Options}
 use Rattle.replay_output.specs.declared.start.StartError.TheVariants as start
 use Rattle.replay_output.specs.Quieted.{quieted}
@@ -292,32 +290,3 @@ not_text = codes "error: invalid UTF-8 was detected in one or more arguments\n\n
 -- the arguments could not be read as text: nothing was printed, and that was reported
 abbrev pub HasReadNoText : Written → Written → Type 0
 HasReadNoText out error = (out.after ≡ out.before) × Told error not_text
-
--- help or the version was asked for, and shown
-abbrev pub HasShown : List (List ℕ) → Written → Type 0
-HasShown words standard = AsksForText words × ((text : List ℕ) × Took standard text)
-
--- help or the version was asked for, and standard output failed
-abbrev pub HasNotShown : List (List ℕ) → Written → Type 0
-HasNotShown words standard = AsksForText words × HasFailed standard
-
--- memory was refused before anything was done
-abbrev pub HasNoMemory : Written → Written → Type 0
-HasNoMemory standard error = (standard.after ≡ standard.before) × Told error (start_line start.Memory)
-
--- The program is done: it has shown help or the version, or done what the words ask for.
-abbrev pub IsDone : {W : Type 0} → (W → SinkState) → NamedFiles → List (List ℕ) → RunReport W → Written → Type 0
-IsDone state_of files words report standard =
-    HasShown words standard ⊎ ((line : CommandLine) × Asks words line × IsLineDone state_of files line report standard)
-
--- the words ask for a comparison, and there are differences
-abbrev pub HasDifferences : {W : Type 0} → (W → SinkState) → NamedFiles → List (List ℕ) → RunReport W → Written → Type 0
-HasDifferences state_of files words report standard =
-    (line : CommandLine) × Asks words line × LineFindsDifferences state_of files line report standard
-
--- The program has failed: memory was refused for the words, it has not shown help or the version, or what the words ask for has failed.
-abbrev pub IsFailed : {W : Type 0} → (W → SinkState) → NamedFiles → List (List ℕ) → RunReport W → Written → Written → Type 0
-IsFailed state_of files words report standard error =
-    HasNoMemory standard error
-    ⊎ (HasNotShown words standard
-    ⊎ ((line : CommandLine) × Asks words line × LineFailsAndSays state_of files line report standard error))

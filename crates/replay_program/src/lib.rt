@@ -4,7 +4,8 @@
 //! [`run`] is the program `replay` over any words, files and streams, and [`run_in`] takes the
 //! words from an environment. Both are in `program`. `replay` does all that follows the opening of
 //! the files if the answers are printed, `explain` if their rejections are explained too, `check`
-//! if they are compared, and `summary` if they are summarized.
+//! if they are compared, and `summary` if they are summarized. `sharded` does so with several
+//! resolvers.
 //!
 //! What is printed is defined by `IsReplayed`, in `specs/Replayed.antt`, and how the program ends
 //! in `specs/Program.antt`. The public names of the crates below, which the program is made of, are
@@ -18,6 +19,7 @@ mod program;
 mod reached;
 mod replay;
 mod report;
+mod sharded;
 mod stream;
 mod summary;
 mod verbose;
@@ -30,8 +32,8 @@ pub use met::{Ended, Met};
 pub use program::{run, run_in};
 pub use replay::{replay_and_summarize_over, replay_over};
 pub use replay_arguments::{
-    CommandLine, FileError, Files, OpeningError, Refusal, STANDARD_INPUT, SummaryFile, Task,
-    WrittenFile, create_files, fail_to_create, fail_to_create_file, fail_to_open, open_files,
+    CommandLine, FileError, Files, OpeningError, Refusal, STANDARD_INPUT, Sharding, SummaryFile,
+    Task, WrittenFile, create_files, fail_to_create, fail_to_create_file, fail_to_open, open_files,
     read_words,
 };
 pub use replay_output::{
@@ -44,5 +46,9 @@ pub use replay_workers::{
     AlwaysOpen, Assignment, Finished, Gatekeeper, MostUnanswered, ShareKeeper, Unshared, work,
 };
 pub use report::RunReport;
+pub use sharded::{
+    check_sharded_over, replay_and_summarize_sharded_over, replay_sharded_over,
+    summarize_sharded_over,
+};
 pub use stream::stream_over;
 pub use summary::{SummaryRequest, SummaryWriter, print_summary, summarize_over};

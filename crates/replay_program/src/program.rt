@@ -3,8 +3,10 @@
 ghost use Rattle.std.specs.Prelude.{◌≡◌, ℕ, List, map, string_bytes};
 ghost use Rattle.std.specs.Io.KnownBytes.{Keeps};
 ghost use Rattle.replay_arguments.specs.Words.{IsMistaken};
-ghost use Rattle.replay_program.specs.Program.{HasDifferences, IsDone, IsFailed, Told, named_files};
+ghost use Rattle.replay_program.specs.Ended.{HasDifferences, IsDone, IsFailed};
+ghost use Rattle.replay_program.specs.Program.{Told, named_files};
 ghost use Rattle.replay_program.specs.Replayed.{written};
+ghost use Rattle.replay_program.specs.ShardedProgram.{regular_files};
 ghost use Rattle.replay_stream.specs.Sinks.{state_by};
 
 use crate::report::RunReport;
@@ -20,11 +22,13 @@ mod environment;
 mod line;
 mod opened;
 mod printing;
+mod sharding;
 mod streaming;
 mod task;
 
 pub use environment::run_in;
 use line::run_line;
+use sharding::run_line_sharded;
 
 /// Runs the program on the words of its command line, of which the first is the program's name.
 /// Help is printed to `out`, and why words are refused to `error`. Else the files of batches are
@@ -48,6 +52,7 @@ pub fn run<R: Threads + Wait + Copy + Send + 'static, F: Files, O: Sink, E: Sink
         → Keeps (E.given error.old) (E.given error.new) }
     ensures failed { result.status ≡ Status.Failed
         → IsFailed (state_by F.Writer.given F.Writer.failures)
+        (regular_files (F.is_regular files.now) (F.is_irregular files.now))
         (named_files (F.contents files.now) (F.has_opened files.now) (F.cannot_open files.now)
         (F.begun files.now) (F.has_created files.now) (F.cannot_create files.now))
         (map string_bytes words.now) result
@@ -67,6 +72,9 @@ pub fn run<R: Threads + Wait + Copy + Send + 'static, F: Files, O: Sink, E: Sink
         (written (O.given out.old) (O.given out.new) (O.failures out.old) (O.failures out.new)) }
 {
     match read_words(alloc, words) {
+        Ok(line) if line.sharding.is_several() => {
+            run_line_sharded(rt, alloc, files, &line, out, error)
+        }
         Ok(line) => run_line(rt, alloc, files, &line, out, error),
         Err(refusal) => RunReport::unstarted(alloc, refusal.end(out, error)),
     }

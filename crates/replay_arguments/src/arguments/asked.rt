@@ -10,6 +10,7 @@ use crate::arguments::mistake::Mistake;
 use crate::arguments::names::{Names, names_of};
 use crate::arguments::printing::{Printing, printing_of};
 use crate::arguments::reporting::reports_of;
+use crate::arguments::sharding::{Sharding, sharding_of};
 use clap::ArgMatches;
 use replay_output::{Options, Reports, Style};
 
@@ -20,6 +21,7 @@ pub struct Asked<'m, 'a> {
     pub details: Details,
     pub options: Options,
     pub names: Names<'m, 'a>,
+    pub sharding: Sharding<'a>,
 }
 
 /// Returns what the matches ask for, unless they are of no use.
@@ -36,11 +38,13 @@ pub fn asked_of<'m, 'a>(matches: &'m ArgMatches<'a>) -> Result<Asked<'m, 'a>, Mi
         return Err(Mistake::Number);
     };
     let names = names_of(matches, printing)?;
+    let sharding = sharding_of(matches, printing, details, reports)?;
     Ok(Asked {
         printing,
         details,
         options,
         names,
+        sharding,
     })
 }
 

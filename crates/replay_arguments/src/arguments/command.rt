@@ -6,13 +6,14 @@ ghost use Rattle.replay_arguments.specs.Command.{capacity_rule, check_rule, expl
 ghost use Rattle.replay_arguments.specs.Command.{file_rule, frames_rule, json_rule, limit_rule};
 ghost use Rattle.replay_arguments.specs.Command.{number_rule};
 ghost use Rattle.replay_arguments.specs.Command.{only_rule, output_rule, quiet_rule, replay_app};
-ghost use Rattle.replay_arguments.specs.Command.{replies_rule, report_all_rule, stream_rule};
-ghost use Rattle.replay_arguments.specs.Command.{summary_rule};
+ghost use Rattle.replay_arguments.specs.Command.{replies_rule, report_all_rule, resolvers_rule};
+ghost use Rattle.replay_arguments.specs.Command.{split_points_rule, stream_rule, summary_rule};
 ghost use Rattle.replay_arguments.specs.Command.{summary_to_rule, top_rule};
 ghost use Rattle.replay_arguments.specs.Command.{verbose_rule, versions_rule, window_rule};
 ghost use Rattle.replay_arguments.specs.Command.{with_files, with_printing, with_resolving};
 
 use crate::arguments::details::MAX_TOP;
+use crate::arguments::sharding::MAX_RESOLVERS;
 use clap::builder::ValueParser;
 use clap::{Arg, ArgAction, Command};
 use conflict::MAX_WINDOW;
@@ -48,7 +49,9 @@ fn add_resolving<'a>(alloc: Global, command: Command<'a>) -> Result<Command<'a>,
         .arg(capacity(alloc))?
         .arg(window(alloc))?
         .arg(limit(alloc))?
-        .arg(report_all(alloc))
+        .arg(report_all(alloc))?
+        .arg(resolvers(alloc))?
+        .arg(split_points(alloc))
 }
 
 // Adds the options that say what is printed.
@@ -117,6 +120,26 @@ fn report_all<'a>(alloc: Global) -> Arg<'a>
         .long("report-all")
         .action(ArgAction::SetTrue)
         .help("Resolves every transaction as if it asked for its conflicting read ranges")
+}
+
+fn resolvers<'a>(alloc: Global) -> Arg<'a>
+    ensures rule { rule_of result ≡ resolvers_rule }
+    ensures local { result.global ≡ false }
+{
+    let parser = ValueParser::unsigned(1, MAX_RESOLVERS as u64);
+    number(alloc, "resolvers", "1", parser).help(
+        "Resolvers, each with a shard of the keys and its own threads, from 1 to 16",
+    )
+}
+
+fn split_points<'a>(alloc: Global) -> Arg<'a>
+    ensures rule { rule_of result ≡ split_points_rule }
+    ensures local { result.global ≡ false }
+{
+    Arg::new(alloc, "split-points")
+        .long("split-points")
+        .value_name("POINTS")
+        .help("With --resolvers, a file of the keys between their shards, one a line")
 }
 
 // An option `--name N`.

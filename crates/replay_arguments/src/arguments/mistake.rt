@@ -49,6 +49,12 @@ pub enum Mistake {
     Records,
     /// A file for the summary is given without answers alone, as words or JSON, at the end.
     SummaryFile,
+    /// Several resolvers are to do what one alone can.
+    Resolvers,
+    /// Standard input is a file of several resolvers.
+    InputOfResolvers,
+    /// Split points are given for one resolver.
+    SplitPoints,
 }
 
 impl Mistake {
@@ -91,6 +97,13 @@ impl Mistake {
             Mistake::SummaryFile => {
                 "--summary-to is wanted without --check, --stream, --summary, --explain and --frames"
             }
+            Mistake::Resolvers => {
+                "--resolvers above 1 is wanted without --stream, --explain, --top and --report-all"
+            }
+            Mistake::InputOfResolvers => {
+                "--resolvers above 1 is wanted without standard input (-) as a FILE"
+            }
+            Mistake::SplitPoints => "--split-points POINTS is wanted with --resolvers above 1",
         }
     }
 }

@@ -1,6 +1,6 @@
 //! The opening of the program's files.
 
-ghost use Rattle.std.specs.Prelude.{◌≡◌, ℕ, List, Option, IfOk, OnOk};
+ghost use Rattle.std.specs.Prelude.{◌≡◌, ℕ, List, Option, IfOk, OnOk, false, true};
 
 use wire::{Sink, Source};
 
@@ -34,6 +34,12 @@ pub trait Files {
     // Memory is refused in the opening of the file of this name, to be read or written.
     ghost lacks_memory: { Self → List ℕ → Type 0 };
 
+    // The name is that of a regular file: each opening gives its bytes from the beginning.
+    ghost is_regular: { Self → List ℕ → Type 0 };
+
+    // The name is that of no regular file.
+    ghost is_irregular: { Self → List ℕ → Type 0 };
+
     // The bytes that a new writer of the file of this name was given, if they are reported.
     ghost begun: { Self → List ℕ → Option (List ℕ) };
 
@@ -50,6 +56,12 @@ pub trait Files {
         ensures opened { OnOk result (has_opened self.now name.now) }
         ensures refused { result ≡ Err FileError.CannotOpen → cannot_open self.now name.now }
         ensures memory { result ≡ Err FileError.Memory → lacks_memory self.now name.now };
+
+    /// Returns whether the name is that of a regular file, which can be opened several times: not
+    /// that of a pipe, of a folder, or of no file.
+    fn is_regular(&self, name: &str) -> bool
+        ensures regular { result ≡ true → is_regular self.now name.now }
+        ensures irregular { result ≡ false → is_irregular self.now name.now };
 
     /// Opens the file of this name, to be written from its beginning. Creates it, if there is none.
     fn create(&self, name: &str) -> Result<Self::Writer, FileError>

@@ -2,8 +2,9 @@
 
 ghost use Rattle.std.specs.Prelude.{◌≡◌, ◌<◌, ◌⊎◌, ℕ, List};
 ghost use Rattle.std.specs.Io.KnownBytes.{Appends, Keeps};
-ghost use Rattle.replay_program.specs.Program.{HasDifferences, HasNoMemory, HasReadNoText, IsDone};
-ghost use Rattle.replay_program.specs.Program.{IsFailed, Told, named_files, not_text};
+ghost use Rattle.replay_program.specs.Ended.{HasDifferences, HasNoMemory, IsDone, IsFailed};
+ghost use Rattle.replay_program.specs.Program.{HasReadNoText, Told, named_files, not_text};
+ghost use Rattle.replay_program.specs.ShardedProgram.{regular_files};
 ghost use Rattle.replay_program.specs.Replayed.{written};
 ghost use Rattle.replay_stream.specs.Sinks.{state_by};
 ghost use Rattle.replay_output.specs.Start.{start_line};
@@ -57,6 +58,7 @@ pub fn run_in<R: Threads + Wait + Copy + Send + 'static, V: Env, F: Files, O: Si
         (written (E.given error.old) (E.given error.new) (E.failures error.old)
         (E.failures error.new))
         ⊎ ((words : List (List ℕ)) × IsFailed (state_by F.Writer.given F.Writer.failures)
+        (regular_files (F.is_regular files.now) (F.is_irregular files.now))
         (named_files (F.contents files.now) (F.has_opened files.now) (F.cannot_open files.now)
         (F.begun files.now) (F.has_created files.now) (F.cannot_create files.now)) words result
         (written (O.given out.old) (O.given out.new) (O.failures out.old) (O.failures out.new))

@@ -130,8 +130,8 @@ fn do_line<R: Threads + Wait + Copy + Send + 'static, F: Files, O: Sink, E: Sink
     }
 }
 
-// Explains a failure, if the command line asks for that.
-fn say_more<F: Files, E: Sink>(
+/// Explains a failure, if the command line asks for that.
+pub fn say_more<F: Files, E: Sink>(
     alloc: Global,
     files: &F,
     line: &CommandLine,

@@ -24,15 +24,23 @@ returns-in_err-names-clause-none c =
     let printing = c.in_ok-printing.ensures.printing in
     on_err _ (IsOfNoUse.no_names (c.in_err-names.ensures.none printing.form printing.stream printing.summary printing.explain))
 
+pub returns-in_err-sharding-clause-none : goal.returns-in_err-sharding-clause-none
+returns-in_err-sharding-clause-none c =
+    let printing = c.in_ok-printing.ensures.printing in
+    let details = c.in_ok-details.ensures.details printing.summary in
+    on_err _ (IsOfNoUse.no_sharding (c.in_err-sharding.ensures.none printing.stream printing.explain details.top c.in-Some.ensures.reports))
+
 pub returns-clause-asked : goal.returns-clause-asked
 returns-clause-asked c =
     let printing = c.in_ok-printing.ensures.printing in
+    let details = c.in_ok-details.ensures.details printing.summary in
     record {
       printing = printing;
-      details = c.in_ok-details.ensures.details printing.summary;
+      details = details;
       numbers = c.in-Some-options_of.ensures.numbers;
       style = c.in-Some-options_of.ensures.style;
       reports = subst (λ (reports : Reports). HoldsReports (rows_of (found_of c.args.matches.now)) reports)
           (sym c.in-Some-options_of.ensures.reports) c.in-Some.ensures.reports;
       names = c.in_ok-names.ensures.names printing.form printing.stream printing.summary printing.explain;
+      sharding = c.in_ok-sharding.ensures.sharding printing.stream printing.explain details.top c.in-Some.ensures.reports;
     }

@@ -1,0 +1,11 @@
+pub mod Viewed
+pub mod Readings
+pub mod Taking
+pub mod Kept
+pub mod Works
+pub mod Sizes
+pub mod SameFile
+pub mod Whole
+pub mod Logs
+pub mod Merged
+pub mod Resolved

@@ -1,0 +1,5 @@
+-- In reading order.
+pub mod Files
+pub mod Runs
+pub mod Combined
+pub mod Sharded

@@ -1,0 +1,87 @@
+-- What several resolvers answer, beside the bytes of the files. That each resolver gets the ranges of its keys, and that a transaction
+-- commits if all of them commit it, is FoundationDB's (paper, SIGMOD 2021). That no resolver waits for another is this project's own.
+use Rattle.std.specs.Prelude.{◌≡◌, ℕ, ℤ, List, [], length, map, Option, Some, slice_get, Contains}
+use Rattle.std.specs.List.{All, AllZip}
+use Rattle.keyspace.specs.declared.batch.Batch.{Batch}
+use Rattle.keyspace.specs.declared.answer.Answer.{Answer}
+use Rattle.keyspace.specs.Processed.{Processed}
+use Rattle.keyspace.specs.Chain.{IsChain}
+use Rattle.keyspace.specs.Run.{Step, run, answers, part}
+use Rattle.serial.specs.Serial.{IsSerializable}
+use Rattle.serial.specs.Replies.{IsCommittedAt, ReportsCommitted}
+use Rattle.serial.specs.Shards.{IsRising, Shard, shards}
+use Rattle.shards.specs.Clips.{IsBatchClip}
+use Rattle.resolver.specs.Resolver.{TakesOnlyFrom, FinishesLast}
+use Rattle.replay_output.specs.declared.options.Options.{Options}
+use Rattle.replay_shards.specs.declared.note.Note.{Note}
+use Rattle.replay_shards.specs.Merging.{AreMerged}
+use Rattle.replay_shards.specs.Notes.{notes_of}
+use Rattle.replay_sharded.specs.declared.combined.Combined.{Combined}
+use Rattle.replay_sharded.specs.declared.shard_run.ShardRun.{ShardRun}
+use Rattle.replay_sharded.specs.Combined.{AreCombined, HasProxies}
+use Rattle.replay_sharded.specs.Files.{IsFileOf}
+use Rattle.replay_sharded.specs.Runs.{AreRunsOfShards}
+
+-- No proxy sends two different batches of one version. `sent` has the batches of each proxy, as they were sent. A repeat is the same batch.
+abbrev pub SendsOnce : List (List Batch) → Type 0
+SendsOnce sent =
+    (proxy : ℕ) (own : List Batch) (one other : Batch) → slice_get sent proxy ≡ Some own → Contains own one → Contains own other
+    → one.version ≡ other.version → one ≡ other
+
+-- the log of a shard takes the clips of each proxy's batches, once, in order, and no others
+pub record IsLogOfShard (window : ℤ) (sent : List (List Batch)) (shard : Shard) (log : List Step) : Type 0 where
+  pub proxies : TakesOnlyFrom (length sent) log
+  pub clips :
+      (proxy : ℕ) (own : List Batch) → slice_get sent proxy ≡ Some own → AllZip (IsBatchClip shard) own (part log proxy)
+  -- what the shard processed follows the chain of versions
+  pub chain : IsChain window (run window log).processed
+  -- no clip is left unanswered
+  pub finish : FinishesLast log
+
+-- what the reference resolver of each shard answers to the proxy, and the notes of the batches that the proxy has sent
+abbrev pub answers_by_shard : ℤ → List (List Step) → ℕ → List (List Answer)
+answers_by_shard window logs proxy = map (λ log. answers window log proxy) logs
+
+abbrev pub notes_by_shard : List (List ℕ) → List Batch → List (List Note)
+notes_by_shard points own = map (λ shard. notes_of shard own) (shards points)
+
+-- The transactions that these answers report as committed, of each proxy at its number, are those of a list of batches, and can be run one
+-- at a time, in the order of commit, so that each reads what it has read.
+pub record CommitsSerializably (together : List (List Answer)) : Type 0 where
+  pub processed : List Processed
+  pub serializable : IsSerializable processed
+  pub reported :
+      (proxy : ℕ) (own : List Answer) (version : ℤ) (j : ℕ) → slice_get together proxy ≡ Some own → ReportsCommitted own version j
+      → IsCommittedAt processed proxy version j
+  pub all_reported :
+      (proxy : ℕ) (own : List Answer) (version : ℤ) (j : ℕ) → slice_get together proxy ≡ Some own
+      → IsCommittedAt processed proxy version j → ReportsCommitted own version j
+
+-- All files were read and resolved by a resolver per shard, and these are the combined answers to each proxy.
+pub record IsResolvedByShards (points : List (List ℕ)) (window : ℤ) (files : List (Option (List ℕ))) (together : List (List Answer))
+    : Type 0 where
+  pub rising : IsRising [] points
+  -- the batches of each file, each once, in order, and nothing else
+  pub sent : List (List Batch)
+  pub each_file : AllZip IsFileOf files sent
+  -- for each shard, one log of the reference resolver
+  pub logs : List (List Step)
+  pub each_shard : AllZip (IsLogOfShard window sent) (shards points) logs
+  -- the answers are those of all shards together: matched by version, in whatever order each shard has answered
+  pub count : length together ≡ length files
+  pub each_proxy :
+      (proxy : ℕ) (own : List Batch) (answers : List Answer) → slice_get sent proxy ≡ Some own → slice_get together proxy ≡ Some answers
+      → AreMerged (answers_by_shard window logs proxy) (notes_by_shard points own) answers
+  -- every batch has its answer, as often as it was sent
+  pub all_answered :
+      (proxy : ℕ) (own : List Batch) (answers : List Answer) → slice_get sent proxy ≡ Some own → slice_get together proxy ≡ Some answers
+      → length answers ≡ length own
+  pub serializable : SendsOnce sent → CommitsSerializably together
+
+-- the runs of all shards over files with these bytes, and what they are together
+pub record AreRunsTogether (points : List (List ℕ)) (options : Options) (files : List (Option (List ℕ))) (combined : Combined) : Type 0
+  where
+    pub runs : List ShardRun
+    pub each : AreRunsOfShards options points files runs
+    pub proxies : All (HasProxies (length files)) runs
+    pub together : AreCombined options.style runs combined
