@@ -1,6 +1,7 @@
 -- What the program prints with several resolvers, beside the bytes of its files. This project's own.
 use Rattle.std.specs.Prelude.{◌≡◌, ◌⊎◌, ◌<◌, ℕ, ℤ, Bool, List, [], length, map, codes, ◌++◌, vec_items, Option, None, Some, IfSome, option_map}
 use Rattle.std.specs.Fmt.{decimal}
+use Rattle.std.specs.List.{All}
 use Rattle.std.specs.Io.KnownBytes.{Appends}
 use Rattle.keyspace.specs.declared.answer.Answer.{Answer}
 use Rattle.keyspace.specs.declared.reply.Reply.{Reply}
@@ -12,13 +13,14 @@ use Rattle.replay_output.specs.declared.failures.ProxyFailure.{ProxyFailure}
 use Rattle.replay_output.specs.declared.line.Line.{Line}
 use Rattle.replay_output.specs.declared.options.Options.{Options}
 use Rattle.replay_output.specs.declared.options.form.Form.{Form}
-use Rattle.replay_output.specs.Line.{TakesToSort}
+use Rattle.replay_output.specs.Line.{TakesToSort, answers_of}
 use Rattle.replay_output.specs.Lines.{lines}
 use Rattle.replay_summary.specs.declared.text.SummaryForm.{SummaryForm}
 use Rattle.replay_sharded.specs.declared.combined.Combined.{Combined}
 use Rattle.replay_shards.specs.declared.failures.ShardStop.{ShardStop}
 use Rattle.replay_sharded.specs.declared.shard_run.ShardRun.{ShardRun}
-use Rattle.replay_sharded.specs.Combined.{stop_of}
+use Rattle.replay_sharded.specs.Combined.{HasAllAnswers, stop_of}
+use Rattle.replay_sharded.specs.Files.{IsKnown}
 use Rattle.replay_sharded.specs.Runs.{AreRunsOfShards}
 use Rattle.replay_sharded.specs.Sharded.{AreRunsTogether, IsResolvedByShards, SendsOnce}
 use Rattle.replay_shards.specs.Failures.{IsFirstStop}
@@ -38,6 +40,10 @@ use Rattle.replay_program.specs.Replayed.{
 }
 use Rattle.replay_program.specs.Summarized.{BothFailed, TakesToSummarize, run_summary}
 
+-- the combined answers to each proxy
+abbrev pub together_of : Combined → List (List Answer)
+together_of combined = map answers_of (map vec_items combined.lines.items)
+
 -- The transactions whose words say that they were committed, of these answers, can be run one at a time, in the order of commit, and each
 -- reads what it has read. The words say so of no others.
 pub record WordsAreSerializable (form : Form) (together : List (List Answer)) : Type 0 where
@@ -53,11 +59,16 @@ pub record WordsAreSerializable (form : Form) (together : List (List Answer)) : 
 -- All files were read and resolved by a resolver per shard, and this was printed of the combined answers: of those that are shown.
 pub record IsReplayedByShardsBy (Printed : List (List Answer) → Type 0) (points : List (List ℕ)) (options : Options)
     (files : List (Option (List ℕ))) : Type 0 where
-  pub together : List (List Answer)
-  pub resolved : IsResolvedByShards points options.window files together
-  -- if no proxy sends two different batches of one version
-  pub words : SendsOnce resolved.sent → WordsAreSerializable options.style.form together
-  pub printed : Printed together
+  pub combined : Combined
+  pub runs : AreRunsTogether points options files combined
+  pub all : HasAllAnswers combined
+  -- if the bytes of all files are known
+  pub resolved : All IsKnown files → IsResolvedByShards points options.window files (together_of combined)
+  -- and if no proxy sends two different batches of one version
+  pub words :
+      (known : All IsKnown files) → SendsOnce (resolved known).sent
+      → WordsAreSerializable options.style.form (together_of combined)
+  pub printed : Printed (together_of combined)
 
 -- the text printed is the lines of the combined answers that are shown
 abbrev pub IsReplayedByShards : List (List ℕ) → Options → List (Option (List ℕ)) → Option (List ℕ) → Option (List ℕ) → Type 0

@@ -17,16 +17,12 @@ use Rattle.replay_output.specs.declared.options.Options.{Options}
 use Rattle.replay_workers.specs.Batches.{GivesEach}
 use Rattle.replay_workers.proofs.callers.Lists.{all_at, found, mapped_at}
 use Rattle.replay_sharded.specs.declared.shard_run.ShardRun.{ShardRun}
-use Rattle.replay_sharded.specs.Files.{IsFileOf, unread}
+use Rattle.replay_sharded.specs.Files.{IsFileOf, IsKnown, unread}
 use Rattle.replay_sharded.specs.Runs.{IsRunOfShard, lines_by}
 use Rattle.replay_sharded.specs.Sharded.{IsLogOfShard}
 use Rattle.replay_sharded.proofs.SameFile.{HasOneSpelling, same_batches}
 use Rattle.replay_sharded.proofs.Taking.{zip_length}
 use Rattle.replay_sharded.proofs.Whole.{IsWhole, originals_of}
-
--- the bytes of the file are known
-abbrev pub IsKnown : Option (List ℕ) → Type 0
-IsKnown file = (bytes : List ℕ) × (file ≡ Some bytes)
 
 pub same_file : HasOneSpelling → (file : Option (List ℕ)) (one other : List Batch) → IsKnown file → IsFileOf file one → IsFileOf file other
     → one ≡ other

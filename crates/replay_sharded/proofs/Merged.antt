@@ -16,9 +16,9 @@ use Rattle.replay_shards.specs.declared.answered.Answered.{Answered}
 use Rattle.replay_shards.specs.declared.note.Note.{Note}
 use Rattle.replay_sharded.specs.declared.shard_run.ShardRun.{ShardRun}
 use Rattle.replay_sharded.specs.Combined.{AreOfProxy}
-use Rattle.replay_sharded.specs.Files.{IsFileOf, unread}
+use Rattle.replay_sharded.specs.Files.{IsFileOf, IsKnown, unread}
 use Rattle.replay_sharded.specs.Runs.{IsRunOfShard, lines_by}
-use Rattle.replay_sharded.proofs.Logs.{IsKnown, logs_of, same_file, zip_at}
+use Rattle.replay_sharded.proofs.Logs.{logs_of, same_file, zip_at}
 use Rattle.replay_sharded.proofs.SameFile.{HasOneSpelling}
 use Rattle.replay_sharded.proofs.Taking.{zip_length}
 use Rattle.replay_sharded.proofs.Whole.{IsWhole, originals_of}

@@ -21,10 +21,10 @@ use Rattle.replay_shards.specs.declared.note.Note.{Note}
 use Rattle.replay_sharded.specs.declared.combined.Combined.{Combined}
 use Rattle.replay_sharded.specs.declared.shard_run.ShardRun.{ShardRun}
 use Rattle.replay_sharded.specs.Combined.{HasAllAnswers}
-use Rattle.replay_sharded.specs.Files.{IsFileOf}
+use Rattle.replay_sharded.specs.Files.{IsFileOf, IsKnown}
 use Rattle.replay_sharded.specs.Runs.{IsRunOfShard, keeping}
 use Rattle.replay_sharded.specs.Sharded.{AreRunsTogether, CommitsSerializably, IsLogOfShard, IsResolvedByShards, SendsOnce, answers_by_shard, notes_by_shard}
-use Rattle.replay_sharded.proofs.Logs.{IsKnown, logs_of, sent_of}
+use Rattle.replay_sharded.proofs.Logs.{logs_of, sent_of}
 use Rattle.replay_sharded.proofs.Merged.{all_same}
 use Rattle.replay_sharded.proofs.SameFile.{HasOneSpelling}
 use Rattle.replay_sharded.proofs.Sizes.{some_shard}

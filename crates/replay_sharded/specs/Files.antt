@@ -12,6 +12,10 @@ use Rattle.replay_shards.specs.declared.note.Note.{Note}
 use Rattle.replay_shards.specs.Clips.{bytes_left, refusal_of_clips, shard_of_clips}
 use Rattle.replay_shards.specs.Notes.{note_in}
 
+-- the bytes of the file are known: nothing else changes them while they are read
+abbrev pub IsKnown : Option (List ℕ) → Type 0
+IsKnown file = (bytes : List ℕ) × (file ≡ Some bytes)
+
 -- the bytes are the frames of these batches, each once, in order, and nothing else
 pub record IsFileOf (bytes : Option (List ℕ)) (batches : List Batch) : Type 0 where
   pub left : Option (List ℕ)
