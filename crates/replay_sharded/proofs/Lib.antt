@@ -9,3 +9,5 @@ pub mod Whole
 pub mod Logs
 pub mod Merged
 pub mod Resolved
+pub mod Answering
+pub mod Answered

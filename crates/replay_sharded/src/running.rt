@@ -59,7 +59,7 @@ pub fn run_sharded<
         gatekeepers,
         proxies,
     } = sharded;
-    let room = Room::new(alloc, readers.len(), proxies)?;
+    let room = Room::new(alloc, points.shard_count(), proxies)?;
     let each = clips_of_shards(alloc, readers, points)?;
     let runs = run_shards(rt, alloc, each, options, gatekeepers)?;
     Ok(combine_runs(alloc, options.style, runs, room))
