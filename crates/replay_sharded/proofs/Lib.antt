@@ -11,3 +11,5 @@ pub mod Merged
 pub mod Resolved
 pub mod Answering
 pub mod Answered
+pub mod Replies
+pub mod Keyed

@@ -51,6 +51,7 @@ pub fn run_sharded<
     ensures proxies { IfOk result (λ combined. (vec_len combined.lines ≡ sharded.proxies)
         × (vec_len combined.failures ≡ sharded.proxies)) }
 {
+    serial::laws::answers_tell_verdicts();
     shards::laws::serializable_among_others();
     wire::laws::one_spelling();
     let ShardedReaders {

@@ -95,7 +95,8 @@ returns-clause-resolved g c = λ files read known all.
     (returns-clause-together g c files read) all known
     (λ sent logs of merged count. (
       all_answered sharded.points window sent logs together of merged,
-      serializable c.serializable_among_others.ensures.all sharded.points window sent logs together rising of merged count,
+      serializable c.answers_tell_verdicts.ensures.tell c.serializable_among_others.ensures.all sharded.points window sent logs together
+          rising count of merged,
     ))
 
 pub returns-clause-lines : goal.returns-clause-lines
