@@ -58,7 +58,7 @@ pub resolved_but : HasOneSpelling → (points : List (List ℕ)) (options : Opti
     → AreMergedOf points options.window sent logs (map answers_of (map vec_items combined.lines.items))
     → length (map answers_of (map vec_items combined.lines.items)) ≡ length sent
     → AreAllAnswered sent (map answers_of (map vec_items combined.lines.items))
-    × (SendsOnce sent → CommitsSerializably (map answers_of (map vec_items combined.lines.items))))
+    × (SendsOnce sent → CommitsSerializably sent (map answers_of (map vec_items combined.lines.items))))
     → IsResolvedByShards points options.window files (map answers_of (map vec_items combined.lines.items))
 resolved_but law points options files combined rising runs all known rest =
     let lines = map vec_items combined.lines.items in
