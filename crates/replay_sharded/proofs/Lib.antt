@@ -13,3 +13,4 @@ pub mod Answering
 pub mod Answered
 pub mod Replies
 pub mod Keyed
+pub mod Verdicts
