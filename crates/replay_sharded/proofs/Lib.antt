@@ -11,6 +11,3 @@ pub mod Merged
 pub mod Resolved
 pub mod Answering
 pub mod Answered
-pub mod Replies
-pub mod Keyed
-pub mod Verdicts
