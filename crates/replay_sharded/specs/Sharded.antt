@@ -1,6 +1,6 @@
 -- What several resolvers answer, beside the bytes of the files. That each resolver gets the ranges of its keys, and that a transaction
 -- commits if all of them commit it, is FoundationDB's (paper, SIGMOD 2021). That no resolver waits for another is this project's own.
-use Rattle.std.specs.Prelude.{◌≡◌, ℕ, ℤ, List, [], length, map, Option, Some, slice_get, Contains}
+use Rattle.std.specs.Prelude.{◌≡◌, ℕ, ◌<◌, ℤ, List, [], length, map, Option, Some, slice_get, Contains}
 use Rattle.std.specs.List.{All, AllZip}
 use Rattle.keyspace.specs.declared.batch.Batch.{Batch}
 use Rattle.keyspace.specs.declared.answer.Answer.{Answer}
@@ -49,6 +49,8 @@ notes_by_shard points own = map (λ shard. notes_of shard own) (shards points)
 -- at a time, in the order of commit, so that each reads what it has read.
 pub record CommitsSerializably (together : List (List Answer)) : Type 0 where
   pub processed : List Processed
+  -- each of these batches is of one of these proxies
+  pub proxies : All (λ entry. entry.proxy < length together) processed
   pub serializable : IsSerializable processed
   pub reported :
       (proxy : ℕ) (own : List Answer) (version : ℤ) (j : ℕ) → slice_get together proxy ≡ Some own → ReportsCommitted own version j
