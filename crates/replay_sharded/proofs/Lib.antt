@@ -9,3 +9,8 @@ pub mod Whole
 pub mod Logs
 pub mod Merged
 pub mod Resolved
+pub mod CommittedLists
+pub mod CommittedReplies
+pub mod CommittedVerdicts
+pub mod CommittedParts
+pub mod Committed
