@@ -1,7 +1,7 @@
 -- What the combined answers report as committed is serializable: the batches that have a combined reply are those of which every shard has
 -- processed a clip, so the law of `shards` speaks of them.
 use Rattle.std.specs.Prelude.{◌≡◌, ◌<◌, ◌≤◌, ℕ, suc, ℤ, negsuc, List, [], ◌∷◌, length, take, drop, Some, slice_get, IsSomeAnd}
-use Rattle.std.specs.List.{All, AllZip}
+use Rattle.std.specs.List.{AllZip}
 use Rattle.std.proofs.Common.{refl, sym, ap, subst, ◌∙◌, inl, inr, arith}
 use Rattle.std.proofs.lemmas.Option.{same_Some, slice_get_within}
 use Rattle.keyspace.specs.declared.answer.Answer.{Answer}
@@ -108,8 +108,8 @@ module _ (tell : AnswersTellVerdicts) (points : List (List ℕ)) (window : ℤ) 
       (first.0 ∷ later.0, (first.2, later.1), (first.1, later.2))
 
   -- one shard's reply to a batch is that of its clip
-  one_of : (i : ℕ) (p : Processed) → slice_get ps i ≡ Some p → IsOfTogether sent together p → (version : ℤ) → p.reply.version ≡ version
-      → (log : List Step) (own : List Processed) (s : ShardReply) → IsOwnList window ps log own
+  one_of : (i : ℕ) (p : Processed) → slice_get ps i ≡ Some p → IsOfTogether sent together p → (version : ℤ)
+      → p.reply.version ≡ version → (log : List Step) (own : List Processed) (s : ShardReply) → IsOwnList window ps log own
       → IsReplied window p.proxy version log s → IsSomeAnd (slice_get own i) (λ c. s.reply ≡ c.reply)
   one_of i p at is version same log own s list replied =
       let c = partner (IsPartOf window list.shard log) ps own list.parts i p at in
@@ -231,7 +231,8 @@ serializable tell law points window sent logs together rising count of merged on
     let found = replied_batches tell points window sent logs together count of merged first.0 first.1 first.2 first.3 in
     let ps = found.0 in
     let are = found.1 in
-    let lists = own_lists tell points window sent logs together count of merged once ps are (shards points) logs of (λ log inside. inside) in
+    let lists =
+    own_lists tell points window sent logs together count of merged once ps are (shards points) logs of (λ log inside. inside) in
     record {
       processed = ps;
       proxies = all_in (λ (p : Processed). p.proxy < length together) ps (λ p inside.
@@ -242,7 +243,9 @@ serializable tell law points window sent logs together rising count of merged on
         one_each = zip_length (AreClips ps) (shards points) lists.0 lists.1;
         chains = zip_second (IsOwnList window ps) (IsOfChain window) (λ log own list. list.of_chain) logs lists.0 lists.2;
         clips = λ m shard own at there. zip_at (AreClips ps) (shards points) lists.0 m shard own lists.1 at there;
-        replies = replies_to tell points window sent logs together count of merged once ps are first.0 first.1 first.2 first.3 lists.0 lists.2;
+        replies =
+            replies_to tell points window sent logs together count of merged once ps are first.0 first.1 first.2 first.3 lists.0
+            lists.2;
       });
       reported = reported tell points window sent logs together count of merged once ps are first.0 first.1 first.2 first.3;
       all_reported = all_reported tell points window sent logs together count of merged once ps are;
