@@ -1,6 +1,6 @@
 -- What the combined answers report as committed is serializable: the batches that have a combined reply are those of which every shard has
 -- processed a clip, so the law of `shards` speaks of them.
-use Rattle.std.specs.Prelude.{◌≡◌, ◌<◌, ◌≤◌, ℕ, suc, ℤ, negsuc, List, [], ◌∷◌, length, take, drop, Some, slice_get, IsSomeAnd}
+use Rattle.std.specs.Prelude.{◌≡◌, ◌<◌, ◌≤◌, ℕ, suc, ℤ, negsuc, List, [], ◌∷◌, length, take, drop, Some, slice_get, IsSomeAnd, Contains}
 use Rattle.std.specs.List.{AllZip}
 use Rattle.std.proofs.Common.{refl, sym, ap, subst, ◌∙◌, inl, inr, arith}
 use Rattle.std.proofs.lemmas.Option.{same_Some, slice_get_within}
@@ -34,6 +34,7 @@ use Rattle.replay_sharded.proofs.CommittedLists.{
   partner_before,
   partner_of,
   rises_among,
+  rises_later,
   rises_same,
   zip_beside,
   zip_second,
@@ -225,7 +226,7 @@ first_log window sent (shard ∷ some) (log ∷ rest) one zip = (shard, log, inl
 pub serializable : AnswersTellVerdicts → AreSerializableAmongOthers → (points : List (List ℕ)) (window : ℤ) (sent : List (List Batch))
     (logs : List (List Step)) (together : List (List Answer)) → IsRising [] points → length together ≡ length sent
     → AllZip (IsLogOfShard window sent) (shards points) logs → AreMergedOf points window sent logs together → SendsOnce sent
-    → CommitsSerializably together
+    → CommitsSerializably sent together
 serializable tell law points window sent logs together rising count of merged once =
     let first = first_log window sent (shards points) logs (some_shard [] points) of in
     let found = replied_batches tell points window sent logs together count of merged first.0 first.1 first.2 first.3 in
@@ -235,6 +236,12 @@ serializable tell law points window sent logs together rising count of merged on
     own_lists tell points window sent logs together count of merged once ps are (shards points) logs of (λ log inside. inside) in
     record {
       processed = ps;
+      were_sent =
+          all_in (λ (p : Processed). IsSomeAnd (slice_get sent p.proxy) (λ own. Contains own p.batch)) ps (λ p inside.
+          let is = are.each p inside in
+          some_at (λ (own : List Batch). Contains own p.batch) (slice_get sent p.proxy) is.own is.sent_at
+          (contains is.own p.batch is.is_sent));
+      rises = rises_later (negsuc 0) ps are.rises;
       proxies = all_in (λ (p : Processed). p.proxy < length together) ps (λ p inside.
           let is = are.each p inside in
           slice_get_within together p.proxy is.received is.at);

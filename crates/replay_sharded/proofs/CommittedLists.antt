@@ -1,5 +1,5 @@
 -- Items of lists and of lists that go together, and processed batches whose versions rise.
-use Rattle.std.specs.Prelude.{◌≡◌, ◌⊎◌, ⊤, ℕ, zero, suc, ℤ, ◌<ℤ◌, Bool, true, false, cond, List, [], ◌∷◌, ◌++◌, map, filter, Some, slice_get, slice_index_or, Any, Contains}
+use Rattle.std.specs.Prelude.{◌≡◌, ◌<◌, ◌⊎◌, ⊤, ℕ, zero, suc, ℤ, ◌<ℤ◌, Bool, true, false, cond, List, [], ◌∷◌, ◌++◌, map, filter, Some, slice_get, slice_index_or, Any, Contains}
 use Rattle.std.specs.List.{All, AllZip}
 use Rattle.std.specs.Ordering.{int_eq}
 use Rattle.std.proofs.Common.{refl, sym, ap, subst, ◌∙◌, inl, inr, arith, append_assoc}
@@ -161,6 +161,18 @@ above least [] rises p among = absurd among
 above least (q ∷ ps) rises p (inl here) = subst (λ (r : Processed). least <ℤ r.batch.version) here rises.0
 above least (q ∷ ps) rises p (inr later) =
     through least q.batch.version p.batch.version rises.0 (above q.batch.version ps rises.1 p later)
+
+-- a later one has a greater version
+pub rises_later : (least : ℤ) (ps : List Processed) → RisesFrom least ps → (i k : ℕ) (p q : Processed) → slice_get ps i ≡ Some p
+    → slice_get ps k ≡ Some q → i < k → p.batch.version <ℤ q.batch.version
+rises_later least [] rises i k p q at there h = absurd (none-some p at)
+rises_later least (r ∷ ps) rises zero zero p q at there h = absurd (omega (arith, h))
+rises_later least (r ∷ ps) rises zero (suc k) p q at there h =
+    subst (λ (s : Processed). s.batch.version <ℤ q.batch.version) (same_Some r p at)
+    (above r.batch.version ps rises.1 q (is_in ps k q there))
+rises_later least (r ∷ ps) rises (suc i) zero p q at there h = absurd (omega (arith, h))
+rises_later least (r ∷ ps) rises (suc i) (suc k) p q at there h =
+    rises_later r.batch.version ps rises.1 i k p q at there (omega (arith, h))
 
 rises_lower : (least other : ℤ) (ps : List Processed) → least <ℤ other → RisesFrom other ps → RisesFrom least ps
 rises_lower least other [] h rises = tt

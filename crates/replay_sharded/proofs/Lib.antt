@@ -9,6 +9,8 @@ pub mod Whole
 pub mod Logs
 pub mod Merged
 pub mod Resolved
+pub mod Answering
+pub mod Answered
 pub mod CommittedLists
 pub mod CommittedReplies
 pub mod CommittedVerdicts
