@@ -11,3 +11,8 @@ pub mod Merged
 pub mod Resolved
 pub mod Answering
 pub mod Answered
+pub mod CommittedLists
+pub mod CommittedReplies
+pub mod CommittedVerdicts
+pub mod CommittedParts
+pub mod Committed

@@ -11,6 +11,7 @@ use Rattle.replay_shards.specs.declared.clips.Clips.{Clips}
 use Rattle.replay_sharded.specs.declared.shard_run.ShardRun.{ShardRun}
 use Rattle.replay_sharded.specs.Combined.{HasProxies}
 use Rattle.replay_sharded.proofs.Answered.{all_answered}
+use Rattle.replay_sharded.proofs.Committed.{serializable}
 use Rattle.replay_sharded.proofs.Resolved.{resolved_but}
 use Rattle.replay_sharded.proofs.Taking.{zip_length}
 use Rattle.replay_sharded.proofs.Sizes.{count_same, files_count, has_each, sizes_same, some_shard}
