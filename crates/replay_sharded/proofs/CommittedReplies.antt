@@ -1,6 +1,6 @@
 -- What a combined reply says of the shards: each has replied to the proxy at this version, with the reply of a batch that it has processed.
 use Rattle.std.specs.Prelude.{◌≡◌, ◌<◌, ℕ, suc, ℤ, Bool, List, [], ◌∷◌, length, map, Option, None, Some, slice_get, slice_index_or, Any}
-use Rattle.std.specs.List.{All, AllZip}
+use Rattle.std.specs.List.{AllZip}
 use Rattle.std.specs.Ordering.{int_eq}
 use Rattle.std.proofs.Common.{refl, sym, ap, subst, ◌∙◌, inl, inr, arith, append-nil}
 use Rattle.std.proofs.lemmas.Bool.{cases_eq, cases_lt}
