@@ -24,17 +24,14 @@ use Rattle.replay_sharded.specs.Files.{IsKnown}
 use Rattle.replay_sharded.specs.Runs.{AreRunsOfShards}
 use Rattle.replay_sharded.specs.Sharded.{AreRunsTogether, IsResolvedByShards, SendsOnce}
 use Rattle.replay_shards.specs.Failures.{IsFirstStop}
-use Rattle.replay_output.specs.declared.failures.Ending.TheVariants.{Stopped}
-use Rattle.replay_output.specs.Failures.{ending_line}
 use Rattle.replay_program.specs.declared.met.Met.{Met}
 use Rattle.replay_program.specs.Checked.{TakesToCompare, check_lines, differences_of}
+use Rattle.replay_program.specs.Met.{TellsStop}
 use Rattle.replay_program.specs.Replayed.{
   DidNotStart,
-  HasFailed,
   LineSaysCommitted,
   OfRun,
   RanAndFailed,
-  Took,
   Written,
   ending_of,
 }
@@ -165,10 +162,11 @@ FailsToReplayAndSummarizeByShards form points options files out beside error =
 
 -- What the runs met.
 
--- the last lines that standard error was given name this stop and its shard, unless standard error has failed
-abbrev pub TellsShardStop : ShardStop → Written → Type 0
-TellsShardStop met error =
-    HasFailed error ⊎ ((others : List ℕ) × Took error (others ++ (ending_line (Stopped met.stop) ++ shard_line met.shard)))
+-- Standard error was given lines of which the last names this stop, and then the line that names its shard, unless it has failed.
+pub record TellsShardStop (met : ShardStop) (error : Written) : Type 0 where
+  pub so_far : Written
+  pub stop : TellsStop met.stop so_far
+  pub shard : NamesShard (Some met) so_far error
 
 -- The first shard that met a stop, in runs of all shards over these files, met this one. No version is said to be reached.
 pub record MetStopByShards (points : List (List ℕ)) (options : Options) (files : List (Option (List ℕ))) (stop : Stop)
