@@ -1,6 +1,5 @@
 -- What several resolvers answer, beside the bytes of the files. That each resolver gets the ranges of its keys, and that a transaction
 -- commits if all of them commit it, is FoundationDB's (paper, SIGMOD 2021). That no resolver waits for another is this project's own.
-use Rattle.std.specs.Prelude.{◌≡◌, ℕ, ◌<◌, ℤ, List, [], length, map, Option, Some, slice_get, Contains}
 use Rattle.std.specs.Prelude.{◌≡◌, ℕ, ◌<◌, ℤ, ◌<ℤ◌, List, [], length, map, Option, Some, slice_get, IsSomeAnd, Contains}
 use Rattle.std.specs.List.{All, AllZip}
 use Rattle.keyspace.specs.declared.batch.Batch.{Batch}
