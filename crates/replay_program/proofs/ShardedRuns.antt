@@ -6,6 +6,7 @@ use Rattle.std.proofs.Common.{refl, sym, ap, subst, ◌∙◌, inl, inr}
 use Rattle.std.proofs.lemmas.List.{length-map}
 use Rattle.std.proofs.lemmas.Option.{slice_get-get_or}
 use Rattle.keyspace.specs.declared.answer.Answer.{Answer}
+use Rattle.keyspace.specs.declared.batch.Batch.{Batch}
 use Rattle.keyspace.specs.Processed.{Processed}
 use Rattle.resolver.specs.declared.stop.Stop.{Stop}
 use Rattle.replay_output.specs.declared.failures.Ending.TheVariants.{Complete, Stopped}
@@ -32,10 +33,10 @@ use Rattle.replay_program.proofs.Replaying.{complete_from}
 use Rattle.replay_program.proofs.Reporting.{line_reports, reported_by_line}
 
 -- the lines say that a transaction was committed exactly if the answers report it
-pub words_serializable : (form : Form) (together : List (List Answer)) → CommitsSerializably together → WordsAreSerializable form together
-words_serializable form together commits = record {
-  processed = commits.processed;
-  serializable = commits.serializable;
+pub words_serializable : (form : Form) (sent : List (List Batch)) (together : List (List Answer)) → CommitsSerializably sent together
+    → WordsAreSerializable form sent together
+words_serializable form sent together commits = record {
+  commits = commits;
   each_word = λ proxy version index line.
       let own = line_reports form together proxy version index line in
       commits.reported proxy own.0 version index own.1 own.2;
@@ -97,7 +98,7 @@ module _ (points : List (List ℕ)) (options : Options) (files : List (Option (L
         (go combined.stop runs.together.stop tells named)
       where
         go : (stop : Option ShardStop)
-            → MatchOption stop (All (λ own. own ≡ None) (map stop_of runs.runs)) (IsFirstStop (map stop_of runs.runs))
+            → MatchOption stop (All (λ (own : Option Stop). own ≡ None) (map stop_of runs.runs)) (IsFirstStop (map stop_of runs.runs))
             → ((s : Stop) → option_map (λ (met : ShardStop). met.stop) stop ≡ Some s → TellsStop s so_far)
             → NamesShard stop so_far error
             → IfSome (option_map (λ (met : ShardStop). met.stop) stop)
@@ -139,6 +140,8 @@ module _ (points : List (List ℕ)) (options : Options) (files : List (Option (L
               runs = runs;
               all = all;
               resolved = λ known. resolved known all;
-              words = λ known once. words_serializable options.style.form (together_of combined) ((resolved known all).serializable once);
+              words = λ known once.
+                  words_serializable options.style.form (resolved known all).sent (together_of combined)
+                  ((resolved known all).serializable once);
               printed = subst (λ (lines : List (List Line)). Printed (map answers_of lines)) lines_are printed;
             }

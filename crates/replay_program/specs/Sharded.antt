@@ -4,9 +4,8 @@ use Rattle.std.specs.Fmt.{decimal}
 use Rattle.std.specs.List.{All}
 use Rattle.std.specs.Io.KnownBytes.{Appends}
 use Rattle.keyspace.specs.declared.answer.Answer.{Answer}
+use Rattle.keyspace.specs.declared.batch.Batch.{Batch}
 use Rattle.keyspace.specs.declared.reply.Reply.{Reply}
-use Rattle.keyspace.specs.Processed.{Processed}
-use Rattle.serial.specs.Serial.{IsSerializable}
 use Rattle.serial.specs.Replies.{IsCommittedAt}
 use Rattle.resolver.specs.declared.stop.Stop.{Stop}
 use Rattle.replay_output.specs.declared.failures.ProxyFailure.{ProxyFailure}
@@ -22,7 +21,7 @@ use Rattle.replay_sharded.specs.declared.shard_run.ShardRun.{ShardRun}
 use Rattle.replay_sharded.specs.Combined.{HasAllAnswers, stop_of}
 use Rattle.replay_sharded.specs.Files.{IsKnown}
 use Rattle.replay_sharded.specs.Runs.{AreRunsOfShards}
-use Rattle.replay_sharded.specs.Sharded.{AreRunsTogether, IsResolvedByShards, SendsOnce}
+use Rattle.replay_sharded.specs.Sharded.{AreRunsTogether, CommitsSerializably, IsResolvedByShards, SendsOnce}
 use Rattle.replay_shards.specs.Failures.{IsFirstStop}
 use Rattle.replay_program.specs.declared.met.Met.{Met}
 use Rattle.replay_program.specs.Checked.{TakesToCompare, check_lines, differences_of}
@@ -41,16 +40,15 @@ use Rattle.replay_program.specs.Summarized.{BothFailed, TakesToSummarize, run_su
 abbrev pub together_of : Combined → List (List Answer)
 together_of combined = map answers_of (map vec_items combined.lines.items)
 
--- The transactions whose words say that they were committed, of these answers, can be run one at a time, in the order of commit, and each
--- reads what it has read. The words say so of no others.
-pub record WordsAreSerializable (form : Form) (together : List (List Answer)) : Type 0 where
-  pub processed : List Processed
-  pub serializable : IsSerializable processed
+-- What these answers report as committed is serializable, of the batches that were sent, and the words of the lines say it: they say of
+-- these transactions that they were committed, and of no others.
+pub record WordsAreSerializable (form : Form) (sent : List (List Batch)) (together : List (List Answer)) : Type 0 where
+  pub commits : CommitsSerializably sent together
   pub each_word :
       (proxy : ℕ) (version : ℤ) (index : ℕ) → LineSaysCommitted form together proxy version index
-      → IsCommittedAt processed proxy version index
+      → IsCommittedAt commits.processed proxy version index
   pub all_words :
-      (proxy : ℕ) (version : ℤ) (index : ℕ) → IsCommittedAt processed proxy version index
+      (proxy : ℕ) (version : ℤ) (index : ℕ) → IsCommittedAt commits.processed proxy version index
       → LineSaysCommitted form together proxy version index
 
 -- All files were read and resolved by a resolver per shard, and this was printed of the combined answers: of those that are shown.
@@ -64,7 +62,7 @@ pub record IsReplayedByShardsBy (Printed : List (List Answer) → Type 0) (point
   -- and if no proxy sends two different batches of one version
   pub words :
       (known : All IsKnown files) → SendsOnce (resolved known).sent
-      → WordsAreSerializable options.style.form (together_of combined)
+      → WordsAreSerializable options.style.form (resolved known).sent (together_of combined)
   pub printed : Printed (together_of combined)
 
 -- the text printed is the lines of the combined answers that are shown
