@@ -40,8 +40,8 @@ use Rattle.replay_program.specs.Summarized.{BothFailed, TakesToSummarize, run_su
 abbrev pub together_of : Combined → List (List Answer)
 together_of combined = map answers_of (map vec_items combined.lines.items)
 
--- What these answers report as committed is serializable, of the batches that were sent, and the words of the lines say it: they say of
--- these transactions that they were committed, and of no others.
+-- What these answers report as committed is of the batches that were sent, and is serializable. The lines say of just these transactions
+-- that they were committed.
 pub record WordsAreSerializable (form : Form) (sent : List (List Batch)) (together : List (List Answer)) : Type 0 where
   pub commits : CommitsSerializably sent together
   pub each_word :
