@@ -17,9 +17,9 @@ use wire::{StdSink, StdSource};
 pub struct Disk<'a, R> {
     pub rt: &'a R,
     pub input: Stdin,
-    /// Standard error, if it is a terminal. The first long file that is opened to be read completely
-    /// shows there how much of it was read. All files of a run are parts of one chain, so the others
-    /// get as far.
+    /// Standard error, if it is a terminal. The first long file that is opened to be read to its
+    /// end shows there how much of it was read. All files of a run are parts of one chain, so the
+    /// others get as far.
     pub terminal: Cell<Option<Stderr>>,
 }
 

@@ -4,6 +4,7 @@ use Rattle.replay_output.specs.declared.status.Status.{Status}
 use Rattle.replay_output.specs.declared.status.Status.TheVariants.{Done, Failed, Differs}
 use Rattle.replay_program.specs.Program.{named_files}
 use Rattle.replay_program.specs.Replayed.{written}
+use Rattle.replay_program.specs.ShardedProgram.{regular_files}
 use Rattle.replay_stream.specs.Sinks.{state_by}
 use Rattle.replay_program.proofs.Programs.{Ends, asked_by, ends_by}
 use Rattle.replay_program.proofs.program.run.Goals as goal
@@ -32,6 +33,7 @@ returns-in-Err g c =
     let f = c.args.files.now in
     let files = named_files (g.F.Files.contents f) (g.F.Files.has_opened f) (g.F.Files.cannot_open f)
     (g.F.Files.begun f) (g.F.Files.has_created f) (g.F.Files.cannot_create f) in
+    let regular = regular_files (g.F.Files.is_regular f) (g.F.Files.is_irregular f) in
     let state = state_by g.F.Writer.Sink.given g.F.Writer.Sink.failures in
     let report = c.unstarted.result in
     let words : List (List ℕ) = map string_bytes c.args.words.now in
@@ -40,11 +42,11 @@ returns-in-Err g c =
     let error = written (g.E.Sink.given c.args.error.now) (g.E.Sink.given c.end.new.error)
     (g.E.Sink.failures c.args.error.now) (g.E.Sink.failures c.end.new.error) in
     let end = c.end.ensures in
-    let ends_by_status = ends_by state files words report out error c.end.result c.in-Err.refusal
+    let ends_by_status = ends_by state regular files words report out error c.end.result c.in-Err.refusal
     (λ text is. c.read_words.ensures.shown text (c.in-Err.is ∙ ap Err is))
     (λ text is. c.read_words.ensures.refused text (c.in-Err.is ∙ ap Err is))
     end.shown end.not_shown end.quiet end.refused end.told end.memory end.memory_told in
-    let ends = subst (λ (s : Status). Ends state files words report out error s) (sym c.unstarted.ensures.status) ends_by_status in
+    let ends = subst (λ (s : Status). Ends state regular files words report out error s) (sym c.unstarted.ensures.status) ends_by_status in
     record {
       done = ends.done;
       quiet = ends.quiet;

@@ -44,8 +44,8 @@ impl From<AllocError> for ShardingError {
     }
 }
 
-/// Finds the split points, and opens the files of batches of a command line once per shard. The first
-/// file that isn't a regular one, or can't be opened, is the error.
+/// Finds the split points, and opens the files of batches of a command line once per shard. The
+/// first file that isn't a regular one, or can't be opened, is the error.
 pub fn open_sharded<F: Files>(
     alloc: Global,
     files: &F,
