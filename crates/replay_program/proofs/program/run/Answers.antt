@@ -1,4 +1,5 @@
-use Rattle.std.proofs.Common.{◌≡◌, ◌∙◌, List, ℕ, Err, ap, inr, map, subst, sym}
+use Rattle.std.proofs.Common.{◌≡◌, ◌∙◌, ◌≤◌, List, ℕ, Err, ap, inr, map, subst, sym}
+use Rattle.std.proofs.lemmas.Bool.{false≢true}
 use Rattle.std.specs.Prelude.{string_bytes}
 use Rattle.replay_output.specs.declared.status.Status.{Status}
 use Rattle.replay_output.specs.declared.status.Status.TheVariants.{Done, Failed, Differs}
@@ -7,25 +8,52 @@ use Rattle.replay_program.specs.Replayed.{written}
 use Rattle.replay_program.specs.ShardedProgram.{regular_files}
 use Rattle.replay_stream.specs.Sinks.{state_by}
 use Rattle.replay_program.proofs.Programs.{Ends, asked_by, ends_by}
+use Rattle.replay_program.proofs.Sharding.{ends_by_one, ends_by_several}
 use Rattle.replay_program.proofs.program.run.Goals as goal
 
+pub run_line_sharded-requires-clause-asked : goal.run_line_sharded-requires-clause-asked
+run_line_sharded-requires-clause-asked g c = λ κs bounds.
+    asked_by (map string_bytes c.args.words.now) c.in-Ok.line c.in-Ok.ensures.asks
+
+pub run_line_sharded-requires-clause-several : goal.run_line_sharded-requires-clause-several
+run_line_sharded-requires-clause-several g c = λ κs bounds. c.is_several.ensures.several.0 c.if-is_several.true
+
 pub run_line-requires-clause-asked : goal.run_line-requires-clause-asked
-run_line-requires-clause-asked g c = λ κs bounds. asked_by (map string_bytes c.args.words.now) c.in-Ok.line c.in-Ok.ensures.asks
+run_line-requires-clause-asked g c = λ κs bounds. asked_by (map string_bytes c.args.words.now) c.in-Ok-2.line c.in-Ok-2.ensures.asks
 
 pub returns-in-Ok : goal.returns-in-Ok
 returns-in-Ok g c =
     let line = c.in-Ok.line in
     let asked = c.in-Ok.ensures.asks in
-    let ran = c.run_line.ensures in
+    let ran = c.run_line_sharded.ensures in
+    let several = c.is_several.ensures.several.0 c.if-is_several.true in
     record {
-      done = λ is. inr (line, asked, ran.done is);
+      done = λ is. inr (line, asked, ends_by_several line _ _ several (ran.done is));
       quiet = λ is. ran.quiet (λ other. let bad : Done ≡ Failed = sym is ∙ other in cc);
       quiet_too = λ is. ran.quiet (λ other. let bad : Differs ≡ Failed = sym is ∙ other in cc);
-      failed = λ is. inr (inr (line, asked, ran.failed is));
+      failed = λ is. inr (inr (line, asked, ends_by_several line _ _ several (ran.failed is)));
       mistaken = λ is. absurd (ran.ends is);
       nothing = λ is. absurd (ran.ends is);
       usage = λ is. absurd (ran.ends is);
-      differs = λ is. (line, asked, ran.differs is);
+      differs = λ is. (line, asked, ends_by_several line _ _ several (ran.differs is));
+    }
+
+pub returns-in-Ok-2 : goal.returns-in-Ok-2
+returns-in-Ok-2 g c =
+    let line = c.in-Ok-2.line in
+    let asked = c.in-Ok-2.ensures.asks in
+    let ran = c.run_line.ensures in
+    let one = λ (two : 2 ≤ line.sharding.resolvers).
+    false≢true (sym c.if-is_several.false ∙ c.is_several.ensures.several.1 two) in
+    record {
+      done = λ is. inr (line, asked, ends_by_one line _ _ one (ran.done is));
+      quiet = λ is. ran.quiet (λ other. let bad : Done ≡ Failed = sym is ∙ other in cc);
+      quiet_too = λ is. ran.quiet (λ other. let bad : Differs ≡ Failed = sym is ∙ other in cc);
+      failed = λ is. inr (inr (line, asked, ends_by_one line _ _ one (ran.failed is)));
+      mistaken = λ is. absurd (ran.ends is);
+      nothing = λ is. absurd (ran.ends is);
+      usage = λ is. absurd (ran.ends is);
+      differs = λ is. (line, asked, ends_by_one line _ _ one (ran.differs is));
     }
 
 pub returns-in-Err : goal.returns-in-Err

@@ -1,4 +1,4 @@
-use Rattle.std.proofs.Common.{◌∙◌, List, Bor, ap, arith}
+use Rattle.std.proofs.Common.{◌∙◌, List, ℕ, Bor, ap, arith, length}
 use Rattle.replay_arguments.specs.Opening.{contents_each}
 use Rattle.replay_program.specs.Program.{texts}
 use Rattle.replay_program.proofs.ShardingFiles.{files_of_names, points_by_sample, points_of_file, readers_of_files}
@@ -22,3 +22,8 @@ points_of_sample-requires g c =
         c.in_ok-readers.ensures.contents,
       );
     }
+
+pub read_points-requires : goal.read_points-requires
+read_points-requires g c =
+    let asks = c.requires.asked.1 in
+    record { some = asks.sharding.resolvers.least; few = omega (arith, asks.sharding.resolvers.most) }
