@@ -54,8 +54,8 @@ module _ (contents : List ℕ → Option (List ℕ)) (line : CommandLine) (point
   -- those by the first batches
   pub points_by_sample : (files : List (Option (List ℕ))) → line.sharding.split_points ≡ None
       → files ≡ contents_each contents (texts line.files.items)
-      → (samples : List (List Batch)) × AllZip AreFirstOf files samples
-      × IsBalanced line.sharding.resolvers (begins_of (flat_map (λ own. own) samples)) points
+      → ((samples : List (List Batch)) × AllZip AreFirstOf files samples
+      × IsBalanced line.sharding.resolvers (begins_of (flat_map (λ own. own) samples)) points)
       → ArePointsOf contents line points
   points_by_sample files none are sampled =
       subst (λ (o : Option (Bor (List ℕ))). ArePointsBy contents (texts line.files.items) line.sharding.resolvers o points) (sym none)
