@@ -1,6 +1,7 @@
 use Rattle.std.proofs.Common.{◌∙◌, ◌≤◌, [], List, ℕ, Bor, ap, length, subst, sym}
 use Rattle.std.specs.Prelude.{map, vec_items}
 use Rattle.std.specs.List.{All}
+use Rattle.std.proofs.lemmas.Result.{err_from_is_err_and}
 use Rattle.resolver.specs.declared.resolver_core.TheConstants.{MAX_PROXIES}
 use Rattle.replay_arguments.specs.Opening.{IsFirstRefused, contents_each}
 use Rattle.replay_sharded.specs.Files.{ReadTheFiles}
@@ -18,9 +19,10 @@ returns-in-Some-clause-why g c =
 pub returns-in_err-readers-clause-why : goal.returns-in_err-readers-clause-why
 returns-in_err-readers-clause-why g c =
     let f = c.args.files.now in
-    subst (λ (names : List (Bor (List ℕ))).
+    let p = err_from_is_err_and c.from_residual-in_err-readers.result c.from_residual-in_err-readers.ensures.1 in
+    rw (p.1, p.2) (subst (λ (names : List (Bor (List ℕ))).
     IsWhyNotSharded (g.F.Files.is_regular f) (g.F.Files.is_irregular f) (g.F.Files.has_opened f) (g.F.Files.cannot_open f) (texts names)
-    c.in_err-readers.field-0) c.deref-2.ensures.value c.in_err-readers.ensures.why
+    c.in_err-readers.field-0.0) c.deref-2.ensures.value c.in_err-readers.ensures.why)
 
 pub invariant_of-result : goal.invariant_of-result
 invariant_of-result g c =
