@@ -6,7 +6,7 @@ pub mod Unopened
 pub mod Streaming
 pub mod Writers
 pub mod Programs
-pub mod Sharding
+pub mod ShardingEnds
 pub mod ShardingFiles
 pub mod ReadingReplies
 pub mod KeptReplies

@@ -8,7 +8,7 @@ use Rattle.replay_program.specs.Replayed.{written}
 use Rattle.replay_program.specs.ShardedProgram.{regular_files}
 use Rattle.replay_stream.specs.Sinks.{state_by}
 use Rattle.replay_program.proofs.Programs.{Ends, asked_by, ends_by}
-use Rattle.replay_program.proofs.Sharding.{ends_by_one, ends_by_several}
+use Rattle.replay_program.proofs.ShardingEnds.{ends_by_one, ends_by_several}
 use Rattle.replay_program.proofs.program.run.Goals as goal
 
 pub run_line_sharded-requires-clause-asked : goal.run_line_sharded-requires-clause-asked

@@ -5,7 +5,7 @@ use Rattle.replay_program.specs.ShardedProgram.{FindsDifferencesByShards, IsTask
 use Rattle.replay_stream.specs.Sinks.{state_by}
 use Rattle.replay_program.proofs.Meeting.{not_failed}
 use Rattle.replay_program.proofs.Programs.{to_file, to_standard}
-use Rattle.replay_program.proofs.Sharding.{shards_done_alike, shards_fail_alike, shards_met_nothing, shards_without_output}
+use Rattle.replay_program.proofs.ShardingEnds.{shards_done_alike, shards_fail_alike, shards_met_nothing, shards_without_output}
 use Rattle.replay_program.proofs.program.sharding.do_line_sharded.Goals as goal
 
 pub returns-in-None : goal.returns-in-None

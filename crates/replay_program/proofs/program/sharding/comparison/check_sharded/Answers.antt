@@ -2,7 +2,7 @@ use Rattle.std.proofs.Common.{inl, inr, map, refl}
 use Rattle.std.specs.Prelude.{vec_items}
 use Rattle.replay_program.specs.Replayed.{written}
 use Rattle.replay_program.proofs.Meeting.{not_failed}
-use Rattle.replay_program.proofs.Sharding.{shards_met_nothing}
+use Rattle.replay_program.proofs.ShardingEnds.{shards_met_nothing}
 use Rattle.replay_program.proofs.program.sharding.comparison.check_sharded.Goals as goal
 
 pub returns-in-Ok : goal.returns-in-Ok

@@ -8,7 +8,7 @@ use Rattle.replay_program.specs.ShardedProgram.{AreNotPrintedByShards, ArePrinte
 use Rattle.replay_stream.specs.Sinks.{state_by}
 use Rattle.replay_program.proofs.Meeting.{not_failed}
 use Rattle.replay_program.proofs.Programs.{is_given}
-use Rattle.replay_program.proofs.Sharding.{shards_met_nothing, shards_without_summary}
+use Rattle.replay_program.proofs.ShardingEnds.{shards_met_nothing, shards_without_summary}
 use Rattle.replay_program.proofs.program.sharding.printing.print_sharded.Goals as goal
 
 pub returns-in-None : goal.returns-in-None

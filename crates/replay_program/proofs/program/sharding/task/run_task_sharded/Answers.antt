@@ -15,7 +15,7 @@ use Rattle.replay_program.specs.ShardedProgram.{
 }
 use Rattle.replay_stream.specs.Sinks.{state_by}
 use Rattle.replay_program.proofs.Programs.{is_done}
-use Rattle.replay_program.proofs.Sharding.{no_explain, no_ranges, no_stream, shards_met_quieted}
+use Rattle.replay_program.proofs.ShardingEnds.{no_explain, no_ranges, no_stream, shards_met_quieted}
 use Rattle.replay_program.proofs.program.sharding.task.run_task_sharded.Goals as goal
 
 pub returns-in-Print : goal.returns-in-Print
