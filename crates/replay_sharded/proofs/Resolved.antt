@@ -1,4 +1,4 @@
--- The theorem, but for two parts that are of the logs and the combined answers alone: that each batch has its answer, and that what was
+-- The theorem, except two parts that are of the logs and the combined answers alone: that each batch has its answer, and that what was
 -- committed is serializable.
 use Rattle.std.specs.Prelude.{◌≡◌, ◌≤◌, ℕ, ℤ, List, [], ◌∷◌, length, map, vec_items, Option, Some, slice_get}
 use Rattle.std.specs.List.{All, AllZip}
