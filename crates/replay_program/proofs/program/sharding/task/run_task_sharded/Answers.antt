@@ -56,8 +56,10 @@ returns-in-Summarize-default-None g c =
     let points = c.args.sharded.points in
     let line = c.args.line.now in
     let form = c.in-Summarize-default-None.form in
+    let none : c.in-Summarize-default-None.field-1 ≡ None =
+    rw c.in-Summarize-default-None.is at c.in-Summarize-default-None.field-1-is in
     let is_task : line.task ≡ task.Summarize form None =
-    c.in-Summarize-default-None.is ∙ ap (λ (top : Option ℕ). task.Summarize form top) c.in-Summarize-default-None.field-1-is in
+    c.in-Summarize-default-None.is ∙ ap (λ (top : Option ℕ). task.Summarize form top) none in
     let ran = c.summarize_sharded_over-ended.ensures in
     let report = c.without_files.result in
     let status = c.without_files.ensures.status in
