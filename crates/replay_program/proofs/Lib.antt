@@ -13,3 +13,4 @@ pub mod Ranges
 pub mod Beside
 pub mod Explaining
 pub mod Counting
+pub mod ShardedRuns

@@ -62,6 +62,86 @@ pub held_ok : {T E : Type 0} (r : Result T E) (P : Type 0) → OnOk r P → IsOk
 held_ok (Ok t) P holds ok = holds
 held_ok (Err e) P holds ok = absurd (false≢true ok)
 
+-- What failed, after a run of this many proxies.
+module _ (received : List (List Line)) (failures : List ProxyFailure) (complete : Bool) (stop : Option Stop) (proxies : ℕ)
+    (received_count : length received ≡ proxies) (failures_count : length failures ≡ proxies)
+    (Ran : List (List Line) → List ProxyFailure → Bool → Option Stop → Type 0) (ran : Ran received failures complete stop)
+    (text_of : List (List Answer) → List ℕ) (Takes : List (List Line) → ℕ → Type 0) (out error : Written)
+    (told : List ProxyFailure) where
+  abbrev text : List ℕ
+  text = text_of (map answers_of received)
+
+  why_failed : {U F : Type 0} (wrote : Result U F) → (IsErr wrote → HasFailed error)
+      → (IsOk wrote → ¬ (NothingFailed told (ending_of complete stop)))
+      → HasFailed out ⊎ (HasFailed error ⊎ ¬ (NothingFailed told (ending_of complete stop)))
+  why_failed (Ok u) failed not_all = inr (inr (not_all refl))
+  why_failed (Err e) failed not_all = inr (inl (failed refl))
+
+  told_of : {U F : Type 0} (wrote : Result U F) → OnOk wrote (Took error (failure_lines told (ending_of complete stop)))
+      → (IsErr wrote → HasFailed error)
+      → HasFailed error ⊎ Took error (failure_lines told (ending_of complete stop))
+  told_of (Ok u) took failed = inr took
+  told_of (Err e) took failed = inl (failed refl)
+
+  pub ran_as_and_failed : {T U F : Type 0} (printed : Result T PrintError) (wrote : Result U F) → OnOk printed (Took out text)
+      → ((proxy : ℕ) → printed ≡ Err (print.Memory proxy) → proxy < length received)
+      → ((proxy : ℕ) → printed ≡ Err (print.Memory proxy) → Takes received proxy)
+      → ((proxy : ℕ) → printed ≡ Err (print.Memory proxy) → out.after ≡ out.before)
+      → (printed ≡ Err print.Write → TookBeginning out text) → (printed ≡ Err print.Write → HasFailed out)
+      → OnOk wrote (Took error (failure_lines told (ending_of complete stop))) → (IsErr wrote → HasFailed error)
+      → ((proxy : ℕ) → printed ≡ Err (print.Memory proxy) → told ≡ with_loss proxy failures)
+      → (((proxy : ℕ) → printed ≢ Err (print.Memory proxy)) → told ≡ failures)
+      → ¬ (IsOk printed × IsOk wrote × NothingFailed failures (ending_of complete stop))
+      → RanAndFailed Ran text_of Takes proxies out error
+  ran_as_and_failed (Ok u) wrote took inside takes nothing beginning failed told_lines told_failed loss no_loss not_done =
+      let same : told ≡ failures = no_loss (λ proxy is. cc) in
+      record {
+        received = received;
+        failures = failures;
+        complete = complete;
+        stop = stop;
+        run = ran;
+        told = told;
+        failures_told = inl same;
+        printed = inr (inl (same, took));
+        lines_of_failures = told_of wrote told_lines told_failed;
+        why = why_failed wrote told_failed
+            (λ ok none. not_done (refl, ok, subst (λ (f : List ProxyFailure). NothingFailed f (ending_of complete stop)) same none));
+      }
+  ran_as_and_failed (Err (print.Memory proxy)) wrote took inside takes nothing beginning failed told_lines told_failed loss no_loss not_done =
+      let is = loss proxy refl in
+      let known : proxy < length failures =
+      omega (arith, inside proxy refl, received_count, failures_count) in
+      let with : (proxy : ℕ) × (proxy < proxies) × Takes received proxy × (told ≡ with_loss proxy failures) =
+      (proxy, omega (arith, known, failures_count), takes proxy refl, is) in
+      record {
+        received = received;
+        failures = failures;
+        complete = complete;
+        stop = stop;
+        run = ran;
+        told = told;
+        failures_told = inr with;
+        printed = inr (inr (with, nothing proxy refl));
+        lines_of_failures = told_of wrote told_lines told_failed;
+        why = inr (inr (λ none.
+            loss_is_no_clean proxy failures known (subst (λ (f : List ProxyFailure). All IsClean f) is none.proxies)));
+      }
+  ran_as_and_failed (Err print.Write) wrote took inside takes nothing beginning failed told_lines told_failed loss no_loss not_done =
+      let same : told ≡ failures = no_loss (λ proxy is. cc) in
+      record {
+        received = received;
+        failures = failures;
+        complete = complete;
+        stop = stop;
+        run = ran;
+        told = told;
+        failures_told = inl same;
+        printed = inl (failed refl, beginning refl);
+        lines_of_failures = told_of wrote told_lines told_failed;
+        why = inl (failed refl);
+      }
+
 module _ (options : Options) (files : List (Option (List ℕ))) (received : List (List Line)) (failures : List ProxyFailure)
     (complete : Bool) (stop : Option Stop) (run : IsRun options files received failures complete stop) where
   pub are_lines : AreLines options.style received
@@ -115,84 +195,7 @@ module _ (options : Options) (files : List (Option (List ℕ))) (received : List
       → Printed (map answers_of received) → IsReplayedBy Printed options files
   is_replayed Printed tell nothing printed = is_replayed_over (λ log answers. Printed answers) tell nothing printed
 
-  module _ (Ran : List (List Line) → List ProxyFailure → Bool → Option Stop → Type 0) (ran : Ran received failures complete stop)
-      (text_of : List (List Answer) → List ℕ) (Takes : List (List Line) → ℕ → Type 0) (out error : Written)
-      (told : List ProxyFailure) where
-    abbrev text : List ℕ
-    text = text_of (map answers_of received)
-
-    why_failed : {U F : Type 0} (wrote : Result U F) → (IsErr wrote → HasFailed error)
-        → (IsOk wrote → ¬ (NothingFailed told (ending_of complete stop)))
-        → HasFailed out ⊎ (HasFailed error ⊎ ¬ (NothingFailed told (ending_of complete stop)))
-    why_failed (Ok u) failed not_all = inr (inr (not_all refl))
-    why_failed (Err e) failed not_all = inr (inl (failed refl))
-
-    told_of : {U F : Type 0} (wrote : Result U F) → OnOk wrote (Took error (failure_lines told (ending_of complete stop)))
-        → (IsErr wrote → HasFailed error)
-        → HasFailed error ⊎ Took error (failure_lines told (ending_of complete stop))
-    told_of (Ok u) took failed = inr took
-    told_of (Err e) took failed = inl (failed refl)
-
-    pub ran_as_and_failed : {T U F : Type 0} (printed : Result T PrintError) (wrote : Result U F) → OnOk printed (Took out text)
-        → ((proxy : ℕ) → printed ≡ Err (print.Memory proxy) → proxy < length received)
-        → ((proxy : ℕ) → printed ≡ Err (print.Memory proxy) → Takes received proxy)
-        → ((proxy : ℕ) → printed ≡ Err (print.Memory proxy) → out.after ≡ out.before)
-        → (printed ≡ Err print.Write → TookBeginning out text) → (printed ≡ Err print.Write → HasFailed out)
-        → OnOk wrote (Took error (failure_lines told (ending_of complete stop))) → (IsErr wrote → HasFailed error)
-        → ((proxy : ℕ) → printed ≡ Err (print.Memory proxy) → told ≡ with_loss proxy failures)
-        → (((proxy : ℕ) → printed ≢ Err (print.Memory proxy)) → told ≡ failures)
-        → ¬ (IsOk printed × IsOk wrote × NothingFailed failures (ending_of complete stop))
-        → RanAndFailed Ran text_of Takes (length files) out error
-    ran_as_and_failed (Ok u) wrote took inside takes nothing beginning failed told_lines told_failed loss no_loss not_done =
-        let same : told ≡ failures = no_loss (λ proxy is. cc) in
-        record {
-          received = received;
-          failures = failures;
-          complete = complete;
-          stop = stop;
-          run = ran;
-          told = told;
-          failures_told = inl same;
-          printed = inr (inl (same, took));
-          lines_of_failures = told_of wrote told_lines told_failed;
-          why = why_failed wrote told_failed
-              (λ ok none. not_done (refl, ok, subst (λ (f : List ProxyFailure). NothingFailed f (ending_of complete stop)) same none));
-        }
-    ran_as_and_failed (Err (print.Memory proxy)) wrote took inside takes nothing beginning failed told_lines told_failed loss no_loss not_done =
-        let is = loss proxy refl in
-        let known : proxy < length failures =
-        omega (arith, inside proxy refl, run.received_count, run.failures_count) in
-        let with : (proxy : ℕ) × (proxy < length files) × Takes received proxy × (told ≡ with_loss proxy failures) =
-        (proxy, omega (arith, known, run.failures_count), takes proxy refl, is) in
-        record {
-          received = received;
-          failures = failures;
-          complete = complete;
-          stop = stop;
-          run = ran;
-          told = told;
-          failures_told = inr with;
-          printed = inr (inr (with, nothing proxy refl));
-          lines_of_failures = told_of wrote told_lines told_failed;
-          why = inr (inr (λ none.
-              loss_is_no_clean proxy failures known (subst (λ (f : List ProxyFailure). All IsClean f) is none.proxies)));
-        }
-    ran_as_and_failed (Err print.Write) wrote took inside takes nothing beginning failed told_lines told_failed loss no_loss not_done =
-        let same : told ≡ failures = no_loss (λ proxy is. cc) in
-        record {
-          received = received;
-          failures = failures;
-          complete = complete;
-          stop = stop;
-          run = ran;
-          told = told;
-          failures_told = inl same;
-          printed = inl (failed refl, beginning refl);
-          lines_of_failures = told_of wrote told_lines told_failed;
-          why = inl (failed refl);
-        }
-
-  -- the same where what became of the files is all that is said
+  -- what failed, where what became of the files is all that is said of the run
   pub ran_and_failed : (text_of : List (List Answer) → List ℕ) (Takes : List (List Line) → ℕ → Type 0) (out error : Written)
       (told : List ProxyFailure) {T U F : Type 0} (printed : Result T PrintError) (wrote : Result U F)
       → OnOk printed (Took out (text_of (map answers_of received)))
@@ -207,7 +210,8 @@ module _ (options : Options) (files : List (Option (List ℕ))) (received : List
       → ¬ (IsOk printed × IsOk wrote × NothingFailed failures (ending_of complete stop))
       → RanAndFailed (IsRun options files) text_of Takes (length files) out error
   ran_and_failed text_of Takes out error told printed wrote =
-      ran_as_and_failed (IsRun options files) run text_of Takes out error told printed wrote
+      ran_as_and_failed received failures complete stop (length files) run.received_count run.failures_count (IsRun options files) run text_of
+      Takes out error told printed wrote
 
 pub ok_at : {T E : Type 0} (r : Result T E) (t : T) → r ≡ Ok t → IsOk r
 ok_at {T} {E} r t is = subst (λ (s : Result T E). IsOk s) (sym is) refl

@@ -74,6 +74,34 @@ value_of P (Some x) h = (x, refl, h)
 some_at : {X : Type 0} (P : X → Type 0) (o : Option X) (x : X) → o ≡ Some x → P x → IsSomeAnd o P
 some_at P o x e h = subst (λ (o : Option _). IsSomeAnd o P) (sym e) h
 
+-- what the line of a reply says of a transaction, the reply reports, and the other way round
+module _ (form : Form) (together : List (List Answer)) (proxy : ℕ) (version : ℤ) (index : ℕ) where
+  pub line_reports : LineSaysCommitted form together proxy version index
+      → (own : List Answer) × (slice_get together proxy ≡ Some own) × ReportsCommitted own version index
+  line_reports line =
+      let own = value_of (λ (l : List Answer). Contains l (answer.Reply line.reply)) (slice_get together proxy) line.of_proxy in
+      let entry = value_of (SaysCommitted form) (slice_get line.reply.entries index) line.at_index in
+      let reports : ReportsCommitted own.0 version index = record {
+        reply = line.reply;
+        is_received = own.2;
+        at_version = line.at_version;
+        verdict = some_at (λ (e : Entry). e.verdict ≡ Committed) (slice_get line.reply.entries index) entry.0 entry.1
+            (verdict_said form entry.0 entry.2);
+      } in
+      (own.0, own.1, reports)
+
+  pub reported_by_line : (own : List Answer) → slice_get together proxy ≡ Some own → ReportsCommitted own version index
+      → LineSaysCommitted form together proxy version index
+  reported_by_line own at reports =
+      let entry = value_of (λ (e : Entry). e.verdict ≡ Committed) (slice_get reports.reply.entries index) reports.verdict in
+      record {
+        reply = reports.reply;
+        of_proxy = some_at (λ (l : List Answer). Contains l (answer.Reply reports.reply)) (slice_get together proxy) own at reports.is_received;
+        at_version = reports.at_version;
+        at_index = some_at (SaysCommitted form) (slice_get reports.reply.entries index) entry.0 entry.1
+            (says_verdict form entry.0 entry.2);
+      }
+
 module _ (window : ℤ) (log : List Step) (proxies : ℕ) (only : TakesOnlyFrom proxies log) (tell : AnswersTellVerdicts)
     (form : Form) where
   -- each processed batch is of one of the proxies, and was sent by it
@@ -94,33 +122,16 @@ module _ (window : ℤ) (log : List Step) (proxies : ℕ) (only : TakesOnlyFrom 
   pub each_said : (proxy : ℕ) (version : ℤ) (index : ℕ) → LineSaysCommitted form (answers_each window log proxies) proxy version index
       → IsCommittedAt (run window log).processed proxy version index
   each_said proxy version index line =
-      let Among : List Answer → Type 0 = λ own. Contains own (answer.Reply line.reply) in
-      let own = value_of Among (slice_get (answers_each window log proxies) proxy) line.of_proxy in
-      let is = value_at (answers window log) 0 proxies proxy own.0 own.1 ∙ ap (answers window log) (omega arith) in
-      let entry = value_of (SaysCommitted form) (slice_get line.reply.entries index) line.at_index in
-      tell.reported window log proxy version index (record {
-        reply = line.reply;
-        is_received = subst Among is own.2;
-        at_version = line.at_version;
-        verdict = some_at (λ (e : Entry). e.verdict ≡ Committed) (slice_get line.reply.entries index) entry.0 entry.1
-            (verdict_said form entry.0 entry.2);
-      })
+      let own = line_reports form (answers_each window log proxies) proxy version index line in
+      let is : own.0 ≡ answers window log proxy =
+      value_at (answers window log) 0 proxies proxy own.0 own.1 ∙ ap (answers window log) (omega arith) in
+      tell.reported window log proxy version index (subst (λ (l : List Answer). ReportsCommitted l version index) is own.2)
 
   -- and of all of them
   pub all_said : (proxy : ℕ) (version : ℤ) (index : ℕ) → IsCommittedAt (run window log).processed proxy version index
       → LineSaysCommitted form (answers_each window log proxies) proxy version index
   all_said proxy version index is =
       let known = subst (λ p. p < proxies) is.of_proxy (from_one is.index is.entry is.committed.batch).0 in
-      let reports : ReportsCommitted (answers window log proxy) version index =
-      tell.all_reported window log proxy version index is in
-      let Among : List Answer → Type 0 = λ own. Contains own (answer.Reply reports.reply) in
-      let entry = value_of (λ (e : Entry). e.verdict ≡ Committed) (slice_get reports.reply.entries index) reports.verdict in
-      record {
-        reply = reports.reply;
-        of_proxy = some_at Among (slice_get (answers_each window log proxies) proxy) (answers window log proxy)
-            (value_inside (answers window log) 0 proxies proxy known ∙ ap (λ m. Some (answers window log m)) (omega arith))
-            reports.is_received;
-        at_version = reports.at_version;
-        at_index = some_at (SaysCommitted form) (slice_get reports.reply.entries index) entry.0 entry.1
-            (says_verdict form entry.0 entry.2);
-      }
+      reported_by_line form (answers_each window log proxies) proxy version index (answers window log proxy)
+      (value_inside (answers window log) 0 proxies proxy known ∙ ap (λ m. Some (answers window log m)) (omega arith))
+      (tell.all_reported window log proxy version index is)

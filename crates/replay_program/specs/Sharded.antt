@@ -4,9 +4,8 @@ use Rattle.std.specs.Fmt.{decimal}
 use Rattle.std.specs.List.{All}
 use Rattle.std.specs.Io.KnownBytes.{Appends}
 use Rattle.keyspace.specs.declared.answer.Answer.{Answer}
+use Rattle.keyspace.specs.declared.batch.Batch.{Batch}
 use Rattle.keyspace.specs.declared.reply.Reply.{Reply}
-use Rattle.keyspace.specs.Processed.{Processed}
-use Rattle.serial.specs.Serial.{IsSerializable}
 use Rattle.serial.specs.Replies.{IsCommittedAt}
 use Rattle.resolver.specs.declared.stop.Stop.{Stop}
 use Rattle.replay_output.specs.declared.failures.ProxyFailure.{ProxyFailure}
@@ -22,19 +21,16 @@ use Rattle.replay_sharded.specs.declared.shard_run.ShardRun.{ShardRun}
 use Rattle.replay_sharded.specs.Combined.{HasAllAnswers, stop_of}
 use Rattle.replay_sharded.specs.Files.{IsKnown}
 use Rattle.replay_sharded.specs.Runs.{AreRunsOfShards}
-use Rattle.replay_sharded.specs.Sharded.{AreRunsTogether, IsResolvedByShards, SendsOnce}
+use Rattle.replay_sharded.specs.Sharded.{AreRunsTogether, CommitsSerializably, IsResolvedByShards, SendsOnce}
 use Rattle.replay_shards.specs.Failures.{IsFirstStop}
-use Rattle.replay_output.specs.declared.failures.Ending.TheVariants.{Stopped}
-use Rattle.replay_output.specs.Failures.{ending_line}
 use Rattle.replay_program.specs.declared.met.Met.{Met}
 use Rattle.replay_program.specs.Checked.{TakesToCompare, check_lines, differences_of}
+use Rattle.replay_program.specs.Met.{TellsStop}
 use Rattle.replay_program.specs.Replayed.{
   DidNotStart,
-  HasFailed,
   LineSaysCommitted,
   OfRun,
   RanAndFailed,
-  Took,
   Written,
   ending_of,
 }
@@ -44,16 +40,15 @@ use Rattle.replay_program.specs.Summarized.{BothFailed, TakesToSummarize, run_su
 abbrev pub together_of : Combined → List (List Answer)
 together_of combined = map answers_of (map vec_items combined.lines.items)
 
--- The transactions whose words say that they were committed, of these answers, can be run one at a time, in the order of commit, and each
--- reads what it has read. The words say so of no others.
-pub record WordsAreSerializable (form : Form) (together : List (List Answer)) : Type 0 where
-  pub processed : List Processed
-  pub serializable : IsSerializable processed
+-- What these answers report as committed is of the batches that were sent, and is serializable. The lines say of just these transactions
+-- that they were committed.
+pub record WordsAreSerializable (form : Form) (sent : List (List Batch)) (together : List (List Answer)) : Type 0 where
+  pub commits : CommitsSerializably sent together
   pub each_word :
       (proxy : ℕ) (version : ℤ) (index : ℕ) → LineSaysCommitted form together proxy version index
-      → IsCommittedAt processed proxy version index
+      → IsCommittedAt commits.processed proxy version index
   pub all_words :
-      (proxy : ℕ) (version : ℤ) (index : ℕ) → IsCommittedAt processed proxy version index
+      (proxy : ℕ) (version : ℤ) (index : ℕ) → IsCommittedAt commits.processed proxy version index
       → LineSaysCommitted form together proxy version index
 
 -- All files were read and resolved by a resolver per shard, and this was printed of the combined answers: of those that are shown.
@@ -67,7 +62,7 @@ pub record IsReplayedByShardsBy (Printed : List (List Answer) → Type 0) (point
   -- and if no proxy sends two different batches of one version
   pub words :
       (known : All IsKnown files) → SendsOnce (resolved known).sent
-      → WordsAreSerializable options.style.form (together_of combined)
+      → WordsAreSerializable options.style.form (resolved known).sent (together_of combined)
   pub printed : Printed (together_of combined)
 
 -- the text printed is the lines of the combined answers that are shown
@@ -165,10 +160,11 @@ FailsToReplayAndSummarizeByShards form points options files out beside error =
 
 -- What the runs met.
 
--- the last lines that standard error was given name this stop and its shard, unless standard error has failed
-abbrev pub TellsShardStop : ShardStop → Written → Type 0
-TellsShardStop met error =
-    HasFailed error ⊎ ((others : List ℕ) × Took error (others ++ (ending_line (Stopped met.stop) ++ shard_line met.shard)))
+-- Standard error was given lines of which the last names this stop, and then the line that names its shard, unless it has failed.
+pub record TellsShardStop (met : ShardStop) (error : Written) : Type 0 where
+  pub so_far : Written
+  pub stop : TellsStop met.stop so_far
+  pub shard : NamesShard (Some met) so_far error
 
 -- The first shard that met a stop, in runs of all shards over these files, met this one. No version is said to be reached.
 pub record MetStopByShards (points : List (List ℕ)) (options : Options) (files : List (Option (List ℕ))) (stop : Stop)

@@ -9,3 +9,10 @@ pub mod Whole
 pub mod Logs
 pub mod Merged
 pub mod Resolved
+pub mod Answering
+pub mod Answered
+pub mod CommittedLists
+pub mod CommittedReplies
+pub mod CommittedVerdicts
+pub mod CommittedParts
+pub mod Committed

@@ -28,6 +28,7 @@ use Rattle.replay_sharded.proofs.Logs.{logs_of, sent_of}
 use Rattle.replay_sharded.proofs.Merged.{all_same}
 use Rattle.replay_sharded.proofs.SameFile.{HasOneSpelling}
 use Rattle.replay_sharded.proofs.Sizes.{some_shard}
+use Rattle.replay_sharded.proofs.Taking.{zip_length}
 use Rattle.replay_sharded.proofs.Whole.{IsWhole, all_whole}
 
 -- the combined answers, by the logs of the shards
@@ -55,8 +56,9 @@ pub resolved_but : HasOneSpelling → (points : List (List ℕ)) (options : Opti
     → ((sent : List (List Batch)) (logs : List (List Step))
     → AllZip (IsLogOfShard options.window sent) (shards points) logs
     → AreMergedOf points options.window sent logs (map answers_of (map vec_items combined.lines.items))
+    → length (map answers_of (map vec_items combined.lines.items)) ≡ length sent
     → AreAllAnswered sent (map answers_of (map vec_items combined.lines.items))
-    × (SendsOnce sent → CommitsSerializably (map answers_of (map vec_items combined.lines.items))))
+    × (SendsOnce sent → CommitsSerializably sent (map answers_of (map vec_items combined.lines.items))))
     → IsResolvedByShards points options.window files (map answers_of (map vec_items combined.lines.items))
 resolved_but law points options files combined rising runs all known rest =
     let lines = map vec_items combined.lines.items in
@@ -82,7 +84,9 @@ resolved_but law points options files combined rising runs all known rest =
     subst (λ (l : List Answer). AreMerged (answers_by_shard options.window logs.0 proxy) (notes_by_shard points own) l) same
     (subst (λ (l : List (List Note)). AreMerged (answers_by_shard options.window logs.0 proxy) l (answers_of of_proxy.0)) both.1
     (subst (λ (l : List (List Answer)). AreMerged l (map notes_by together.each) (answers_of of_proxy.0)) both.0 (together.not_lost clean.1))) in
-    let last = rest sent.0 logs.0 logs.1 merged in
+    let as_many : length (map answers_of lines) ≡ length sent.0 =
+    length-map lines answers_of ∙ (count ∙ sym (zip_length IsFileOf files sent.0 sent.1)) in
+    let last = rest sent.0 logs.0 logs.1 merged as_many in
     record {
       rising = rising;
       sent = sent.0;

@@ -1,6 +1,6 @@
 -- What several resolvers answer, beside the bytes of the files. That each resolver gets the ranges of its keys, and that a transaction
 -- commits if all of them commit it, is FoundationDB's (paper, SIGMOD 2021). That no resolver waits for another is this project's own.
-use Rattle.std.specs.Prelude.{◌≡◌, ℕ, ℤ, List, [], length, map, Option, Some, slice_get, Contains}
+use Rattle.std.specs.Prelude.{◌≡◌, ℕ, ◌<◌, ℤ, ◌<ℤ◌, List, [], length, map, Option, Some, slice_get, IsSomeAnd, Contains}
 use Rattle.std.specs.List.{All, AllZip}
 use Rattle.keyspace.specs.declared.batch.Batch.{Batch}
 use Rattle.keyspace.specs.declared.answer.Answer.{Answer}
@@ -45,10 +45,18 @@ answers_by_shard window logs proxy = map (λ log. answers window log proxy) logs
 abbrev pub notes_by_shard : List (List ℕ) → List Batch → List (List Note)
 notes_by_shard points own = map (λ shard. notes_of shard own) (shards points)
 
--- The transactions that these answers report as committed, of each proxy at its number, are those of a list of batches, and can be run one
--- at a time, in the order of commit, so that each reads what it has read.
-pub record CommitsSerializably (together : List (List Answer)) : Type 0 where
+-- The transactions that these answers report as committed, of each proxy at its number, are those of a list of batches that were sent, and
+-- can be run one at a time, in the order of commit, so that each reads what it has read.
+pub record CommitsSerializably (sent : List (List Batch)) (together : List (List Answer)) : Type 0 where
   pub processed : List Processed
+  -- each of these batches is one that its proxy has sent
+  pub were_sent : All (λ entry. IsSomeAnd (slice_get sent entry.proxy) (λ own. Contains own entry.batch)) processed
+  -- in the order of their versions, and none twice
+  pub rises :
+      (i k : ℕ) (p q : Processed) → slice_get processed i ≡ Some p → slice_get processed k ≡ Some q → i < k
+      → p.batch.version <ℤ q.batch.version
+  -- each of these batches is of one of these proxies
+  pub proxies : All (λ entry. entry.proxy < length together) processed
   pub serializable : IsSerializable processed
   pub reported :
       (proxy : ℕ) (own : List Answer) (version : ℤ) (j : ℕ) → slice_get together proxy ≡ Some own → ReportsCommitted own version j
@@ -76,7 +84,7 @@ pub record IsResolvedByShards (points : List (List ℕ)) (window : ℤ) (files :
   pub all_answered :
       (proxy : ℕ) (own : List Batch) (answers : List Answer) → slice_get sent proxy ≡ Some own → slice_get together proxy ≡ Some answers
       → length answers ≡ length own
-  pub serializable : SendsOnce sent → CommitsSerializably together
+  pub serializable : SendsOnce sent → CommitsSerializably sent together
 
 -- the runs of all shards over files with these bytes, and what they are together
 pub record AreRunsTogether (points : List (List ℕ)) (options : Options) (files : List (Option (List ℕ))) (combined : Combined) : Type 0

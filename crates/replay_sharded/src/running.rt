@@ -51,6 +51,7 @@ pub fn run_sharded<
     ensures proxies { IfOk result (λ combined. (vec_len combined.lines ≡ sharded.proxies)
         × (vec_len combined.failures ≡ sharded.proxies)) }
 {
+    serial::laws::answers_tell_verdicts();
     shards::laws::serializable_among_others();
     wire::laws::one_spelling();
     let ShardedReaders {
@@ -59,7 +60,7 @@ pub fn run_sharded<
         gatekeepers,
         proxies,
     } = sharded;
-    let room = Room::new(alloc, readers.len(), proxies)?;
+    let room = Room::new(alloc, points.shard_count(), proxies)?;
     let each = clips_of_shards(alloc, readers, points)?;
     let runs = run_shards(rt, alloc, each, options, gatekeepers)?;
     Ok(combine_runs(alloc, options.style, runs, room))

@@ -1,5 +1,5 @@
 use Rattle.std.proofs.Common.{◌≡◌, [], Bool, ◌&&◌, List, map, refl, ap, sym, subst, inr, inl, ◌∙◌, arith, rules, w64, to_z, of_z, Vec, Global}
-use Rattle.std.specs.Prelude.{OnOk, vec_items}
+use Rattle.std.specs.Prelude.{OnOk, length, vec_items}
 use Rattle.std.proofs.lemmas.Int.{ints, to_z-of_z}
 use Rattle.std.proofs.lemmas.List.{length-map}
 use Rattle.keyspace.specs.Processed.{Processed}
@@ -104,7 +104,7 @@ returns g c =
       failed = λ is.
           inr (record {
             explained = list;
-            failed = ran_as_and_failed options files received failures complete account.stop run
+            failed = ran_as_and_failed received failures complete account.stop (length files) run.received_count run.failures_count
                 (IsObservedRun (λ seen. seen ≡ list) options files) ran (explained_lines options list)
                 (TakesToExplain (explanations_of options list)) out error told
                 c.print_explained-report.result.printed c.print_explained-report.result.told lines

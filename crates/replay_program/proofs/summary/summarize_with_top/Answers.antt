@@ -154,7 +154,7 @@ returns-in-Ok-text_of_top-clause-failed g c = λ is.
       top = Some top;
       is_top = of_top.is_top;
       nothing_without = λ none. absurd (none-some top (sym none));
-      failed = ran_as_and_failed options files received failures complete account.stop run
+      failed = ran_as_and_failed received failures complete account.stop (length files) run.received_count run.failures_count
           (IsObservedRun (λ seen. seen ≡ list) options files) ran (summary_and_top form top) TakesToSummarize out error told
           printed c.print_summary-report.result.told lines
           (λ proxy memory. omega (

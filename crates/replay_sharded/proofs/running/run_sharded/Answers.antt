@@ -6,9 +6,13 @@ use Rattle.std.proofs.lemmas.Grind.{common_steps}
 use Rattle.std.proofs.lemmas.List.Elements.{All-weaker}
 use Rattle.serial.specs.Shards.{shards}
 use Rattle.resolver.specs.declared.resolver_core.TheConstants.{MAX_PROXIES}
+use Rattle.replay_output.specs.Line.{answers_of}
 use Rattle.replay_shards.specs.declared.clips.Clips.{Clips}
 use Rattle.replay_sharded.specs.declared.shard_run.ShardRun.{ShardRun}
 use Rattle.replay_sharded.specs.Combined.{HasProxies}
+use Rattle.replay_sharded.proofs.Answered.{all_answered}
+use Rattle.replay_sharded.proofs.Committed.{serializable}
+use Rattle.replay_sharded.proofs.Resolved.{resolved_but}
 use Rattle.replay_sharded.proofs.Taking.{zip_length}
 use Rattle.replay_sharded.proofs.Sizes.{count_same, files_count, has_each, sizes_same, some_shard}
 use Rattle.replay_sharded.proofs.running.run_sharded.Goals as goal
@@ -60,8 +64,8 @@ combine_runs-requires-clause-room g c =
         no_stops = room.stops;
         lines = room.lines_room;
         failures = room.failures_room;
-        by_shard = omega (arith, many, c.len.ensures, room.shards_room);
-        stops = omega (arith, many, c.len.ensures, room.stops_room);
+        by_shard = omega (arith, many, sharded.each_shard, c.shard_count.ensures.count, room.shards_room);
+        stops = omega (arith, many, sharded.each_shard, c.shard_count.ensures.count, room.stops_room);
       },
     )
 
@@ -81,6 +85,20 @@ returns-clause-together g c = λ files read.
           (has_each sharded.proxies each.items runs.items c.in_ok-runs.ensures.proxies sizes);
       together = c.combine_runs.ensures.combined;
     }
+
+pub returns-clause-resolved : goal.returns-clause-resolved
+returns-clause-resolved g c = λ files read known all.
+    let sharded = c.args.sharded in
+    let window = c.args.options.window in
+    let rising = c.shard_count.ensures.points.rising in
+    let together = map answers_of (map vec_items c.combine_runs.result.lines.items) in
+    resolved_but c.one_spelling.ensures.batches sharded.points c.args.options files c.combine_runs.result rising
+    (returns-clause-together g c files read) all known
+    (λ sent logs of merged count. (
+      all_answered sharded.points window sent logs together of merged,
+      serializable c.answers_tell_verdicts.ensures.tell c.serializable_among_others.ensures.all sharded.points window sent logs together
+          rising count of merged,
+    ))
 
 pub returns-clause-lines : goal.returns-clause-lines
 returns-clause-lines g c = c.combine_runs.ensures.combined.lines
