@@ -6,7 +6,7 @@ use crate::printing::ended;
 use crate::spelling::reply_frame;
 use rattle_std::alloc::Global;
 use rattle_std::rt::{Env, HostRuntime};
-use replay_program::{FileError, Files, RunReport, run_in};
+use replay_program::{Extent, FileError, Files, RunReport, run_in};
 use std::ffi::OsString;
 use wire::{Sink, StdSink};
 
@@ -25,13 +25,13 @@ const REPLIES: [(&str, &[&str]); 2] = [("same", &["100 committed", "0 empty"]), 
 const POINTS: (&str, &[u8]) = ("point", b"b\n");
 
 /// Files in memory. Any file can be written but one whose name is `sealed`.
-struct Shelf;
+pub struct Shelf;
 
 impl Files for Shelf {
     type Reader = Reader;
     type Writer = StdSink<Vec<u8>>;
 
-    fn open(&self, name: &str) -> Result<Reader, FileError> {
+    fn open(&self, name: &str, _extent: Extent) -> Result<Reader, FileError> {
         if let Some((_, batches, rest)) = BATCHES.iter().find(|(known, ..)| *known == name) {
             return Ok(reader(file_of(batches, rest)));
         }

@@ -4,13 +4,16 @@ use crate::shards::split;
 use rattle_std::alloc::Global;
 use rattle_std::rt::HostRuntime;
 use rattle_std::sync::Arc as KitArc;
-use replay_program::{Form, Gatekeeper, Options, Reports, ShareKeeper, Style, Unshared, replay_sharded_over};
+use replay_program::{
+    Extent, FileError, Files, Form, Gatekeeper, Options, Reports, ShareKeeper, Style, Unshared, replay_sharded_over,
+};
 use replay_sharded::{Combined, ShardedReaders, run_sharded};
+use std::cell::RefCell;
 use std::sync::Arc;
 use std::sync::atomic::{AtomicU64, Ordering};
 use tests::playing::{Reader, file_of, reader};
 use tests::printing::ended;
-use tests::shelf::shell;
+use tests::shelf::{Shelf, shell, shell_over};
 use wire::StdSink;
 
 /// Lets a shard send only once another shard has taken that many answers.
@@ -166,6 +169,47 @@ fn words() {
     for (words, expected) in rows {
         assert_eq!(shell(words), expected, "{words:?}");
     }
+}
+
+/// The files of [`Shelf`], with the name and the extent of each one that was opened.
+#[derive(Default)]
+struct Noted(RefCell<Vec<(String, Extent)>>);
+
+impl Files for Noted {
+    type Reader = <Shelf as Files>::Reader;
+    type Writer = <Shelf as Files>::Writer;
+
+    fn open(&self, name: &str, extent: Extent) -> Result<Self::Reader, FileError> {
+        self.0.borrow_mut().push((name.to_owned(), extent));
+        Shelf.open(name, extent)
+    }
+
+    fn is_regular(&self, name: &str) -> bool {
+        Shelf.is_regular(name)
+    }
+
+    fn create(&self, name: &str) -> Result<Self::Writer, FileError> {
+        Shelf.create(name)
+    }
+}
+
+/// The sample is of the beginnings of the files, so no progress is shown through it. Each shard reads the complete files.
+#[test]
+fn extents() {
+    let opened = |words: &[&str]| {
+        let (files, mut out, mut error) = (Noted::default(), StdSink::new(Vec::new()), StdSink::new(Vec::new()));
+        shell_over(&files, words, &mut out, &mut error);
+        files.0.into_inner()
+    };
+    let complete = |name: &str| (name.to_owned(), Extent::Complete);
+    let beginning = |name: &str| (name.to_owned(), Extent::Beginning);
+    let given = opened(&["replay", "--resolvers", "2", "--split-points", "point", "first", "second"]);
+    let each = ["point", "first", "second", "first", "second"].map(complete);
+    assert_eq!(given, each);
+    let sampled = opened(&["replay", "--resolvers", "2", "first", "second"]);
+    assert_eq!(sampled[..2], ["first", "second"].map(beginning));
+    assert!(sampled[2..].chunks(2).all(|shard| *shard == ["first", "second"].map(complete)), "{sampled:?}");
+    assert_eq!(opened(&["replay", "first"]), ["first"].map(complete));
 }
 
 /// A summary instead of the answers, and one beside them, are those of one resolver.

@@ -1,6 +1,6 @@
 //! What `replay --verbose` says of a failure: each finding with its complete line, and nothing without a failure.
 
-use replay_program::{FileError, Files};
+use replay_program::{Extent, FileError, Files};
 use std::io::{Cursor, Error, ErrorKind, Read, Result as IoResult, Write};
 use tests::failing::Failing;
 use tests::notation::reply;
@@ -66,7 +66,7 @@ impl Files for Named {
     type Reader = StdSource<Content>;
     type Writer = StdSink<Taking>;
 
-    fn open(&self, name: &str) -> Result<Self::Reader, FileError> {
+    fn open(&self, name: &str, _extent: Extent) -> Result<Self::Reader, FileError> {
         let bytes = bytes_of(name).ok_or(FileError::CannotOpen)?;
         let fails = matches!(name, "folder" | "unreadable");
         Ok(StdSource::new(Content { bytes: Cursor::new(bytes), fails }))

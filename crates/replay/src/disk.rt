@@ -3,7 +3,7 @@
 ghost use Rattle.std.specs.Prelude.{None, ⊤};
 
 use crate::progress::{LONG_FILE, Progress};
-use replay_program::{FileError, Files, STANDARD_INPUT};
+use replay_program::{Extent, FileError, Files, STANDARD_INPUT};
 use std::cell::Cell;
 use std::fs::File;
 use std::io::{BufReader, BufWriter, Read};
@@ -17,8 +17,9 @@ use wire::{StdSink, StdSource};
 pub struct Disk<'a, R> {
     pub rt: &'a R,
     pub input: Stdin,
-    /// Standard error, if it is a terminal. The first long file that is opened shows there how much
-    /// of it was read. All files of a run are parts of one chain, so the others get as far.
+    /// Standard error, if it is a terminal. The first long file that is opened to be read to its
+    /// end shows there how much of it was read. All files of a run are parts of one chain, so the
+    /// others get as far.
     pub terminal: Cell<Option<Stderr>>,
 }
 
@@ -46,18 +47,18 @@ impl Read for Input {
 
 impl<R: fs::Files<File = File> + AllocGlobal> Disk<'_, R> {
     // Opens the file of this name, or standard input by its own.
-    fn input(&self, name: &str) -> Result<Input, FileError> {
+    fn input(&self, name: &str, extent: Extent) -> Result<Input, FileError> {
         if name == STANDARD_INPUT {
             return Ok(Input::Standard(self.input));
         }
         match File::open(self.rt, name) {
-            Ok(file) => Ok(self.shown_if_long(file)),
+            Ok(file) => Ok(self.shown_if_long(file, extent)),
             Err(_) => Err(FileError::CannotOpen),
         }
     }
 
-    fn shown_if_long(&self, file: File) -> Input {
-        let Some(length) = length_if_long(&file) else {
+    fn shown_if_long(&self, file: File, extent: Extent) -> Input {
+        let Some(length) = length_if_shown(&file, extent) else {
             return Input::File(file);
         };
         match self.terminal.take() {
@@ -93,8 +94,8 @@ impl<R: fs::Files<File = File> + AllocGlobal> Files for Disk<'_, R> {
 
     ghost cannot_create = { λ _ _. ⊤ };
 
-    fn open(&self, name: &str) -> Result<StdSource<BufReader<Input>>, FileError> {
-        let input = self.input(name)?;
+    fn open(&self, name: &str, extent: Extent) -> Result<StdSource<BufReader<Input>>, FileError> {
+        let input = self.input(name, extent)?;
         let reader = BufReader::new(self.rt.alloc(), input).map_err(|_| FileError::Memory)?;
         Ok(StdSource::new(reader))
     }
@@ -117,7 +118,10 @@ impl<R: fs::Files<File = File> + AllocGlobal> Files for Disk<'_, R> {
 }
 
 // Returns the number of bytes of a file if its progress is shown.
-fn length_if_long(file: &File) -> Option<u64> {
+fn length_if_shown(file: &File, extent: Extent) -> Option<u64> {
+    if extent == Extent::Beginning {
+        return None;
+    }
     let length = file.metadata().ok()?.len();
     if length > LONG_FILE {
         Some(length)

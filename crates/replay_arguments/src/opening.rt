@@ -15,7 +15,7 @@ use wire::{Failed, Sink, write_all};
 mod files;
 mod written;
 
-pub use files::{FileError, Files, STANDARD_INPUT};
+pub use files::{Extent, FileError, Files, STANDARD_INPUT};
 pub use written::{WrittenFile, fail_to_create_file};
 
 /// Why the files were not opened.
@@ -46,6 +46,7 @@ pub fn open_files<F: Files>(
     alloc: Global,
     files: &F,
     names: &[&str],
+    extent: Extent,
 ) -> Result<Vec<F::Reader>, OpeningError>
     ensures contents { IfOk result (λ readers.
         map F.Reader.remaining readers.items
@@ -58,7 +59,7 @@ pub fn open_files<F: Files>(
     ensures memory { result ≡ Err OpeningError.Memory → 0 < length names.now }
 {
     let readers = Vec::with_capacity(alloc, names.len()).map_err(|_| OpeningError::Memory)?;
-    open_each(files, names, readers)
+    open_each(files, names, extent, readers)
 }
 
 // Opens them all, into an empty vector with room for their readers. Takes no memory but in the
@@ -66,6 +67,7 @@ pub fn open_files<F: Files>(
 fn open_each<F: Files>(
     files: &F,
     names: &[&str],
+    extent: Extent,
     room: Vec<F::Reader>,
 ) -> Result<Vec<F::Reader>, OpeningError>
     requires empty { room.items ≡ [] }
@@ -85,7 +87,7 @@ fn open_each<F: Files>(
 {
     let mut readers = room;
     for (proxy, name) in names.iter().enumerate() {
-        let reader = match files.open(name) {
+        let reader = match files.open(name, extent) {
             Ok(reader) => reader,
             Err(error) => return Err(OpeningError::new(proxy, error)),
         };

@@ -6,6 +6,8 @@ pub mod Unopened
 pub mod Streaming
 pub mod Writers
 pub mod Programs
+pub mod ShardingEnds
+pub mod ShardingFiles
 pub mod ReadingReplies
 pub mod KeptReplies
 pub mod Noting

@@ -24,15 +24,13 @@ use Rattle.replay_output.specs.declared.status.Status.{Status}
 use Rattle.replay_output.specs.declared.status.Status.TheVariants.{Done, Failed, Usage, Differs}
 use Rattle.replay_output.specs.Start.{start_line}
 use Rattle.replay_program.specs.declared.report.RunReport.{RunReport}
+use Rattle.replay_program.specs.Ended.{HasDifferences, IsDone, IsFailed}
 use Rattle.replay_program.specs.Program.{
   AreNotPrinted,
   ArePrinted,
   DidNotCreateFile,
   FailsToStreamFiles,
   GoesTo,
-  HasDifferences,
-  IsDone,
-  IsFailed,
   IsGiven,
   OfOutput,
   IsTaskDone,
@@ -44,6 +42,7 @@ use Rattle.replay_program.specs.Program.{
   texts,
 }
 use Rattle.replay_program.specs.Replayed.{HasFailed, Took, Written, written}
+use Rattle.replay_program.specs.ShardedProgram.{RegularFiles}
 use Rattle.replay_stream.specs.declared.recorder.Recorder.{Recorder}
 use Rattle.replay_stream.specs.Sinks.{SinkState}
 
@@ -158,12 +157,12 @@ module _ {W : Type 0} (state_of : W → SinkState) (files : NamedFiles) where
     not_created name file_error.Memory named opened refused nothing told =
         inr (inr (inl (record { cause = start.Memory; nothing_printed = nothing; told = told })))
 
-module _ {W : Type 0} (state_of : W → SinkState) (files : NamedFiles) (words : List (List ℕ)) (report : RunReport W)
-    (out error : Written) (status : Status) where
+module _ {W : Type 0} (state_of : W → SinkState) (regular : RegularFiles) (files : NamedFiles) (words : List (List ℕ))
+    (report : RunReport W) (out error : Written) (status : Status) where
   pub record Ends : Type 0 where
     pub done : status ≡ Done → IsDone state_of files words report out
     pub quiet : status ≡ Done → Keeps error.before error.after
-    pub failed : status ≡ Failed → IsFailed state_of files words report out error
+    pub failed : status ≡ Failed → IsFailed state_of regular files words report out error
     pub mistaken : status ≡ Usage → IsMistaken words
     pub nothing : status ≡ Usage → out.after ≡ out.before
     pub usage : status ≡ Usage → (text : List ℕ) × Told error text

@@ -139,6 +139,13 @@ pub record FailsBesideByShards (contents : List ℕ → Option (List ℕ)) (poin
   pub read : AreRecorded contents replies recorded
   pub failed : FailsToCheckByShards recorded points options bytes out error
 
+-- the combined answers were not compared with the replies in the files of these names, or something failed
+abbrev pub FailsToCheckFilesByShards : NamedFiles → List (List ℕ) → Options → List (Option (List ℕ)) → List (List ℕ) → Written → Written
+    → Type 0
+FailsToCheckFilesByShards files points options bytes replies out error =
+    DidNotReadReplies files.has_opened files.cannot_open files.contents replies out error
+    ⊎ FailsBesideByShards files.contents points options bytes replies out error
+
 -- the task of a command line is done with these split points, on files of batches with these bytes
 abbrev pub IsTaskDoneByShards : {W : Type 0} → (W → SinkState) → NamedFiles → List (List ℕ) → List (Option (List ℕ)) → CommandLine
     → Task → RunReport W → Written → Type 0
@@ -165,8 +172,7 @@ TaskFailsByShards state_of files points bytes line task.Print report out error =
 TaskFailsByShards state_of files points bytes line (task.Summarize form None) report out error =
     FailsToSummarizeByShards form points (quieted line.options) bytes out error
 TaskFailsByShards state_of files points bytes line (task.Check replies) report out error =
-    DidNotReadReplies files.has_opened files.cannot_open files.contents (texts replies.items) out error
-    ⊎ FailsBesideByShards files.contents points line.options bytes (texts replies.items) out error
+    FailsToCheckFilesByShards files points line.options bytes (texts replies.items) out error
 TaskFailsByShards state_of files points bytes line _ report out error = ⊥
 
 -- Command lines.

@@ -32,9 +32,9 @@ pub use met::{Ended, Met};
 pub use program::{run, run_in};
 pub use replay::{replay_and_summarize_over, replay_over};
 pub use replay_arguments::{
-    CommandLine, FileError, Files, OpeningError, Refusal, STANDARD_INPUT, Sharding, SummaryFile,
-    Task, WrittenFile, create_files, fail_to_create, fail_to_create_file, fail_to_open, open_files,
-    read_words,
+    CommandLine, Extent, FileError, Files, OpeningError, Refusal, STANDARD_INPUT, Sharding,
+    SummaryFile, Task, WrittenFile, create_files, fail_to_create, fail_to_create_file,
+    fail_to_open, open_files, read_words,
 };
 pub use replay_output::{
     AnswerError, Ending, Filter, Form, Line, Options, PackedText, PrintError, ProxyFailure, Report,

@@ -16,6 +16,15 @@ pub enum FileError {
     Memory,
 }
 
+/// How much of a file its reader is for.
+#[derive(Clone, Copy, Debug, PartialEq, Eq)]
+pub enum Extent {
+    /// All of it: the progress through a long file may be shown.
+    Complete,
+    /// Its first batches: no progress is shown.
+    Beginning,
+}
+
 /// Opens files by their names, and standard input by its own, [`STANDARD_INPUT`].
 pub trait Files {
     type Reader: Source + Send + Drop + 'static;
@@ -49,8 +58,8 @@ pub trait Files {
     // The file of this name can't be opened to be written.
     ghost cannot_create: { Self → List ℕ → Type 0 };
 
-    /// Opens the file of this name, to be read from its beginning.
-    fn open(&self, name: &str) -> Result<Self::Reader, FileError>
+    /// Opens the file of this name, to be read from its beginning. The extent changes no byte.
+    fn open(&self, name: &str, extent: Extent) -> Result<Self::Reader, FileError>
         ensures contents { IfOk result (λ reader. Self.Reader.remaining reader
             ≡ contents self.now name.now) }
         ensures opened { OnOk result (has_opened self.now name.now) }

@@ -10,7 +10,7 @@ ghost use Rattle.replay_program.specs.Replies.{replies_line, replies_of};
 
 use itoa::Buffer;
 use keyspace::Reply;
-use replay_arguments::{Files, OpeningError, open_files};
+use replay_arguments::{Extent, Files, OpeningError, open_files};
 use replay_output::{StartError, Status, fault_text, print_start_error};
 use std::alloc::Global;
 use wire::{Failed, Sink, Source, WireError, read_reply, write_all};
@@ -41,7 +41,7 @@ pub fn read_replies<F: Files>(
         (IsCauseOf (F.has_opened files.now) (F.cannot_open files.now) (F.contents files.now)
         (map (λ name. name.now) names.now)) }
 {
-    match open_files(alloc, files, names) {
+    match open_files(alloc, files, names, Extent::Complete) {
         Ok(readers) => read_all(alloc, readers),
         Err(OpeningError::CannotOpen(proxy)) => Err(RepliesError::CannotOpen(proxy)),
         Err(OpeningError::Memory) => Err(RepliesError::Memory),

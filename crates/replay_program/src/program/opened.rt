@@ -6,7 +6,7 @@ ghost use Rattle.replay_arguments.specs.Opening.{IsFirstRefused, contents_each};
 ghost use Rattle.replay_program.specs.Program.{texts};
 
 use flow::WaitingRoom;
-use replay_arguments::{CommandLine, Files, OpeningError, open_files};
+use replay_arguments::{CommandLine, Extent, Files, OpeningError, open_files};
 use std::alloc::{AllocError, Global};
 use std::sync::Arc;
 
@@ -33,7 +33,7 @@ pub fn open_batches<F: Files>(
         → IsFirstRefused (F.has_opened files.now) (F.cannot_open files.now)
         (texts line.now.files.items) proxy }
 {
-    let readers = match open_files(alloc, files, &line.files) {
+    let readers = match open_files(alloc, files, &line.files, Extent::Complete) {
         Ok(readers) => readers,
         Err(cause) => return Err(cause),
     };

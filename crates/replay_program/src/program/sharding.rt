@@ -7,9 +7,10 @@ ghost use Rattle.replay_arguments.specs.Asks.{Asks};
 ghost use Rattle.replay_arguments.specs.Opening.{contents_each};
 ghost use Rattle.replay_program.specs.Program.{OfOutput, named_files, texts};
 ghost use Rattle.replay_program.specs.Sharded.{HasMetByShards};
-ghost use Rattle.replay_program.specs.ShardedProgram.{ArePointsOf, IsLineDoneByShards, IsWhyNotSharded};
-ghost use Rattle.replay_program.specs.ShardedProgram.{LineFailsAndSaysByShards, LineFailsByShards};
-ghost use Rattle.replay_program.specs.ShardedProgram.{LineFindsDifferencesByShards, regular_files};
+ghost use Rattle.replay_program.specs.ShardedProgram.{ArePointsOf, IsLineDoneByShards};
+ghost use Rattle.replay_program.specs.ShardedProgram.{IsWhyNotSharded, LineFailsAndSaysByShards};
+ghost use Rattle.replay_program.specs.ShardedProgram.{LineFailsByShards, regular_files};
+ghost use Rattle.replay_program.specs.ShardedProgram.{LineFindsDifferencesByShards};
 ghost use Rattle.replay_program.specs.Replayed.{HasFailed, Written, written};
 ghost use Rattle.replay_sharded.specs.Files.{ReadTheFiles};
 ghost use Rattle.replay_stream.specs.Sinks.{state_by};
@@ -27,12 +28,14 @@ use std::thread::Threads;
 use task::run_task_sharded;
 use wire::Sink;
 
+mod comparison;
 mod opened;
+mod printing;
 mod task;
 
 /// Opens the files of batches once per shard, creates the file for the output, if one is named, and
-/// does the task. If one of the files isn't a regular one, can't be opened or created, or the file of
-/// split points has a fault, nothing is printed to `out`, and that is reported to `error`.
+/// does the task. If one of the files isn't a regular one, can't be opened or created, or the file
+/// of split points has a fault, nothing is printed to `out`, and that is reported to `error`.
 ///
 /// With `--verbose`, a failure is explained by one more line on `error`, unless there is nothing to
 /// say, or memory is refused. If a file isn't a regular one, nothing more is said.

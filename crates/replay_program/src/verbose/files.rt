@@ -6,7 +6,7 @@ ghost use Rattle.replay_diagnosis.specs.Following.{HasLeast};
 ghost use Rattle.replay_program.specs.Verbose.{AreBatches, AreExamined, IsFirstFound, IsFoundIn};
 ghost use Rattle.replay_program.specs.Program.{texts};
 
-use replay_arguments::{FileError, Files, STANDARD_INPUT};
+use replay_arguments::{Extent, FileError, Files, STANDARD_INPUT};
 use replay_diagnosis::{Batches, Finding, examine};
 use std::alloc::Global;
 
@@ -55,7 +55,7 @@ fn examine_file<F: Files>(alloc: Global, files: &F, name: &str) -> Result<Batche
     if name == STANDARD_INPUT {
         return Err(Finding::StandardInput);
     }
-    let mut reader = match files.open(name) {
+    let mut reader = match files.open(name, Extent::Complete) {
         Ok(reader) => reader,
         Err(error) => return Err(unopened(error)),
     };

@@ -13,7 +13,7 @@ ghost use Rattle.replay_sharded.specs.Files.{ReadTheFiles};
 
 use flow::WaitingRoom;
 use replay_arguments::{
-    CommandLine, Files, OpeningError, fail_to_open, first_irregular, open_files,
+    CommandLine, Extent, Files, OpeningError, fail_to_open, first_irregular, open_files,
 };
 use replay_output::{StartError, Status, begin_line, fail_to_start};
 use replay_sharded::ShardedReaders;
@@ -44,8 +44,8 @@ impl From<AllocError> for ShardingError {
     }
 }
 
-/// Finds the split points, and opens the files of batches of a command line once per shard. The first
-/// file that isn't a regular one, or can't be opened, is the error.
+/// Finds the split points, and opens the files of batches of a command line once per shard. The
+/// first file that isn't a regular one, or can't be opened, is the error.
 pub fn open_sharded<F: Files>(
     alloc: Global,
     files: &F,
@@ -92,10 +92,10 @@ fn points_of<F: Files>(
         (F.has_opened files.now) (F.cannot_open files.now) (texts line.now.files.items)) }
 {
     let Some(name) = line.sharding.split_points else {
-        let readers = open_all(alloc, files, &line.files)?;
+        let readers = open_all(alloc, files, &line.files, Extent::Beginning)?;
         return Ok(points_of_sample(alloc, readers, line.sharding.resolvers)?);
     };
-    let Ok(mut reader) = files.open(name) else {
+    let Ok(mut reader) = files.open(name, Extent::Complete) else {
         return Err(ShardingError::Points(PointsError::CannotOpen));
     };
     match read_points(alloc, &mut reader, line.sharding.resolvers) {
@@ -122,7 +122,7 @@ fn open_each<F: Files>(
 {
     let mut each = Vec::with_capacity(alloc, shards)?;
     for _ in 0..shards {
-        each.push_reserved(open_all(alloc, files, names)?);
+        each.push_reserved(open_all(alloc, files, names, Extent::Complete)?);
     }
     Ok(each)
 }
@@ -131,6 +131,7 @@ fn open_all<F: Files>(
     alloc: Global,
     files: &F,
     names: &[&str],
+    extent: Extent,
 ) -> Result<Vec<F::Reader>, ShardingError>
     ensures contents { IfOk result (λ readers.
         map F.Reader.remaining readers.items
@@ -140,7 +141,7 @@ fn open_all<F: Files>(
     ensures why { IfErr result (IsWhyNotSharded (F.is_regular files.now) (F.is_irregular files.now)
         (F.has_opened files.now) (F.cannot_open files.now) (map (λ name. name.now) names.now)) }
 {
-    match open_files(alloc, files, names) {
+    match open_files(alloc, files, names, extent) {
         Ok(readers) => Ok(readers),
         Err(cause) => Err(ShardingError::Opening(cause)),
     }
