@@ -88,6 +88,42 @@ fn files_of_one_chain() {
     }
 }
 
+/// Holds back one of two proxies: it sends its batches from a place on only once the other one has taken that many answers.
+struct Behind {
+    taken: [AtomicU64; 2],
+    proxy: usize,
+    place: u64,
+    count: u64,
+}
+
+impl Gatekeeper for Behind {
+    fn may_send(&self, proxy: usize, place: u64) -> bool {
+        proxy != self.proxy || place < self.place || self.taken[1 - proxy].load(Ordering::SeqCst) >= self.count
+    }
+
+    fn answered(&self, proxy: usize, _place: u64) {
+        self.taken[proxy].fetch_add(1, Ordering::SeqCst);
+    }
+}
+
+/// Why a proxy must not send two different batches of one version: each shard processes another one of them. Both are reported as
+/// committed, and so are a read that misses a write of the first (`x`) and one that misses a write of the second (`b`).
+#[test]
+fn two_batches_of_one_version() {
+    let first: &[&str] = &["-1>0", "90>100: W[a] W[x]", "0>100: W[b] W[y]", "100>200: R[a] @99; R[b] @99; R[x] @99; R[y] @99"];
+    let second: &[&str] = &["0>90"];
+    let gatekeeper = |(proxy, place, count)| {
+        let behind = Behind { taken: Default::default(), proxy, place, count };
+        KitArc::new(Global, Unshared(behind)).ok().expect("memory is ample")
+    };
+    let ShardedReaders { readers, points, proxies, .. } = sharded(&[first, second], &["k"], &[None, None]);
+    // In the first shard, version 90 comes before both batches of version 100, and in the second one after them.
+    let gatekeepers = [(0, 1, 1), (1, 0, 4)].map(gatekeeper).into_iter().collect::<Vec<_>>().into();
+    let readers = ShardedReaders { readers, points, gatekeepers, proxies };
+    let expected = "0 0 empty\n0 100 committed\n0 100 committed\n0 200 conflict committed committed conflict\n1 90 never\ndone: ";
+    assert_eq!(printed(readers, 1_000_000), expected);
+}
+
 /// The stop of the first shard that met one is printed, and then its number. Batches that all shards have answered have lines.
 #[test]
 fn stops() {
