@@ -1,5 +1,5 @@
--- How often the reference resolver answers a proxy at one version: as often as its log takes a batch of this version from the proxy, but for
--- the batches that are held.
+-- How often the reference resolver answers a proxy at one version: once per batch of this version that its log takes from the proxy, except
+-- those that are held.
 use Rattle.std.proofs.Common.{◌≡◌, ℕ, zero, suc, ◌+◌, Bool, true, false, not, cond, List, [], ◌∷◌, ◌++◌, length, refl, sym, ap, ◌∙◌, arith}
 use Rattle.std.specs.Prelude.{ℤ, ◌==◌, ◌&&◌, int_lt, Option, None, Some, map, filter, All}
 use Rattle.std.specs.Ordering.{int_eq}
@@ -120,7 +120,7 @@ module _ (proxy : ℕ) (version : ℤ) where
   abbrev seen : State → ℕ
   seen s = count_of is_answer s.answered + count_of is_held s.held
 
-  -- there are so many more of them later
+  -- that many more were answered or are held later
   abbrev Sees : State → State → ℕ → Type 0
   Sees old new more = All HasVersion new.processed × (seen new ≡ seen old + more)
 

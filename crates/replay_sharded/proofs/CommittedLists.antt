@@ -218,12 +218,15 @@ rises_among least (x ∷ own) (y ∷ chain) rises also all =
     elim (all x (inl refl)) [
       | inl here ↦
           let from_here : RisesFrom y.batch.version own = subst (λ (r : Processed). RisesFrom r.batch.version own) (sym here) rises.1 in
-          inl (sym here, rises_among y.batch.version own chain from_here also.1 (λ p inside.
-          elim (all p (inr inside)) [
-            | inl first ↦ absurd (not_itself y.batch.version
-                (subst (λ (r : Processed). y.batch.version <ℤ r.batch.version) (sym first) (above y.batch.version own from_here p inside)))
-            | inr later ↦ later
-          ]))
+          inl (
+            sym here,
+            rises_among y.batch.version own chain from_here also.1 (λ p inside.
+                elim (all p (inr inside)) [
+                  | inl first ↦ absurd (not_itself y.batch.version
+                      (subst (λ (r : Processed). y.batch.version <ℤ r.batch.version) (sym first) (above y.batch.version own from_here p inside)))
+                  | inr later ↦ later
+                ]),
+          )
       | inr later ↦
           let from_here : RisesFrom y.batch.version (x ∷ own) = (above y.batch.version chain also.1 x later, rises.1) in
           inr (rises_among y.batch.version (x ∷ own) chain from_here also.1 (λ p inside.

@@ -1,6 +1,6 @@
 -- What a combined reply says of the shards: each has replied to the proxy at this version, with the reply of a batch that it has processed.
 use Rattle.std.specs.Prelude.{◌≡◌, ◌<◌, ℕ, suc, ℤ, Bool, List, [], ◌∷◌, length, map, Option, None, Some, slice_get, slice_index_or, Any}
-use Rattle.std.specs.List.{All, AllZip}
+use Rattle.std.specs.List.{AllZip}
 use Rattle.std.specs.Ordering.{int_eq}
 use Rattle.std.proofs.Common.{refl, sym, ap, subst, ◌∙◌, inl, inr, arith, append-nil}
 use Rattle.std.proofs.lemmas.Bool.{cases_eq, cases_lt}
@@ -33,15 +33,15 @@ any_later P x xs some = (suc some.0, some.1, omega (arith, some.2), some.3, some
 have_replied : (own : List Answer) (notes : List (Option (List (List ℕ)))) → length own ≡ length notes → (Any IsNever own → ⊥)
     → (Any IsHeld own → ⊥) → (each : List ShardReply) × HaveReplied own notes each
 have_replied [] [] same unsaid unheld = ([], tt)
-have_replied [] (note ∷ notes) same unsaid unheld = absurd (omega (arith, same))
+have_replied [] (kept ∷ notes) same unsaid unheld = absurd (omega (arith, same))
 have_replied (a ∷ own) [] same unsaid unheld = absurd (omega (arith, same))
-have_replied (answer.Reply reply ∷ own) (note ∷ notes) same unsaid unheld =
+have_replied (answer.Reply reply ∷ own) (kept ∷ notes) same unsaid unheld =
     let rest = have_replied own notes (omega (arith, same)) (λ some. unsaid (any_later IsNever (answer.Reply reply) own some))
     (λ some. unheld (any_later IsHeld (answer.Reply reply) own some)) in
-    (noted reply note ∷ rest.0, (refl, rest.1))
-have_replied (answer.Never version ∷ own) (note ∷ notes) same unsaid unheld =
+    (noted reply kept ∷ rest.0, (refl, rest.1))
+have_replied (answer.Never version ∷ own) (kept ∷ notes) same unsaid unheld =
     absurd (unsaid (any_first IsNever (answer.Never version) own tt))
-have_replied (answer.Held version ∷ own) (note ∷ notes) same unsaid unheld =
+have_replied (answer.Held version ∷ own) (kept ∷ notes) same unsaid unheld =
     absurd (unheld (any_first IsHeld (answer.Held version) own tt))
 
 noted_reply : (reply : Reply) (kept : Option (List (List ℕ))) → (noted reply kept).reply ≡ reply
@@ -54,8 +54,8 @@ IsReplyOf a s = a ≡ answer.Reply s.reply
 have_each : (own : List Answer) (notes : List (Option (List (List ℕ)))) (each : List ShardReply) → HaveReplied own notes each
     → AllZip IsReplyOf own each
 have_each [] [] [] have = tt
-have_each (answer.Reply reply ∷ own) (note ∷ notes) (s ∷ each) have =
-    let same : s.reply ≡ reply = ap (λ (t : ShardReply). t.reply) have.0 ∙ noted_reply reply note in
+have_each (answer.Reply reply ∷ own) (kept ∷ notes) (s ∷ each) have =
+    let same : s.reply ≡ reply = ap (λ (t : ShardReply). t.reply) have.0 ∙ noted_reply reply kept in
     (ap (λ (r : Reply). answer.Reply r) (sym same), have_each own notes each have.1)
 have_each _ _ _ have = absurd have
 

@@ -1,11 +1,11 @@
 -- With every combined answer there, what was combined are the answers of the logs of all shards.
-use Rattle.std.specs.Prelude.{◌≡◌, ℕ, ℤ, List, [], ◌∷◌, ◌++◌, map, IsSomeAnd, Option, Some, slice_get}
+use Rattle.std.specs.Prelude.{◌≡◌, ℕ, List, [], ◌∷◌, map, IsSomeAnd, Option, Some, slice_get}
 use Rattle.std.specs.List.{All, AllZip}
 use Rattle.std.proofs.Common.{refl, sym, ap, subst, ◌∙◌}
 use Rattle.std.proofs.lemmas.List.Elements.{All-head, All-tail}
 use Rattle.keyspace.specs.declared.answer.Answer.{Answer}
 use Rattle.keyspace.specs.declared.batch.Batch.{Batch}
-use Rattle.keyspace.specs.Run.{Step, answers}
+use Rattle.keyspace.specs.Run.{answers}
 use Rattle.serial.specs.Shards.{Shard}
 use Rattle.replay_output.specs.Failures.{IsClean}
 use Rattle.replay_output.specs.declared.options.Options.{Options}

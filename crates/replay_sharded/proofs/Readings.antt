@@ -1,5 +1,5 @@
 -- Streams of clips, by what is left of their files.
-use Rattle.std.specs.Prelude.{◌≡◌, ◌<◌, ◌⊎◌, ℕ, zero, suc, ◌++◌, List, [], ◌∷◌, length, map, Option, None, Some, IfOk, IsSomeAnd, Result, Ok, Err, slice_get}
+use Rattle.std.specs.Prelude.{◌≡◌, ◌<◌, ℕ, zero, suc, ◌++◌, List, [], ◌∷◌, length, map, Option, None, Some, IfOk, IsSomeAnd, Result, Ok, Err, slice_get}
 use Rattle.std.specs.Option.{option_map, option_or}
 use Rattle.std.specs.List.{All}
 use Rattle.std.proofs.Common.{refl, sym, ap, subst, ◌∙◌, inl, inr, arith}

@@ -1,8 +1,8 @@
--- The theorem, but for two parts that are of the logs and the combined answers alone: that each batch has its answer, and that what was
+-- The theorem, except two parts that are of the logs and the combined answers alone: that each batch has its answer, and that what was
 -- committed is serializable.
 use Rattle.std.specs.Prelude.{◌≡◌, ◌≤◌, ℕ, ℤ, List, [], ◌∷◌, length, map, vec_items, Option, Some, slice_get}
 use Rattle.std.specs.List.{All, AllZip}
-use Rattle.std.proofs.Common.{refl, sym, ap, subst, ◌∙◌, arith}
+use Rattle.std.proofs.Common.{sym, subst, ◌∙◌, arith}
 use Rattle.std.proofs.lemmas.List.{length-map}
 use Rattle.std.proofs.lemmas.List.Elements.{All-head}
 use Rattle.std.proofs.lemmas.Option.{same_Some}
@@ -12,7 +12,6 @@ use Rattle.keyspace.specs.Run.{Step}
 use Rattle.serial.specs.Shards.{IsRising, Shard, shards}
 use Rattle.replay_output.specs.Failures.{IsClean}
 use Rattle.replay_output.specs.Line.{answers_of}
-use Rattle.replay_output.specs.declared.line.Line.{Line}
 use Rattle.replay_output.specs.declared.options.Options.{Options}
 use Rattle.replay_workers.proofs.callers.Lists.{all_at, found, mapped_at}
 use Rattle.replay_shards.specs.Answered.{notes_by}

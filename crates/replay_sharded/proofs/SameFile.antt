@@ -1,15 +1,13 @@
 -- Known bytes are read in one way: readers that have come to their end have read the same batches.
-use Rattle.std.specs.Prelude.{◌≡◌, ◌<◌, ℕ, List, [], ◌∷◌, ◌++◌, length, Option, None, Some}
-use Rattle.std.proofs.Common.{refl, sym, ap, subst, ◌∙◌, arith}
+use Rattle.std.specs.Prelude.{◌≡◌, ℕ, List, [], ◌∷◌, ◌++◌, Option, None, Some}
+use Rattle.std.proofs.Common.{refl, sym, ap, subst, ◌∙◌}
 use Rattle.std.proofs.lemmas.List.{append_cancel_left}
-use Rattle.std.proofs.lemmas.Option.{same_Some}
 use Rattle.std.specs.Io.KnownBytes.{IsAtEnd}
 use Rattle.keyspace.specs.declared.batch.Batch.{Batch}
 use Rattle.wire.specs.declared.version.WireVersion.{WireVersion}
-use Rattle.wire.specs.Fields.{batch_fields}
 use Rattle.wire.specs.NextFrame.{TakesFrame}
 use Rattle.wire.specs.Reading.{version_told}
-use Rattle.wire.specs.Spelling.{SpellsBatch, batch_body}
+use Rattle.wire.specs.Spelling.{SpellsBatch}
 use Rattle.replay_workers.specs.Batches.{GivesEach}
 
 -- no frame begins another (`wire::laws::one_spelling`)

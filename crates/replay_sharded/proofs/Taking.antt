@@ -1,5 +1,5 @@
 -- The runs of the shards, while the answers to one proxy after the other are taken.
-use Rattle.std.specs.Prelude.{◌≡◌, ◌≤◌, ◌<◌, ◌+◌, ℕ, zero, suc, List, [], ◌∷◌, ◌++◌, length, take, drop, map, vec_len, ◌⊎◌, true, false, IfSome, Some, slice_get, slice_set}
+use Rattle.std.specs.Prelude.{◌≡◌, ◌≤◌, ◌<◌, ◌+◌, ℕ, zero, suc, List, [], ◌∷◌, ◌++◌, length, take, drop, vec_len, true, IfSome, Some, slice_get, slice_set}
 use Rattle.std.specs.List.{All, AllZip}
 use Rattle.std.proofs.Common.{refl, sym, ap, subst, ◌∙◌, arith, inl, inr}
 use Rattle.std.proofs.lemmas.Grind.{take-set_at}
@@ -9,7 +9,7 @@ use Rattle.std.proofs.lemmas.List.Elements.{All-head, All-tail, All-nil, All-con
 use Rattle.shards.proofs.callers.Combining.{last_or_before, take_next}
 use Rattle.replay_workers.proofs.callers.Lists.{AllZip-also}
 use Rattle.replay_shards.specs.declared.answered.Answered.{Answered}
-use Rattle.replay_shards.specs.Answered.{AreAnswersTogether, AreKept}
+use Rattle.replay_shards.specs.Answered.{AreAnswersTogether}
 use Rattle.replay_shards.specs.Failures.{IsFailureTogether}
 use Rattle.replay_output.specs.declared.failures.ProxyFailure.{ProxyFailure}
 use Rattle.replay_output.specs.declared.line.Line.{Line}

@@ -1,7 +1,7 @@
 -- Streams of which only a view is looked at, while this holds of each of their states.
-use Rattle.std.specs.Prelude.{◌≡◌, ◌≢◌, ℕ, ℤ, Bool, List, [], ◌∷◌, length, map, Option, Some, None, IfSome, slice_get}
+use Rattle.std.specs.Prelude.{◌≡◌, ◌≢◌, ℕ, ℤ, Bool, List, [], ◌∷◌, map, Option, Some, None, IfSome}
 use Rattle.std.specs.List.{All}
-use Rattle.std.proofs.Common.{refl, sym, ap, subst, ◌∙◌}
+use Rattle.std.proofs.Common.{sym, ap, subst, ◌∙◌}
 use Rattle.std.proofs.lemmas.List.{length-map}
 use Rattle.std.proofs.lemmas.Option.{same_Some}
 use Rattle.keyspace.specs.declared.batch.Batch.{Batch}
@@ -15,7 +15,7 @@ use Rattle.replay_output.specs.declared.line.Line.{Line}
 use Rattle.replay_output.specs.declared.options.Options.{Options}
 use Rattle.replay_output.specs.declared.options.style.Style.{Style}
 use Rattle.replay_workers.specs.Batches.{GivesEach}
-use Rattle.replay_workers.specs.Run.{IsServedOver, LeavesBatchOver, IsRunOver}
+use Rattle.replay_workers.specs.Run.{IsServedOver, IsRunOver}
 use Rattle.replay_workers.proofs.callers.Lists.{all_at, found, mapped_at}
 
 module _ {X Y : Type 0} (view : X → Y) (Holds : X → Type 0) (Given : X → X → Batch → Type 0) (IsEndOf : X → Type 0)

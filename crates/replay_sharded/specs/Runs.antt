@@ -1,12 +1,11 @@
 -- The runs of all shards, each beside a reference resolver. This project's own.
-use Rattle.std.specs.Prelude.{◌≡◌, ℕ, List, length, map, vec_items, vec_len, Option, IsSomeAnd, slice_get}
+use Rattle.std.specs.Prelude.{◌≡◌, ℕ, List, length, map, vec_len, Option, IsSomeAnd, slice_get}
 use Rattle.std.specs.List.{All, AllZip}
 use Rattle.std.specs.Io.KnownBytes.{IsAtEnd}
 use Rattle.serial.specs.Shards.{Shard, shards}
 use Rattle.replay_output.specs.declared.line.Line.{Line}
 use Rattle.replay_output.specs.declared.options.Options.{Options}
 use Rattle.replay_output.specs.declared.options.form.Form.TheVariants.{Kept}
-use Rattle.replay_output.specs.declared.options.style.Style.{Style}
 use Rattle.replay_output.specs.Filter.{all_lines}
 use Rattle.replay_workers.specs.Run.{IsRunOver}
 use Rattle.replay_workers.specs.Worker.{IsFaultAt}

@@ -1,10 +1,8 @@
-use Rattle.std.proofs.Common.{◌≡◌, ◌≤◌, ℕ, List, [], ◌∷◌, length, rules, refl, ap, sym, subst, ◌∙◌, arith, Global}
-use Rattle.std.specs.Prelude.{Option, map, vec_items, vec_len}
-use Rattle.std.specs.List.{All, AllZip}
+use Rattle.std.proofs.Common.{◌≡◌, ◌≤◌, ℕ, [], length, sym, subst, ◌∙◌, arith, Global}
+use Rattle.std.specs.Prelude.{map, vec_items, vec_len}
+use Rattle.std.specs.List.{All}
 use Rattle.std.specs.declared.vec.Vec.{Vec}
-use Rattle.std.proofs.lemmas.Grind.{common_steps}
 use Rattle.std.proofs.lemmas.List.Elements.{All-weaker}
-use Rattle.serial.specs.Shards.{shards}
 use Rattle.resolver.specs.declared.resolver_core.TheConstants.{MAX_PROXIES}
 use Rattle.replay_output.specs.Line.{answers_of}
 use Rattle.replay_shards.specs.declared.clips.Clips.{Clips}

@@ -1,5 +1,5 @@
-use Rattle.std.proofs.Common.{◌≡◌, ◌≤◌, ℕ, List, [], ◌∷◌, ◌++◌, rules, refl, ap, sym, subst, ◌∙◌, append_assoc, append-nil, arith, Global}
-use Rattle.std.specs.Prelude.{Option, map, vec_items, vec_len}
+use Rattle.std.proofs.Common.{◌≡◌, ◌≤◌, List, [], ◌∷◌, ◌++◌, rules, refl, ap, sym, subst, ◌∙◌, append_assoc, append-nil, arith, Global}
+use Rattle.std.specs.Prelude.{map, vec_items, vec_len}
 use Rattle.std.specs.List.{All, AllZip}
 use Rattle.std.specs.Vec.Iter.{into_iter_items}
 use Rattle.std.specs.declared.vec.Vec.{Vec}

@@ -6,7 +6,6 @@ use Rattle.replay_sharded.proofs.runs.start.Lts.{arg-1-3}
 use denote.Struct.Declared.{shape}
 use Rattle.keyspace.proofs.reply.Reply.TheSendSync as reply
 use Rattle.resolver.proofs.stop.Stop.TheSendSync as stop
-use Rattle.shards.proofs.read_indices.ReadIndices.TheSendSync as indices
 use Rattle.replay_output.proofs.failures.ProxyFailure.TheSendSync as failure
 use Rattle.replay_output.proofs.start.StartError.TheSendSync as cause
 use Rattle.replay_output.specs.contracts.line.Line as Line

@@ -1,4 +1,4 @@
-use Rattle.std.proofs.Common.{◌≡◌, List, ◌∙◌, ap, refl, sym, subst, arith}
+use Rattle.std.proofs.Common.{List, ◌∙◌, refl, sym, subst}
 use Rattle.std.proofs.lemmas.List.{length-map}
 use Rattle.std.specs.Prelude.{Bool, map, vec_items}
 use Rattle.std.specs.Io.KnownBytes.{IsAtEnd}
