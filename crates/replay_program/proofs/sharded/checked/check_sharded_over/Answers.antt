@@ -1,4 +1,4 @@
-use Rattle.std.proofs.Common.{◌≡◌, [], ◌≢◌, List, map, refl, sym, subst, inl, inr, ◌∙◌, arith, Global}
+use Rattle.std.proofs.Common.{◌≡◌, [], ◌≢◌, map, refl, sym, subst, inl, inr, ◌∙◌, arith, Global}
 use Rattle.std.specs.Prelude.{OnOk, length, vec_items}
 use Rattle.std.proofs.lemmas.List.{length-map}
 use Rattle.keyspace.specs.declared.reply.Reply.{Reply}
