@@ -1,11 +1,8 @@
 -- How a command line with several resolvers ends, from what each of its parts says.
-use Rattle.std.specs.Prelude.{◌≡◌, ◌≤◌, ℕ, codes, false, true, List, length, Option, None, Some, IfSome, IsSomeAnd, vec_len}
+use Rattle.std.specs.Prelude.{◌≡◌, ◌≤◌, ℕ, List, Option, None, Some, IfSome, IsSomeAnd}
 use Rattle.std.specs.Borrow.{Bor}
 use Rattle.std.specs.List.{All}
-use Rattle.std.proofs.Common.{ap, arith, inl, inr, refl, sym, subst, ◌∙◌}
-use Rattle.std.proofs.lemmas.Option.{same_Some}
-use Rattle.clap.specs.Values.{bool_text}
-use Rattle.clap.specs.Words.{first_of}
+use Rattle.std.proofs.Common.{arith, inl, inr, refl, sym, subst}
 use Rattle.resolver.specs.declared.stop.Stop.{Stop}
 use Rattle.replay_arguments.specs.declared.arguments.CommandLine.{CommandLine}
 use Rattle.replay_arguments.specs.declared.arguments.summary_file.SummaryFile.{SummaryFile}
@@ -14,9 +11,7 @@ use Rattle.replay_arguments.specs.declared.arguments.task.Task.TheVariants as ta
 use Rattle.replay_arguments.specs.declared.opening.files.FileError.{FileError}
 use Rattle.replay_arguments.specs.declared.opening.files.FileError.TheVariants as file_error
 use Rattle.replay_arguments.specs.declared.opening.written.WrittenFile.TheVariants.{Output, Summary}
-use Rattle.replay_arguments.specs.Asks.{Asks, HoldsTask, top_of}
 use Rattle.replay_arguments.specs.Opening.{written_line}
-use Rattle.replay_arguments.specs.Words.{HoldsTop, IsShared, IsTop, rows_of_words}
 use Rattle.replay_output.specs.declared.options.Options.{Options}
 use Rattle.replay_output.specs.declared.start.StartError.TheVariants as start
 use Rattle.replay_output.specs.Quieted.{quieted}
@@ -66,34 +61,6 @@ module _ (points : List (List ℕ)) (options : Options) (files : List (Option (L
         no_version = has.no_version;
         told = has.told;
       }
-
--- several resolvers are asked neither to explain nor to stream nor to list ranges
-module _ (words : List (List ℕ)) (line : CommandLine) (asks : Asks words line) (several : 2 ≤ line.sharding.resolvers) where
-  shared : IsShared (rows_of_words words)
-  shared = asks.sharding.several several
-
-  asked : (t : Task) → line.task ≡ t → HoldsTask (rows_of_words words) (vec_len line.files) line.options.style.form t
-  asked t is = subst (HoldsTask (rows_of_words words) (vec_len line.files) line.options.style.form) is asks.task
-
-  not_both : (text : Option (List ℕ)) → text ≡ Some (bool_text true) → ¬ (text ≡ Some (bool_text false))
-  not_both text on off =
-      let same : bool_text true ≡ bool_text false = same_Some (bool_text true) (bool_text false) (sym on ∙ off) in
-      absurd (omega (arith, ap length same))
-
-  no_top : (text : Option (List ℕ)) (top : ℕ) → IsTop text None → ¬ (IsTop text (Some top))
-  no_top None top none some = some
-  no_top (Some text) top none some = none
-
-  pub no_explain : ¬ (line.task ≡ task.Explain)
-  no_explain is = not_both _ (asked task.Explain is).explained shared.unexplained
-
-  pub no_stream : (records : _) → ¬ (line.task ≡ task.Stream records)
-  no_stream records is = not_both _ (asked (task.Stream records) is).streamed shared.at_end
-
-  pub no_ranges : (form : _) (top : ℕ) → ¬ (line.task ≡ task.Summarize form (Some top))
-  no_ranges form top is =
-      no_top (first_of (codes "top") (rows_of_words words)) top shared.no_ranges
-      (subst (λ (t : Task). HoldsTop (rows_of_words words) (top_of t)) is asks.top)
 
 module _ {W : Type 0} (state_of : W → SinkState) (files : NamedFiles) where
   module _ (points : List (List ℕ)) (bytes : List (Option (List ℕ))) where

@@ -19,7 +19,7 @@ pub run_line_sharded-requires-clause-several : goal.run_line_sharded-requires-cl
 run_line_sharded-requires-clause-several g c = λ κs bounds. c.is_several.ensures.several.0 c.if-is_several.true
 
 pub run_line-requires-clause-asked : goal.run_line-requires-clause-asked
-run_line-requires-clause-asked g c = λ κs bounds. asked_by (map string_bytes c.args.words.now) c.in-Ok-2.line c.in-Ok-2.ensures.asks
+run_line-requires-clause-asked g c = λ κs bounds. asked_by (map string_bytes c.args.words.now) c.in-Ok.line c.in-Ok.ensures.asks
 
 pub returns-in-Ok : goal.returns-in-Ok
 returns-in-Ok g c =
@@ -40,8 +40,8 @@ returns-in-Ok g c =
 
 pub returns-in-Ok-2 : goal.returns-in-Ok-2
 returns-in-Ok-2 g c =
-    let line = c.in-Ok-2.line in
-    let asked = c.in-Ok-2.ensures.asks in
+    let line = c.in-Ok.line in
+    let asked = c.in-Ok.ensures.asks in
     let ran = c.run_line.ensures in
     let one = λ (two : 2 ≤ line.sharding.resolvers).
     false≢true (sym c.if-is_several.false ∙ c.is_several.ensures.several.1 two) in

@@ -19,7 +19,7 @@ points_of_sample-requires g c =
         ap (λ (names : List (Bor (List ℕ))). length names) c.deref.ensures.value,
         files_of_names contents names,
         readers_of_files g.F.Reader.Source.remaining (contents_each contents (texts names)) c.in_ok-readers.readers
-        c.in_ok-readers.ensures.contents,
+            c.in_ok-readers.ensures.contents,
       );
     }
 

@@ -1,6 +1,7 @@
-use Rattle.std.proofs.Common.{◌≡◌, ◌∙◌, ℕ, List, Bor, ap, subst, sym}
+use Rattle.std.proofs.Common.{◌≡◌, ◌∙◌, ℕ, List, Option, Bor, None, ap, subst, sym}
 use Rattle.std.specs.Prelude.{◌≢◌}
 use Rattle.replay_arguments.specs.declared.arguments.task.Task.{Task}
+use Rattle.replay_arguments.specs.declared.arguments.task.Task.TheVariants as task
 use Rattle.replay_output.specs.declared.options.Options.{Options}
 use Rattle.replay_program.specs.declared.met.Met.{Met}
 use Rattle.replay_program.specs.Program.{named_files, texts}
@@ -15,7 +16,7 @@ use Rattle.replay_program.specs.ShardedProgram.{
 }
 use Rattle.replay_stream.specs.Sinks.{state_by}
 use Rattle.replay_program.proofs.Programs.{is_done}
-use Rattle.replay_program.proofs.ShardingEnds.{no_explain, no_ranges, no_stream, shards_met_quieted}
+use Rattle.replay_program.proofs.ShardingEnds.{shards_met_quieted}
 use Rattle.replay_program.proofs.program.sharding.task.run_task_sharded.Goals as goal
 
 pub returns-in-Print : goal.returns-in-Print
@@ -46,15 +47,19 @@ returns-in-Print g c =
       ends = ran.ends;
     }
 
-pub returns-in-Summarize-None : goal.returns-in-Summarize-None
-returns-in-Summarize-None g c =
+pub returns-in-Summarize-default-None : goal.returns-in-Summarize-default-None
+returns-in-Summarize-default-None g c =
     let f = c.args.files.now in
     let files = named_files (g.F.Files.contents f) (g.F.Files.has_opened f) (g.F.Files.cannot_open f)
     (g.F.Files.begun f) (g.F.Files.has_created f) (g.F.Files.cannot_create f) in
     let state = state_by g.F.Writer.Sink.given g.F.Writer.Sink.failures in
     let points = c.args.sharded.points in
     let line = c.args.line.now in
-    let form = c.in-Summarize-None.form in
+    let form = c.in-Summarize-default-None.form in
+    let none : c.in-Summarize-default-None.field-1 ≡ None =
+    rw c.in-Summarize-default-None.is at c.in-Summarize-default-None.field-1-is in
+    let is_task : line.task ≡ task.Summarize form None =
+    c.in-Summarize-default-None.is ∙ ap (λ (top : Option ℕ). task.Summarize form top) none in
     let ran = c.summarize_sharded_over-ended.ensures in
     let report = c.without_files.result in
     let status = c.without_files.ensures.status in
@@ -65,13 +70,13 @@ returns-in-Summarize-None g c =
     (g.E.Sink.failures c.args.error.now) (g.E.Sink.failures c.summarize_sharded_over-ended.new.error) in
     record {
       done = λ bytes read is.
-          subst (λ (t : Task). IsTaskDoneByShards state files points bytes line t report out) (sym c.in-Summarize-None.is)
+          subst (λ (t : Task). IsTaskDoneByShards state files points bytes line t report out) (sym is_task)
           (subst (λ (o : Options). IsSummarizedByShards form points o bytes out.before out.after) quiet
           (ran.done bytes read (sym status ∙ is)));
       differs = λ bytes read is. absurd (ran.same (sym status ∙ is));
       quiet = λ other. ran.quiet (is_done c.summarize_sharded_over-ended.result.status (λ is. other (status ∙ is)) ran.ends ran.same);
       failed = λ bytes read is.
-          subst (λ (t : Task). TaskFailsByShards state files points bytes line t report out error) (sym c.in-Summarize-None.is)
+          subst (λ (t : Task). TaskFailsByShards state files points bytes line t report out error) (sym is_task)
           (subst (λ (o : Options). FailsToSummarizeByShards form points o bytes out error) quiet (ran.failed bytes read (sym status ∙ is)));
       met = λ bytes read.
           subst (λ (m : Met). HasMetByShards points line.options bytes m error) (sym c.without_files.ensures.met)
