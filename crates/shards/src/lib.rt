@@ -21,6 +21,7 @@ pub mod laws;
 mod numbering;
 mod reach;
 mod read_indices;
+mod shard_ends;
 mod shard_reply;
 mod shard_tables;
 mod split_points;

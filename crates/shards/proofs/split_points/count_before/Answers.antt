@@ -1,0 +1,59 @@
+use Rattle.std.proofs.Common.{◌≡◌, ◌∙◌, ◌+◌, ◌≤◌, Bool, true, false, not, ℕ, List, take, length, is_le, refl, sym, ap, subst, rules, arith, take_all}
+use Rattle.std.specs.Prelude.{Option, Some, IfSome, All, slice_get}
+use Rattle.std.specs.Ordering.{nat_cmp}
+use Rattle.std.specs.Cmp.Lexicographic.{slice_cmp}
+use Rattle.std.proofs.lemmas.List.Elements.{All-push}
+use Rattle.std.proofs.lemmas.Option.{slice_get_read, slice_get_past}
+use Rattle.keys.specs.Key.{is_before, IsBefore, IsAtMost}
+use Rattle.keys.proofs.callers.KeyOrder.{is_le-cmp}
+use Rattle.shards.proofs.Leasts.{take_next}
+use Rattle.shards.proofs.split_points.count_before.Goals.{After-is_le}
+use Rattle.shards.proofs.split_points.count_before.Goals as goal
+
+-- the point is at the index
+here : (c : After-is_le) → slice_get c.args.points.now c.loop-index.index ≡ Some c.index-points-index.result
+here c =
+    slice_get_read c.args.points.now _ c.loop-index.index c.index-points-index.result refl c.loop-index-test.true c.index-points-index.is
+
+-- the test says whether it comes before the key
+tested : (c : After-is_le) → c.is_le.result ≡ not (is_before c.index-points-index.result c.args.key.now)
+tested c =
+    let compared : c.cmp.result ≡ slice_cmp nat_cmp c.args.key.now c.as_bytes.result.now = search rules in
+    c.is_le.ensures ∙ ap is_le (compared ∙ ap (slice_cmp nat_cmp c.args.key.now) c.as_bytes.ensures.bytes)
+    ∙ is_le-cmp c.args.key.now c.index-points-index.result
+
+not_false : (b : Bool) → not b ≡ false → b ≡ true
+not_false true h = refl
+not_false false h = cc
+
+pub returns-then-is_le : goal.returns-then-is_le
+returns-then-is_le c =
+    let at = goal.at.returns-then-is_le c in
+    let after : IsAtMost c.args.key.now c.index-points-index.result = sym (tested at.After-is_le) ∙ c.if-is_le.true in
+    record {
+      within = omega (arith, c.loop-index-test.true);
+      before = c.loop-index.invariant;
+      next = subst (λ (o : Option (List ℕ)). IfSome o (λ point. IsAtMost c.args.key.now point)) (sym (here at.After-is_le)) after;
+    }
+
+pub loop-index-preserved : goal.loop-index-preserved
+loop-index-preserved c =
+    let at = goal.at.loop-index-preserved c in
+    let points = c.args.points.now in
+    let i = c.loop-index.index in
+    let before : IsBefore c.index-points-index.result c.args.key.now = not_false _ (sym (tested at.After-is_le) ∙ c.if-is_le.false) in
+    subst (λ (front : List (List ℕ)). All (λ point. IsBefore point c.args.key.now) front)
+    (sym (take_next points i c.index-points-index.result (here at.After-is_le)))
+    (All-push (λ point. IsBefore point c.args.key.now) (take i points) c.index-points-index.result c.loop-index.invariant before)
+
+pub returns : goal.returns
+returns c =
+    let points = c.args.points.now in
+    let all : take c.loop-index.index points ≡ take (length points) points =
+    take_all c.loop-index.index points (omega (arith, c.loop-index-test.false)) ∙ sym (take_all (length points) points (omega arith)) in
+    record {
+      within = omega arith;
+      before = subst (λ (front : List (List ℕ)). All (λ point. IsBefore point c.args.key.now) front) all c.loop-index.invariant;
+      next = subst (λ (o : Option (List ℕ)). IfSome o (λ point. IsAtMost c.args.key.now point))
+          (sym (slice_get_past points (length points) (omega arith))) tt;
+    }
