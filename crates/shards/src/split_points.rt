@@ -1,8 +1,8 @@
 //! Split points: keys that split all keys into shards.
 
-ghost use Rattle.std.specs.Prelude.{◌≡◌, ◌≤◌, ◌<◌, ◌↔◌, ◌+◌, ◌-◌, ℕ, [], not, length, slice_get};
-ghost use Rattle.std.specs.Prelude.{drop, option_map, take, vec_len};
-ghost use Rattle.std.specs.Prelude.{All, IfOk, IfSome, IsErrOf, IsSomeAnd, IsTrue, MatchOption};
+ghost use Rattle.std.specs.Prelude.{◌≡◌, ◌≤◌, ◌<◌, ◌↔◌, ◌+◌, ℕ, List, [], not, length, slice_get};
+ghost use Rattle.std.specs.Prelude.{nat_lt, option_map, vec_len, Some};
+ghost use Rattle.std.specs.Prelude.{IfOk, IfSome, IsErrOf, IsSomeAnd, IsTrue, MatchOption};
 ghost use Rattle.keys.specs.Key.{IsKey, is_before, IsAtMost, IsBefore};
 ghost use Rattle.serial.specs.Shards.{IsRising, has_key, shards};
 ghost use Rattle.shards.specs.Built.{end_or_empty};
@@ -92,16 +92,18 @@ impl SplitPoints {
             .partition_point(|point| point.as_bytes().cmp(key).is_le())
     }
 
-    /// Returns the number of the last shard that begins before the key, from the one of this number
-    /// on. Most ranges end in the shard in which they begin, so one comparison decides.
+    /// Returns the number of the last shard that begins before the key, or this number, if it is
+    /// greater. Most ranges end in the shard in which they begin, so one comparison decides.
     pub(crate) fn last_before(&self, first: usize, key: &[u8]) -> usize
         requires within { first ≤ length self.now }
         ensures from { first ≤ result }
-        ensures last { AreFirst (λ point. is_before point key.now) (drop first self.now)
-            (result - first) }
+        ensures within { result ≤ length self.now }
+        ensures last { (index : ℕ) (point : List ℕ) → first ≤ index
+            → slice_get self.now index ≡ Some point
+            → is_before point key.now ≡ nat_lt index result }
         ensures points { AreSplitPoints self.now }
     {
-        first + count_before(&self.points[first..], key)
+        first_at_most(&self.points, first, key)
     }
 
     /// Returns the first key of the shard.
@@ -153,14 +155,17 @@ fn first_fall(points: &[Key]) -> Option<usize>
     None
 }
 
-// Returns how many of the keys at the front come before the key, up to the first that doesn't.
-fn count_before(points: &[Key], key: &[u8]) -> usize
+// Returns the index of the first of the points, from an index on, that doesn't come before the key.
+fn first_at_most(points: &[Key], first: usize, key: &[u8]) -> usize
+    requires within { first ≤ length points.now }
+    ensures from { first ≤ result }
     ensures within { result ≤ length points.now }
-    ensures before { All (λ point. IsBefore point key.now) (take result points.now) }
+    ensures before { (index : ℕ) (point : List ℕ) → first ≤ index → index < result
+        → slice_get points.now index ≡ Some point → IsBefore point key.now }
     ensures next { IfSome (slice_get points.now result) (λ point. IsAtMost key.now point) }
 {
-    for (index, point) in points.iter().enumerate() {
-        if key.cmp(point.as_bytes()).is_le() {
+    for index in first..points.len() {
+        if key.cmp(points[index].as_bytes()).is_le() {
             return index;
         }
     }

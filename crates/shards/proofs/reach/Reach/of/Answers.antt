@@ -1,4 +1,5 @@
-use Rattle.std.proofs.Common.{◌≤◌, ◌-◌, ℕ, not, List, drop, sym, subst, inl, inr, rules, arith, length-drop}
+use Rattle.std.proofs.Common.{◌≡◌, ◌≤◌, ◌∙◌, ℕ, not, List, ap, subst, inl, inr, rules, arith}
+use Rattle.std.specs.Prelude.{nat_lt, Some, slice_get}
 use Rattle.keys.specs.Key.{is_before}
 use Rattle.keys.proofs.callers.KeyOrder.{before_or_same}
 use Rattle.shards.specs.Reach.{AreFirst}
@@ -11,14 +12,7 @@ few_first : (c : After-shard_of-first) → c.shard_of-first.result ≤ 63
 few_first c = omega (arith, c.shard_of-first.ensures.first.within, c.shard_of-first.ensures.points.few)
 
 few_last : (c : After-last_before-last) → c.last_before-last.result ≤ 63
-few_last c = omega (
-  arith,
-  c.shard_of-first.ensures.first.within,
-  c.shard_of-first.ensures.points.few,
-  c.last_before-last.ensures.last.within,
-  c.last_before-last.ensures.from,
-  length-drop c.shard_of-first.result c.args.points.now,
-)
+few_last c = omega (arith, c.last_before-last.ensures.within, c.shard_of-first.ensures.points.few)
 
 pub overflow_cast-result : goal.overflow_cast-result
 overflow_cast-result c =
@@ -41,14 +35,14 @@ returns c =
     let low = c.last_before-last.ensures.from in
     let begins = subst (λ (key : List ℕ). AreFirst (λ point. not (is_before key point)) points first)
     c.begin.ensures.bytes c.shard_of-first.ensures.first in
-    let ends = subst (λ (key : List ℕ). AreFirst (λ point. is_before point key) (drop first points) (last - first))
-    c.end.ensures.bytes c.last_before-last.ensures.last in
+    let ends = subst (λ (key : List ℕ). (i : ℕ) (point : List ℕ) → first ≤ i → slice_get points i ≡ Some point
+    → is_before point key ≡ nat_lt i last) c.end.ensures.bytes c.last_before-last.ensures.last in
     record {
       reach = elim (before_or_same range.begin range.end range.ordered) [
         | inl filled ↦ filled_reach points range _ begins filled
-            (first_from_both points range.begin range.end first last begins.within low begins filled ends)
+            (first_from_both points range.begin range.end first last c.last_before-last.ensures.within low begins filled ends)
         | inr same ↦ empty_reach points range _ begins same
-            (first_from_same points range.begin first last low begins
-            (subst (λ (key : List ℕ). AreFirst (λ point. is_before point key) (drop first points) (last - first)) (sym same) ends))
+            (first_from_same points range.begin first last c.last_before-last.ensures.within low begins
+            (λ i point up at. ap (is_before point) same ∙ ends i point up at))
       ];
     }

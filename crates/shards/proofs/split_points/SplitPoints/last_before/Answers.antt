@@ -1,15 +1,14 @@
-use Rattle.std.proofs.Common.{◌≡◌, ◌+◌, ◌-◌, ℕ, List, drop, sym, subst, arith}
+use Rattle.std.proofs.Common.{◌≡◌, ◌∙◌, ℕ, List, [], sym, ap, subst}
+use Rattle.std.specs.Prelude.{nat_lt, Some, slice_get}
 use Rattle.keys.specs.Key.{is_before}
-use Rattle.shards.specs.Reach.{AreFirst}
-use Rattle.shards.proofs.Counts.{first_from_stop}
+use Rattle.serial.specs.Shards.{IsRising}
+use Rattle.shards.proofs.Counts.{last_from_stop}
 use Rattle.shards.proofs.split_points.SplitPoints.last_before.Goals as goal
 
 pub returns-clause-last : goal.returns-clause-last
-returns-clause-last c =
-    let points = c.args.self.now in
-    let first = c.args.first in
-    let n = c.count_before.result in
-    let back : n ≡ first + n - first = omega arith in
-    subst (AreFirst (λ point. is_before point c.args.key.now) (drop first points)) back
-    (first_from_stop points c.self.invariant.rising c.args.key.now first n c.count_before.ensures.within c.count_before.ensures.before
-    c.count_before.ensures.next)
+returns-clause-last c = λ index point low at.
+    let points = c.deref.result.now in
+    let same = c.deref.ensures.value ∙ c.self.view_is in
+    let rising = subst (IsRising []) (sym c.deref.ensures.value) c.self.invariant.rising in
+    last_from_stop points rising c.args.key.now c.args.first c.first_at_most.result c.first_at_most.ensures.before
+    c.first_at_most.ensures.next index point low (ap (λ (all : List (List ℕ)). slice_get all index) same ∙ at)

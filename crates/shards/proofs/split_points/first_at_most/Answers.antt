@@ -1,14 +1,13 @@
-use Rattle.std.proofs.Common.{◌≡◌, ◌∙◌, ◌+◌, ◌≤◌, Bool, true, false, not, ℕ, List, take, length, is_le, refl, sym, ap, subst, rules, arith, take_all}
-use Rattle.std.specs.Prelude.{Option, Some, IfSome, All, slice_get}
+use Rattle.std.proofs.Common.{◌≡◌, ◌∙◌, ◌≤◌, Bool, true, false, not, ℕ, List, length, is_le, inl, inr, refl, sym, ap, subst, rules, arith}
+use Rattle.std.specs.Prelude.{Option, Some, IfSome, slice_get}
 use Rattle.std.specs.Ordering.{nat_cmp}
 use Rattle.std.specs.Cmp.Lexicographic.{slice_cmp}
-use Rattle.std.proofs.lemmas.List.Elements.{All-push}
-use Rattle.std.proofs.lemmas.Option.{slice_get_read, slice_get_past}
+use Rattle.std.proofs.lemmas.Bool.{cases_lt}
+use Rattle.std.proofs.lemmas.Option.{slice_get_read, slice_get_past, get_or_from_slice_get}
 use Rattle.keys.specs.Key.{is_before, IsBefore, IsAtMost}
 use Rattle.keys.proofs.callers.KeyOrder.{is_le-cmp}
-use Rattle.shards.proofs.Leasts.{take_next}
-use Rattle.shards.proofs.split_points.count_before.Goals.{After-is_le}
-use Rattle.shards.proofs.split_points.count_before.Goals as goal
+use Rattle.shards.proofs.split_points.first_at_most.Goals.{After-is_le}
+use Rattle.shards.proofs.split_points.first_at_most.Goals as goal
 
 -- the point is at the index
 here : (c : After-is_le) → slice_get c.args.points.now c.loop-index.index ≡ Some c.index-points-index.result
@@ -31,29 +30,35 @@ returns-then-is_le c =
     let at = goal.at.returns-then-is_le c in
     let after : IsAtMost c.args.key.now c.index-points-index.result = sym (tested at.After-is_le) ∙ c.if-is_le.true in
     record {
+      from = c.loop-index.auto.index;
       within = omega (arith, c.loop-index-test.true);
       before = c.loop-index.invariant;
       next = subst (λ (o : Option (List ℕ)). IfSome o (λ point. IsAtMost c.args.key.now point)) (sym (here at.After-is_le)) after;
     }
 
 pub loop-index-preserved : goal.loop-index-preserved
-loop-index-preserved c =
+loop-index-preserved c = λ i point low up there.
     let at = goal.at.loop-index-preserved c in
     let points = c.args.points.now in
-    let i = c.loop-index.index in
-    let before : IsBefore c.index-points-index.result c.args.key.now = not_false _ (sym (tested at.After-is_le) ∙ c.if-is_le.false) in
-    subst (λ (front : List (List ℕ)). All (λ point. IsBefore point c.args.key.now) front)
-    (sym (take_next points i c.index-points-index.result (here at.After-is_le)))
-    (All-push (λ point. IsBefore point c.args.key.now) (take i points) c.index-points-index.result c.loop-index.invariant before)
+    let own = c.index-points-index.result in
+    let before : IsBefore own c.args.key.now = not_false _ (sym (tested at.After-is_le) ∙ c.if-is_le.false) in
+    elim (cases_lt i c.loop-index.index) [
+      | inl below ↦ c.loop-index.invariant i point low below there
+      | inr past ↦
+          let same : c.loop-index.index ≡ i = omega (arith, up, past) in
+          let is : own ≡ point =
+          sym (get_or_from_slice_get points c.loop-index.index own own (here at.After-is_le))
+          ∙ get_or_from_slice_get points c.loop-index.index own point (subst (λ n. slice_get points n ≡ Some point) (sym same) there) in
+          subst (λ (key : List ℕ). IsBefore key c.args.key.now) is before
+    ]
 
 pub returns : goal.returns
 returns c =
     let points = c.args.points.now in
-    let all : take c.loop-index.index points ≡ take (length points) points =
-    take_all c.loop-index.index points (omega (arith, c.loop-index-test.false)) ∙ sym (take_all (length points) points (omega arith)) in
     record {
+      from = c.requires.within;
       within = omega arith;
-      before = subst (λ (front : List (List ℕ)). All (λ point. IsBefore point c.args.key.now) front) all c.loop-index.invariant;
+      before = λ i point low up there. c.loop-index.invariant i point low (omega (arith, up, c.loop-index-test.false)) there;
       next = subst (λ (o : Option (List ℕ)). IfSome o (λ point. IsAtMost c.args.key.now point))
           (sym (slice_get_past points (length points) (omega arith))) tt;
     }
