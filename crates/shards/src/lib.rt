@@ -16,6 +16,7 @@ mod clipped;
 mod clipping;
 mod combining;
 mod error;
+mod headed_key;
 mod in_place;
 pub mod laws;
 mod numbering;

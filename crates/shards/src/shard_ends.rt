@@ -1,25 +1,15 @@
 //! The keys at which a shard begins and ends, and how a range is cut to it.
 
 ghost use Rattle.std.specs.Prelude.{◌≡◌, ◌||◌, ◌<◌, false, length, not, option_map, MatchOption};
-ghost use Rattle.keys.specs.Head.{head_of};
-ghost use Rattle.keys.specs.Key.{is_before, IsBytes};
+ghost use Rattle.keys.specs.Key.{is_before};
 ghost use Rattle.keys.specs.declared.range.Range.{Range};
 ghost use Rattle.serial.specs.Shards.{ends_above, shards};
 ghost use Rattle.shards.specs.Clips.{goes_to};
-ghost use Rattle.shards.specs.Cut.{shard_of_ends, IsCut};
+ghost use Rattle.shards.specs.Cut.{headed_key, shard_of_ends, IsCut};
 ghost use Rattle.shards.specs.Reach.{ends_below, shard_at};
 
+use crate::headed_key::HeadedKey;
 use crate::split_points::SplitPoints;
-use keys::{key_head, laws};
-
-/// A key with its first eight bytes as a number, which distinguish most keys.
-#[derive(Debug, Drop)]
-struct HeadedKey<'a> {
-    key: &'a [u8],
-    head: u64,
-    ghost bytes: { IsBytes key.now },
-    ghost headed: { head ≡ head_of key.now },
-}
 
 /// The keys at which a shard begins and ends. The last shard has no end.
 #[derive(Debug, Drop)]
@@ -36,41 +26,6 @@ pub(crate) struct Cut {
     pub end: bool,
 }
 
-impl<'a> HeadedKey<'a> {
-    // Takes the head of the key.
-    fn new(key: &'a [u8]) -> Self
-        ensures key { result.key.now ≡ key.now }
-    {
-        HeadedKey {
-            key,
-            head: key_head(key),
-        }
-    }
-
-    // Takes the head of the key, if there is one.
-    fn if_some(key: Option<&'a [u8]>) -> Option<Self>
-        ensures key { option_map (λ headed. headed.key.now) result
-            ≡ option_map (λ key. key.now) key }
-    {
-        match key {
-            Some(key) => Some(HeadedKey::new(key)),
-            None => None,
-        }
-    }
-
-    // Returns whether the key comes before the other one. Their bytes are looked at only if their
-    // heads are the same.
-    fn is_before(&self, other: &HeadedKey<'_>) -> bool
-        ensures before { result ≡ is_before self.now.key.now other.now.key.now }
-    {
-        laws::key_heads();
-        if self.head == other.head {
-            return self.key.cmp(other.key).is_lt();
-        }
-        self.head < other.head
-    }
-}
-
 impl<'a> ShardEnds<'a> {
     /// Returns the ends of the shard of this number.
     pub fn of(points: &'a SplitPoints, shard: usize) -> Self
@@ -79,7 +34,7 @@ impl<'a> ShardEnds<'a> {
     {
         ShardEnds {
             from: HeadedKey::new(points.first_key(shard)),
-            to: HeadedKey::if_some(points.end_if_any(shard)),
+            to: headed(points.end_if_any(shard)),
         }
     }
 
@@ -132,5 +87,15 @@ impl<'a> ShardEnds<'a> {
             Some(to) => to.is_before(key),
             None => false,
         }
+    }
+}
+
+// Takes the head of the key, if there is one.
+fn headed<'a>(key: Option<&'a [u8]>) -> Option<HeadedKey<'a>>
+    ensures key { option_map headed_key result ≡ option_map (λ key. key.now) key.entry }
+{
+    match key {
+        Some(key) => Some(HeadedKey::new(key)),
+        None => None,
     }
 }

@@ -1,4 +1,4 @@
-use Rattle.std.proofs.Common.{◌≡◌, ◌≤◌, ◌++◌, ◌∷◌, ◌∙◌, ℕ, List, [], take, length, sym, ap, subst, arith, append-nil, append_assoc, take_all}
+use Rattle.std.proofs.Common.{◌≡◌, ◌≤◌, ◌++◌, ◌∷◌, ◌∙◌, ℕ, List, [], map, take, length, sym, ap, subst, arith, append-nil, append_assoc, take_all}
 use Rattle.std.proofs.lemmas.List.{length-map}
 use Rattle.keys.specs.declared.range.Range.{Range}
 use Rattle.keyspace.specs.declared.span.Span.{Span}
@@ -12,7 +12,7 @@ use Rattle.shards.specs.Clips.{goes_to}
 use Rattle.shards.specs.Cut.{shard_of_ends}
 use Rattle.shards.proofs.Appended.{range_at, put_next}
 use Rattle.shards.proofs.IndexLists.{places_with, places_without}
-use Rattle.shards.proofs.shard_tables.keep_reads.Goals.{After-loop-index-test-false, then-goes+in_ok-push, else-goes}
+use Rattle.shards.proofs.shard_tables.keep_reads.Goals.{then-goes+in_ok-push, else-goes}
 use Rattle.shards.proofs.shard_tables.keep_reads.Goals as goal
 
 pub loop-index-init : goal.loop-index-init
@@ -36,7 +36,7 @@ loop-index-preserved c =
           let range = range_at c.args.buffer.now c.args.spans.now ranges i none told c.loop-index-test.true in
           let kept = c.in_ok-goes.ensures.kept m range.0 has range.2 in
           put_next shard ranges i range.0 range.1 c.args.buffer.now c.args.kept.now.items c.loop-index.kept.items
-          c.keep_clip-goes.new.kept.items c.in_ok-goes.goes kept.0 (c.loop-index.invariant.kept m ranges has told) kept.1;
+          c.keep_clip.new.kept.items c.in_ok-goes.goes kept.0 (c.loop-index.invariant.kept m ranges has told) kept.1;
       indices = λ m ranges has told.
           let range = range_at c.args.buffer.now c.args.spans.now ranges i none told c.loop-index-test.true in
           let goes = sym (c.in_ok-goes.ensures.kept m range.0 has range.2).0 in
@@ -56,28 +56,25 @@ loop-index-preserved c =
     }
 
 -- as many ranges as spans
-all_taken : (c : After-loop-index-test-false) (ranges : List Range)
-    → map (range_told c.args.buffer.now) c.args.spans.now ≡ map range_fields ranges → take c.loop-index.index ranges ≡ ranges
-all_taken c ranges told =
-    take_all c.loop-index.index ranges (omega (
-      arith,
-      c.loop-index-test.false,
-      ap length told,
-      length-map c.args.spans.now (range_told c.args.buffer.now),
-      length-map ranges range_fields,
-    ))
+all_taken : (buffer : List ℕ) (spans : List Span) (ranges : List Range) (i : ℕ) → map (range_told buffer) spans ≡ map range_fields ranges
+    → length spans ≤ i → take i ranges ≡ ranges
+all_taken buffer spans ranges i told past =
+    take_all i ranges
+    (omega (arith, past, ap length told, length-map spans (range_told buffer), length-map ranges range_fields))
 
 pub returns : goal.returns
 returns c =
-    let at = goal.at.returns c in
     let shard = shard_of_ends c.args.shard.now in
     let buffer = c.args.buffer.now in
+    let spans = c.args.spans.now in
+    let i = c.loop-index.index in
     record {
       kept = λ m ranges has told.
           subst (λ (front : List Range). ArePut buffer c.args.kept.now.items (clips_of shard front) buffer c.loop-index.kept.items)
-          (all_taken at.After-loop-index-test-false ranges told) (c.loop-index.invariant.kept m ranges has told);
+          (all_taken buffer spans ranges i told (omega (arith, c.loop-index-test.false)))
+          (c.loop-index.invariant.kept m ranges has told);
       indices = λ m ranges has told.
           c.loop-index.invariant.indices m ranges has told
           ∙ ap (λ (front : List Range). c.args.indices.now.items ++ places_from 0 (goes_to shard) front)
-          (all_taken at.After-loop-index-test-false ranges told);
+          (all_taken buffer spans ranges i told (omega (arith, c.loop-index-test.false)));
     }

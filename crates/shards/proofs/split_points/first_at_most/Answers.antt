@@ -48,7 +48,7 @@ loop-index-preserved c = λ i point low up there.
           let same : c.loop-index.index ≡ i = omega (arith, up, past) in
           let is : own ≡ point =
           sym (get_or_from_slice_get points c.loop-index.index own own (here at.After-is_le))
-          ∙ get_or_from_slice_get points c.loop-index.index own point (subst (λ n. slice_get points n ≡ Some point) (sym same) there) in
+          ∙ get_or_from_slice_get points c.loop-index.index point own (subst (λ n. slice_get points n ≡ Some point) (sym same) there) in
           subst (λ (key : List ℕ). IsBefore key c.args.key.now) is before
     ]
 

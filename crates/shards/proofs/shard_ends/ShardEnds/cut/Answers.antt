@@ -1,4 +1,4 @@
-use Rattle.std.proofs.Common.{◌≡◌, ◌∙◌, Bool, true, false, not, ◌||◌, ℕ, List, refl, sym, ap, ap₂}
+use Rattle.std.proofs.Common.{◌≡◌, ◌∙◌, not, ◌||◌, ℕ, List, sym, ap, ap₂}
 use Rattle.keys.specs.Key.{is_before}
 use Rattle.keys.specs.declared.range.Range.{Range}
 use Rattle.serial.specs.Shards.{ends_above}
@@ -7,14 +7,6 @@ use Rattle.shards.specs.Reach.{ends_below}
 use Rattle.shards.proofs.Cutting.{begins_after, is_missed, is_reached}
 use Rattle.shards.proofs.shard_ends.ShardEnds.cut.Goals.{After-ends_after, After-is_reached}
 use Rattle.shards.proofs.shard_ends.ShardEnds.cut.Goals as goal
-
-not_true : (b : Bool) → not b ≡ true → b ≡ false
-not_true true h = cc
-not_true false h = refl
-
-not_false : (b : Bool) → not b ≡ false → b ≡ true
-not_false true h = refl
-not_false false h = cc
 
 -- what the tests say of a range of these keys
 above : (c : After-ends_after) (range : Range) → range.begin ≡ c.args.begin.now
@@ -41,7 +33,7 @@ returns-then-not-ends_after c = record {
   cut = λ range begin end.
       let at = goal.at.returns-then-not-ends_after c in
       begins_after (shard_of_ends c.args.self.now) range
-      (above at.After-ends_after range begin ∙ not_true c.ends_after.result c.if-not-ends_after.true);
+      (above at.After-ends_after range begin ∙ c.if-not-ends_after.true);
 }
 
 pub returns-then-not-is_reached : goal.returns-then-not-is_reached
@@ -49,7 +41,7 @@ returns-then-not-is_reached c = record {
   cut = λ range begin end.
       let at = goal.at.returns-then-not-is_reached c in
       is_missed (shard_of_ends c.args.self.now) range
-      (reached at.After-is_reached range begin end ∙ not_true c.is_reached.result c.if-not-is_reached.true);
+      (reached at.After-is_reached range begin end ∙ c.if-not-is_reached.true);
 }
 
 pub returns : goal.returns
@@ -58,8 +50,8 @@ returns c = record {
       let at = goal.at.returns c in
       record {
         goes = is_reached (shard_of_ends c.args.self.now) range
-            (above at.After-ends_after range begin ∙ not_false c.ends_after.result c.if-not-ends_after.false)
-            (reached at.After-is_reached range begin end ∙ not_false c.is_reached.result c.if-not-is_reached.false);
+            (above at.After-ends_after range begin ∙ c.if-not-ends_after.false)
+            (reached at.After-is_reached range begin end ∙ c.if-not-is_reached.false);
         begin = sym (before at.After-is_reached range begin);
         end = c.ends_before.ensures.below
             ∙ ap (ends_below (shard_of_ends c.args.self.now).to) (c.new-end.ensures.key ∙ sym end);

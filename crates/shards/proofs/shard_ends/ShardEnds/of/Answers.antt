@@ -5,6 +5,6 @@ pub returns : goal.returns
 returns c = record {
   shard = λ i. record {
     from = (c.new.ensures.key ∙ c.first_key.ensures.from) i;
-    to = (c.if_some.ensures.key ∙ c.end_if_any.ensures.to) i;
+    to = (c.headed.ensures.key ∙ c.end_if_any.ensures.to) i;
   };
 }

@@ -31,14 +31,17 @@ keep_reads-requires c =
     let it = c.requires.built in
     let buffer = c.args.self.now.buffer.items in
     record {
-      lie = part_lies buffer c.args.spans.now c.args.from (row.end - row.writes) c.requires.lie;
+      lie = rw c.deref.ensures.value (part_lies buffer c.args.spans.now c.args.from (row.end - row.writes) c.requires.lie);
       few = few_of buffer _ it.2 (ap (λ (f : TxnFields). f.reads) it.5);
     }
 
 pub keep_writes-requires : goal.keep_writes-requires
 keep_writes-requires c =
     let row = c.args.row.now in
-    record { lie = part_lies c.args.self.now.buffer.items c.args.spans.now (row.end - row.writes) row.end c.requires.lie }
+    record {
+      lie = rw c.deref-2.ensures.value
+          (part_lies c.args.self.now.buffer.items c.args.spans.now (row.end - row.writes) row.end c.requires.lie);
+    }
 
 -- all that is put of the ranges of a transaction
 record IsPut (c : In_ok-keep_writes) (t : Txn) : Type 0 where
@@ -57,13 +60,26 @@ is_put : (c : In_ok-keep_writes) (m : ℕ) (t : Txn)
     → txn_told c.args.self.now.buffer.items c.args.spans.now c.args.from c.args.row.now ≡ txn_fields t → IsPut c t
 is_put c m t bounds told =
     let shard = shard_of_ends c.args.shard.now in
-    let reads = ap (λ (f : TxnFields). f.reads) told in
-    let first = c.in_ok-keep_reads.ensures.kept m t.reads bounds reads in
-    let second = c.in_ok-keep_writes.ensures.kept m t.writes bounds (ap (λ (f : TxnFields). f.writes) told) in
+    let old = c.args.self.now in
+    let spans = c.args.spans.now in
+    let row = c.args.row.now in
+    let middle = row.end - row.writes in
+    let one = c.deref.ensures.value in
+    let two = c.deref-2.ensures.value in
+    let bounds_one = subst (λ (buffer : List ℕ). HasBounds shard m buffer old.bounds) (sym one) bounds in
+    let bounds_two = subst (λ (buffer : List ℕ). HasBounds shard m buffer old.bounds) (sym two) bounds in
+    let reads = subst (λ (buffer : List ℕ). map (range_told buffer) (slice_range spans c.args.from middle) ≡ map range_fields t.reads) (sym one)
+    (ap (λ (f : TxnFields). f.reads) told) in
+    let writes = subst (λ (buffer : List ℕ). map (range_told buffer) (slice_range spans middle row.end) ≡ map range_fields t.writes) (sym two)
+    (ap (λ (f : TxnFields). f.writes) told) in
+    let first = subst (λ (buffer : List ℕ). ArePut buffer old.spans.items (clips_of shard t.reads) buffer c.keep_reads.new.kept.items) one
+    (c.in_ok-keep_reads.ensures.kept m t.reads bounds_one reads) in
+    let second = subst (λ (buffer : List ℕ). ArePut buffer c.keep_reads.new.kept.items (clips_of shard t.writes) buffer
+    c.keep_writes.new.kept.items) two (c.in_ok-keep_writes.ensures.kept m t.writes bounds_two writes) in
     record {
       reads = first;
       writes = second;
-      indices = c.in_ok-keep_reads.ensures.indices m t.reads bounds reads;
+      indices = c.in_ok-keep_reads.ensures.indices m t.reads bounds_one reads;
       few_reads = omega (arith, length-put _ _ _ _ _ first, few_clips shard t.reads, t.few_reads);
       more_writes = length-put _ _ _ _ _ second;
       few_writes = omega (arith, few_clips shard t.writes, t.few_writes);
