@@ -1,4 +1,4 @@
-use Rattle.std.proofs.Common.{◌≡◌, ◌≤◌, ◌++◌, ◌∙◌, ℕ, List, [], length, map, sym, ap, subst, All}
+use Rattle.std.proofs.Common.{◌≡◌, ◌∙◌, ℕ, List, [], length, map, sym, ap, subst, All}
 use Rattle.keyspace.specs.declared.txn.Txn.{Txn}
 use Rattle.keyspace.specs.Fields.{txn_fields}
 use Rattle.keyspace.specs.Tables.{txns_told, LiesWithin}
@@ -6,7 +6,6 @@ use Rattle.keyspace.proofs.callers.Putting.{told_kept, within_kept}
 use Rattle.serial.specs.Shards.{Shard}
 use Rattle.shards.specs.Built.{AreLeft, IsBuilt}
 use Rattle.shards.specs.Cut.{shard_of_ends}
-use Rattle.shards.specs.Reach.{shard_at}
 use Rattle.shards.proofs.in_place.clip_tables.Goals.{In_ok-tables}
 use Rattle.shards.proofs.in_place.clip_tables.Goals as goal
 

@@ -1,4 +1,4 @@
-use Rattle.std.proofs.Common.{◌≤◌, List, take, length, ap, subst, arith, take_all}
+use Rattle.std.proofs.Common.{◌≤◌, List, length, ap, subst, arith, take_all}
 use Rattle.std.proofs.lemmas.List.{length-map}
 use Rattle.keys.specs.declared.range.Range.{Range}
 use Rattle.keyspace.specs.declared.span.Span.{Span}

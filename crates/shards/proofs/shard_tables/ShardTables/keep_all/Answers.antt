@@ -1,5 +1,5 @@
-use Rattle.std.proofs.Common.{◌≡◌, ◌≤◌, ◌<◌, ◌+◌, ◌∙◌, ℕ, List, [], Vec, Global, length, take, drop, get_or, false, refl, sym, ap, subst, arith, length-take, take_all, All}
-use Rattle.std.specs.Prelude.{pos, Some, slice_get}
+use Rattle.std.proofs.Common.{◌≡◌, ◌≤◌, ◌<◌, ◌∙◌, ℕ, List, Vec, Global, length, take, get_or, false, refl, sym, ap, subst, arith, length-take, take_all, All}
+use Rattle.std.specs.Prelude.{pos}
 use Rattle.std.proofs.lemmas.List.{length-map}
 use Rattle.std.proofs.lemmas.Option.{slice_get-get_or, slice_get_within}
 use Rattle.keyspace.specs.declared.row.Row.{Row}
@@ -7,7 +7,7 @@ use Rattle.keyspace.specs.declared.txn.Txn.{Txn}
 use Rattle.keyspace.specs.Fields.{txn_fields}
 use Rattle.keyspace.specs.Tables.{txn_told, LiesWithin}
 use Rattle.keyspace.proofs.callers.Putting.{length-told}
-use Rattle.shards.specs.Built.{AreLeft, IsBuilt}
+use Rattle.shards.specs.Built.{IsBuilt}
 use Rattle.shards.specs.Cut.{shard_of_ends}
 use Rattle.shards.proofs.Kept.{next_row}
 use Rattle.shards.proofs.Leasts.{take_next}

@@ -1,6 +1,5 @@
-use Rattle.std.proofs.Common.{◌≡◌, ◌∙◌, ℕ, List, [], sym, ap, subst}
-use Rattle.std.specs.Prelude.{nat_lt, Some, slice_get}
-use Rattle.keys.specs.Key.{is_before}
+use Rattle.std.proofs.Common.{◌∙◌, ℕ, List, [], sym, ap, subst}
+use Rattle.std.specs.Prelude.{slice_get}
 use Rattle.serial.specs.Shards.{IsRising}
 use Rattle.shards.proofs.Counts.{last_from_stop}
 use Rattle.shards.proofs.split_points.SplitPoints.last_before.Goals as goal
