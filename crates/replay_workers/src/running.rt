@@ -184,6 +184,8 @@ fn turn_to_end<G: ShareKeeper, R: Wait, O: Observer>(
     ensures accounted { IsAccountedFor resolver.old → IsAccountedFor resolver.new }
     ensures measured { StandsOver resolver.old [] → resolver.old.core.stop ≡ None
         → O.has_seen observer.old [] → IsMeasured (O.has_seen observer.new) result resolver.new }
+    ensures boundaries { resolver.new.core.stop ≡ None
+        → result.boundaries ≡ length resolver.new.core.set.map.boundaries }
     ensures setting { O.setting observer.new ≡ O.setting observer.old }
     ensures resolving { IsResolving resolver.old → IsResolving resolver.new }
     ensures goes_on { GoesOn resolver.old.core resolver.new.core }
@@ -214,6 +216,8 @@ fn turn_and_note<O: Observer>(
     ensures turns { Turns result resolver.old resolver.new }
     ensures measured { IsMeasured (O.has_seen observer.old) occupancy.old resolver.old
         → IsMeasured (O.has_seen observer.new) occupancy.new resolver.new }
+    ensures boundaries { resolver.new.core.stop ≡ None
+        → occupancy.new.boundaries ≡ length resolver.new.core.set.map.boundaries }
     ensures setting { O.setting observer.new ≡ O.setting observer.old }
 {
     let turn = resolver.turn_observed(observer);

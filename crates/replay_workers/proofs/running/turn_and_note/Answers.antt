@@ -1,4 +1,5 @@
-use Rattle.std.proofs.Common.{ℕ, length, subst, sym, ◌∙◌, refl, arith}
+use Rattle.std.proofs.Common.{ℕ, ap, length, subst, sym, ◌∙◌, refl, arith}
+use Rattle.replay_summary.specs.declared.occupancy.Occupancy.{Occupancy}
 use Rattle.replay_summary.specs.Occupancy.{noted}
 use Rattle.replay_workers.proofs.Occupying.{measured_turn, stopped_if, unstopped_if}
 use Rattle.replay_workers.proofs.running.turn_and_note.Goals as goal
@@ -12,6 +13,11 @@ returns-then-is_err-clause-measured g c =
     c.args.occupancy.now c.args.occupancy.now
     (λ none. stopped_if c.turn_observed-turn.result now.core.stop (sym c.is_err.ensures.value ∙ c.if-is_err.true) turned.turns.stop none)
     (λ stop is. refl)
+
+pub returns-then-is_err-clause-boundaries : goal.returns-then-is_err-clause-boundaries
+returns-then-is_err-clause-boundaries g c =
+    stopped_if c.turn_observed-turn.result c.turn_observed-turn.new.self.core.stop (sym c.is_err.ensures.value ∙ c.if-is_err.true)
+    c.turn_observed-turn.ensures.turns.stop
 
 pub returns-clause-measured : goal.returns-clause-measured
 returns-clause-measured g c =
@@ -27,3 +33,6 @@ returns-clause-measured g c =
       omega (arith, c.boundaries.ensures.count, c.boundaries.ensures.within),
     ))
     (unstopped_if c.turn_observed-turn.result now.core.stop (sym c.is_err.ensures.value ∙ c.if-is_err.false) turned.turns.no_stop)
+
+pub returns-clause-boundaries : goal.returns-clause-boundaries
+returns-clause-boundaries g c = λ none. ap (λ (o : Occupancy). o.boundaries) c.note.ensures.noted ∙ c.boundaries.ensures.count

@@ -95,3 +95,9 @@ returns-in-Err-clause-resolving g c = λ first. c.turn_and_note.ensures.turns.re
 pub returns-in-Err-clause-lanes : goal.returns-in-Err-clause-lanes
 returns-in-Err-clause-lanes g c =
     lanes_go_on _ c.loop.resolver.lanes _ c.loop.invariant.lanes c.turn_and_note.ensures.turns.lanes
+
+pub returns-in-Ok-Done-clause-boundaries : goal.returns-in-Ok-Done-clause-boundaries
+returns-in-Ok-Done-clause-boundaries g c = c.turn_and_note.ensures.boundaries
+
+pub returns-in-Err-clause-boundaries : goal.returns-in-Err-clause-boundaries
+returns-in-Err-clause-boundaries g c = c.turn_and_note.ensures.boundaries
