@@ -23,12 +23,13 @@ use Rattle.replay_workers.proofs.callers.Stopping.{IsAccountedWith, after_turn}
 greater_in : (Is : List Step → ℕ → Type 0) (log : List Step) (steps most now : ℕ) → Is (take steps log) most → Is log now
     → (n : ℕ) × Is (take n log) (max most now)
 greater_in Is log steps most now first last = elim (cases_lt most now) [
-  | inl more ↦ (
-    length log,
-    subst (λ (n : ℕ). Is (take (length log) log) n) (omega (arith, more))
-    (subst (λ (l : List Step). Is l now) (sym (take_all (length log) log (omega arith))) last),
-  )
-  | inr not ↦ (steps, subst (λ (n : ℕ). Is (take steps log) n) (omega (arith, not)) first)
+  | inl less ↦
+      let greater : now ≡ max most now = omega (arith, less) in
+      let all : log ≡ take (length log) log = sym (take_all (length log) log (omega arith)) in
+      (length log, subst (λ (n : ℕ). Is (take (length log) log) n) greater (subst (λ (l : List Step). Is l now) all last))
+  | inr no_less ↦
+      let greater : most ≡ max most now = omega (arith, no_less) in
+      (steps, subst (λ (n : ℕ). Is (take steps log) n) greater first)
 ]
 
 -- the first steps of a log are also those of a longer one
@@ -39,7 +40,7 @@ first_of_longer Is log more steps most first =
     take-append-le (min steps (length log)) log more (omega arith) ∙ take_min steps log in
     subst (λ (l : List Step). Is l most) (sym same) first
 
--- the log has this number of batches held at its end
+-- so many batches are held at the end of the log
 abbrev Holds : ℤ → List Step → ℕ → Type 0
 Holds window log count = length (run window log).held ≡ count
 
@@ -48,16 +49,19 @@ greatest_more : (window : ℤ) (log : List Step) (x : Step) (most now : ℕ) →
     → Holds window (log ++ x ∷ []) now → IsGreatestHeld window (log ++ x ∷ []) (max most now)
 greatest_more window log x most now before here =
     let longer = log ++ x ∷ [] in
+    let at_end : length (run window longer).held ≡ now = here in
+    let last : length (run window longer).held ≤ max most now = omega (arith, at_end) in
     let at = greater_in (Holds window) longer (min before.steps (length log)) most now
     (first_of_longer (Holds window) log (x ∷ []) before.steps most before.reached) here in
     record {
       none_more = λ n. elim (cases_lt (length log) n) [
         | inl beyond ↦
-            subst (λ (l : List Step). length (run window l).held ≤ max most now)
-            (sym (take_all n longer (omega (arith, beyond, length_push log x)))) (omega (arith, here))
+            let all : take n longer ≡ longer = take_all n longer (omega (arith, beyond, length_push log x)) in
+            subst (λ (l : List Step). length (run window l).held ≤ max most now) (sym all) last
         | inr within ↦
-            subst (λ (l : List Step). length (run window l).held ≤ max most now) (sym (take-append-le n log (x ∷ []) within))
-            (omega (arith, before.none_more n))
+            let first : take n longer ≡ take n log = take-append-le n log (x ∷ []) within in
+            let earlier : length (run window (take n log)).held ≤ max most now = omega (arith, before.none_more n) in
+            subst (λ (l : List Step). length (run window l).held ≤ max most now) (sym first) earlier
       ];
       steps = at.0;
       reached = at.1;
@@ -67,13 +71,21 @@ greatest_more window log x most now before here =
 greatest_again : (window : ℤ) (log : List Step) (most now : ℕ) → IsGreatestHeld window log most → Holds window log now
     → IsGreatestHeld window log (max most now)
 greatest_again window log most now before here =
-    let least : now ≤ most =
-    omega (arith, sym here, subst (λ (l : List Step). length (run window l).held ≤ most) (take_all (length log) log (omega arith))
-    (before.none_more (length log))) in
-    subst (IsGreatestHeld window log) (omega (arith, least)) before
+    let at_end : length (run window log).held ≡ now = here in
+    let all : take (length log) log ≡ log = take_all (length log) log (omega arith) in
+    let least : length (run window log).held ≤ most =
+    subst (λ (l : List Step). length (run window l).held ≤ most) all (before.none_more (length log)) in
+    let greater : most ≡ max most now = omega (arith, at_end, least) in
+    subst (λ (n : ℕ). IsGreatestHeld window log n) greater before
 
 module _ (limit : ℕ) (window : ℤ) (log : List Step) (before : Occupancy) (held boundaries : ℕ) (over : IsOccupancyOver limit window log before)
     (within : boundaries ≤ limit) where
+  at_most : boundaries ≤ max before.most_boundaries boundaries
+  at_most = omega arith
+
+  no_more : max before.most_boundaries boundaries ≤ limit
+  no_more = omega (arith, over.within, within)
+
   -- noted after one step more
   noted_more : (x : Step) → Holds window (log ++ x ∷ []) held → HasBoundaries limit window (log ++ x ∷ []) boundaries
       → IsOccupancyOver limit window (log ++ x ∷ []) (noted held boundaries before)
@@ -85,8 +97,8 @@ module _ (limit : ℕ) (window : ℤ) (log : List Step) (before : Occupancy) (he
         boundaries = has;
         steps = at.0;
         most_boundaries = at.1;
-        at_most = omega arith;
-        within = omega (arith, over.within, within);
+        at_most = at_most;
+        within = no_more;
       }
 
   -- noted again, after no step
@@ -99,8 +111,8 @@ module _ (limit : ℕ) (window : ℤ) (log : List Step) (before : Occupancy) (he
         boundaries = has;
         steps = at.0;
         most_boundaries = at.1;
-        at_most = omega arith;
-        within = omega (arith, over.within, within);
+        at_most = at_most;
+        within = no_more;
       }
 
 -- the resolver represents this log, and met no stop
@@ -153,9 +165,11 @@ measured_new Seen r stands none seen count count_is within =
     let has : HasBoundaries limit window [] count =
     subst (HasBoundaries limit window []) (sym count_is) (boundaries_of limit window r refl refl none [] stands) in
     let occupancy : Occupancy = record { most_held = 0; boundaries = count; most_boundaries = count } in
+    let nothing : length (run window []).held ≡ 0 = refl in
+    let none_held : length (run window []).held ≤ 0 = omega (arith, nothing) in
     let over : IsOccupancyOver limit window [] occupancy = record {
       held = record {
-        none_more = λ n. subst (λ (l : List Step). length (run window l).held ≤ 0) (sym (take_all n [] (omega arith))) (omega arith);
+        none_more = λ n. subst (λ (l : List Step). length (run window l).held ≤ 0) (sym (take_all n [] (omega arith))) none_held;
         steps = 0;
         reached = refl;
       };
@@ -208,27 +222,30 @@ module _ (old new : ResolverState) (result : Result Turn Stop) (turns : Turns re
   abbrev count : ℕ
   count = length new.core.set.map.boundaries
 
+  within : new.core.stop ≡ None → count ≤ limit
+  within is = omega (arith, (notes is).1, limit_is)
+
   -- a step was taken, and a stop met in it or none
   stepped : (log : List Step) (x : Step) → StandsOver new (log ++ x ∷ []) → IsOccupancyOver limit window log before
       → (stop : Option Stop) → new.core.stop ≡ stop → IsOccupancyOf stop limit window (log ++ x ∷ []) after
   stepped log x stands over None is =
       let longer = log ++ x ∷ [] in
-      subst (IsOccupancyOver limit window longer) (sym (notes is).0)
-      (noted_more limit window log before (length new.core.held) count over (omega (arith, (notes is).1, limit_is)) x
+      subst (λ (o : Occupancy). IsOccupancyOver limit window longer o) (sym (notes is).0)
+      (noted_more limit window log before (length new.core.held) count over (within is) x
       (holds_of limit window new limit_is window_is is longer stands) (boundaries_of limit window new limit_is window_is is longer stands))
   stepped log x stands over (Some stop) is = record {
     before = log;
     last = x;
     log_is = refl;
-    over = subst (IsOccupancyOver limit window log) (sym (keeps stop is)) over;
+    over = subst (λ (o : Occupancy). IsOccupancyOver limit window log o) (sym (keeps stop is)) over;
   }
 
   -- no step was taken
   rested : (log : List Step) → StandsOver new log → (stop : Option Stop) → new.core.stop ≡ stop
       → IsOccupancyOf stop limit window log before → IsOccupancyOf stop limit window log after
   rested log stands None is over =
-      subst (IsOccupancyOver limit window log) (sym (notes is).0)
-      (noted_again limit window log before (length new.core.held) count over (omega (arith, (notes is).1, limit_is))
+      subst (λ (o : Occupancy). IsOccupancyOver limit window log o) (sym (notes is).0)
+      (noted_again limit window log before (length new.core.held) count over (within is)
       (holds_of limit window new limit_is window_is is log stands) (boundaries_of limit window new limit_is window_is is log stands))
   rested log stands (Some stop) is occupied =
       subst (λ (o : Occupancy). IsOccupancyOf (Some stop) limit window log o) (sym (keeps stop is)) occupied
