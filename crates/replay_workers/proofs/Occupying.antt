@@ -40,7 +40,7 @@ first_of_longer Is log more steps most first =
     take-append-le (min steps (length log)) log more (omega arith) ∙ take_min steps log in
     subst (λ (l : List Step). Is l most) (sym same) first
 
--- so many batches are held at the end of the log
+-- that many batches are held at the end of the log
 abbrev Holds : ℤ → List Step → ℕ → Type 0
 Holds window log count = length (run window log).held ≡ count
 
