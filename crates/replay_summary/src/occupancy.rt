@@ -18,8 +18,11 @@ impl Occupancy {
     /// Creates the occupancy of a resolver that has taken no batch, from the number of boundaries
     /// that its conflict set has then.
     pub fn new(boundaries: usize) -> Self
-        ensures new { result ≡ record { most_held = 0; boundaries = boundaries;
-            most_boundaries = boundaries } }
+        ensures new { result ≡ record {
+          most_held = 0;
+          boundaries = boundaries;
+          most_boundaries = boundaries;
+        } }
     {
         Occupancy {
             most_held: 0,

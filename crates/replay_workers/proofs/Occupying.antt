@@ -269,7 +269,7 @@ module _ (old new : ResolverState) (result : Result Turn Stop) (turns : Turns re
       (λ same step log stands saw. (
         subst (HasSeen After new.core.stop window) (append-nil log) (nothing step (negsuc 0) log stands saw.0),
         rested log (step.adds (negsuc 0) log stands) new.core.stop refl
-        (subst (λ (stop : Option Stop). IsOccupancyOf stop limit window log before) (sym same) saw.1),
+            (subst (λ (stop : Option Stop). IsOccupancyOf stop limit window log before) (sym same) saw.1),
       ))
       result turns.step turns.stop_met turns.stopped turns.stop turns.stop_stays turns.no_stop turns.gate_full turns.arena_full
       (record { log = m.log; stands = m.stands; met = m.met; also = (m.seen, m.occupied) }) in

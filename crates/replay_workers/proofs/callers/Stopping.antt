@@ -65,8 +65,8 @@ module _ (old new : ResolverState) (goes : GoesOn old.core new.core) (Before Aft
     → After (log ++ Take proxy took.batch ∷ []))
     (finishes : old.core.stop ≡ None → Finishes old new → (log : List Step) → StandsOver old log → Before log
     → After (log ++ Finish ∷ []))
-    (rests : new.core.stop ≡ old.core.stop → TakesNoStep old new → (log : List Step) → StandsOver old log → Before log → After log)
-  where
+    (rests : new.core.stop ≡ old.core.stop → TakesNoStep old new → (log : List Step) → StandsOver old log → Before log
+    → After log) where
   abbrev Met : List Step → Option Stop → Type 0
   Met log stop = IfSome stop (IsStopOf old.core.set.map.limit old.core.set.window log)
 

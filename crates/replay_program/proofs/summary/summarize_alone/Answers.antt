@@ -94,21 +94,21 @@ returns g c =
           inr (record {
             occupancy = occupancy;
             failed = ran_as_and_failed options files received failures complete account.stop run
-          (IsMeasuredRun (λ _. Unit {0}) occupancy options files) measured (run_summary form (Some occupancy)) TakesToSummarize out error told
-          c.print_summary-report.result.printed c.print_summary-report.result.told lines
-          (λ proxy memory. omega (
-            arith,
-            report.memory proxy memory,
-            length-map c.deref_mut.result.now (vec_items {X = Line} {Z = Global}),
-          ))
-          report.takes
-          report.nothing beginning report.write.0
-          (subst (λ (e : Ending). OnOk c.print_summary-report.result.told (Took error (failure_lines told e))) ending report.failure_lines)
-          report.told.0 report.loss report.no_loss
-          (λ all.
-          let done =
-          report.done.1 (all.0, all.1, subst (λ (e : Ending). NothingFailed failures e) (sym ending) all.2) in
-          cc (done, is));
+                (IsMeasuredRun (λ _. Unit {0}) occupancy options files) measured (run_summary form (Some occupancy)) TakesToSummarize out error told
+                c.print_summary-report.result.printed c.print_summary-report.result.told lines
+                (λ proxy memory. omega (
+                  arith,
+                  report.memory proxy memory,
+                  length-map c.deref_mut.result.now (vec_items {X = Line} {Z = Global}),
+                ))
+                report.takes
+                report.nothing beginning report.write.0
+                (subst (λ (e : Ending). OnOk c.print_summary-report.result.told (Took error (failure_lines told e))) ending report.failure_lines)
+                report.told.0 report.loss report.no_loss
+                (λ all.
+                let done =
+                report.done.1 (all.0, all.1, subst (λ (e : Ending). NothingFailed failures e) (sym ending) all.2) in
+                cc (done, is));
           });
       met = has_met options files (map (vec_items {X = Line} {Z = Global}) outcome.lines.items) outcome.failures.items
           (is_complete outcome account) (λ _. Unit {0}) c.run_observed-run.new.observer.version account.stop c.is_unwritten.result error
