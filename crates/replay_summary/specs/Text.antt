@@ -72,10 +72,14 @@ version_member (Some versions) =
 abbrev pub members : Summary → List ℕ
 members s = verdict_members s ++ rate_member s ++ other_members s ++ version_member s.versions
 
+-- the same, to the end of the object
+abbrev pub members_to_end : Summary → List ℕ
+members_to_end s = members s ++ codes "}"
+
 -- the object of a proxy, given its number and its summary; a comma is before each but the first
 abbrev pub proxy_object : ℕ × Summary → List ℕ
 proxy_object proxy =
-    (if proxy.0 == 0 then [] else codes ",") ++ codes "{\"proxy\":" ++ decimal proxy.0 ++ codes "," ++ members proxy.1 ++ codes "}"
+    (if proxy.0 == 0 then [] else codes ",") ++ codes "{\"proxy\":" ++ decimal proxy.0 ++ codes "," ++ members_to_end proxy.1
 
 abbrev pub proxy_objects : List Summary → List ℕ
 proxy_objects summaries = flat_map proxy_object (enumerate_from 0 summaries)

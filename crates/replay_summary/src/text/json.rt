@@ -2,7 +2,7 @@
 
 ghost use Rattle.std.specs.Prelude.{◌≡◌, ◌++◌, OnOk, codes};
 ghost use Rattle.std.specs.List.{flat_map, enumerate_from};
-ghost use Rattle.replay_summary.specs.Text.{members, occupancy_members, other_members};
+ghost use Rattle.replay_summary.specs.Text.{members, members_to_end, occupancy_members, other_members};
 ghost use Rattle.replay_summary.specs.Text.{proxy_object, proxy_objects, resolver_members};
 ghost use Rattle.replay_summary.specs.Text.{verdict_members, version_member};
 
@@ -71,6 +71,13 @@ fn put_proxy(out: &mut Vec<u8>, proxy: usize, summary: &Summary) -> io::Result<(
     }
     put_number(out, b"{\"proxy\":", proxy)?;
     out.write_all(b",")?;
+    put_to_end(out, summary)
+}
+
+// Appends the members of a summary, to the end of the object.
+fn put_to_end(out: &mut Vec<u8>, summary: &Summary) -> io::Result<()>
+    ensures text { OnOk result (out.new.items ≡ out.old.items ++ members_to_end summary.now) }
+{
     put_members(out, summary)?;
     out.write_all(b"}")
 }
