@@ -58,7 +58,7 @@ class ShellRow:
 
     def hides_occupancy(self) -> bool:
         """Whether the row leaves open how full the resolver was."""
-        return SHARED in self.out + self.err or SHARED_JSON in self.out
+        return any(open_numbers in self.out + self.err for open_numbers in (SHARED, SHARED_JSON))
 
 
 FIRST = "0 0 empty\n0 100 committed\n"

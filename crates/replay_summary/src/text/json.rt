@@ -2,8 +2,9 @@
 
 ghost use Rattle.std.specs.Prelude.{◌≡◌, ◌++◌, OnOk, codes};
 ghost use Rattle.std.specs.List.{flat_map, enumerate_from};
-ghost use Rattle.replay_summary.specs.Text.{members, members_to_end, occupancy_members, other_members};
-ghost use Rattle.replay_summary.specs.Text.{proxy_object, proxy_objects, resolver_members};
+ghost use Rattle.replay_summary.specs.Text.{members, members_to_end, occupancy_members};
+ghost use Rattle.replay_summary.specs.Text.{other_members, proxy_object, proxy_objects};
+ghost use Rattle.replay_summary.specs.Text.{resolver_members};
 ghost use Rattle.replay_summary.specs.Text.{verdict_members, version_member};
 
 use super::number::put_number;
