@@ -11,7 +11,7 @@ use Rattle.replay_output.specs.Line.{answers_of}
 use Rattle.replay_summary.specs.declared.occupancy.Occupancy.{Occupancy}
 use Rattle.replay_workers.specs.Occupied.{IsOccupancyOver}
 use Rattle.replay_workers.specs.Run.{IsMeasuredRun, is_complete}
-use Rattle.replay_program.specs.Replayed.{written, Took, TookBeginning}
+use Rattle.replay_program.specs.Replayed.{written, Took, TookBeginning, ending_of}
 use Rattle.replay_program.specs.Summarized.{TakesToSummarize, run_summary, with_ranges}
 use Rattle.replay_program.proofs.Meeting.{has_met, met_nothing, not_failed, stop_told}
 use Rattle.replay_program.proofs.Ranges.{no_ranges}
