@@ -1,4 +1,4 @@
-use Rattle.std.proofs.Common.{ℕ, ap, length, subst, sym, ◌∙◌, refl, arith}
+use Rattle.std.proofs.Common.{◌≡◌, ℕ, ap, length, subst, sym, ◌∙◌, refl, arith}
 use Rattle.replay_summary.specs.declared.occupancy.Occupancy.{Occupancy}
 use Rattle.replay_summary.specs.Occupancy.{noted}
 use Rattle.replay_workers.proofs.Occupying.{measured_turn, stopped_if, unstopped_if}
