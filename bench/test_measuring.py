@@ -6,9 +6,10 @@ import hashlib
 import pathlib
 import tempfile
 import unittest
+from collections import Counter
 
 import shapes
-from measuring import results, rounds, workloads
+from measuring import resolvers, results, rounds, workloads
 from measuring.programs import Program
 from measuring.rounds import Different, Rounds, Run
 from measuring.summary import Spread, percentile, ratios, spread
@@ -143,6 +144,39 @@ class Results(unittest.TestCase):
     def test_the_machine_is_read(self) -> None:
         self.assertEqual(results.processor('processor : 0\nmodel name\t: Some CPU @ 2.5GHz\nmodel name\t: Other\n'), 'Some CPU @ 2.5GHz')
         self.assertEqual(results.memory_gib('MemTotal:       25165824 kB\nMemFree: 1 kB\n'), 24)
+
+
+class SeveralResolvers(unittest.TestCase):
+    def test_the_least_verdict_counts(self) -> None:
+        for lines, expected in ((('0 1 committed tooold', '0 1 conflict committed'), '0 1 conflict tooold'),
+                                (('0 1 tooold', '0 1 conflict', '0 1 committed'), '0 1 conflict'), (('2 7 empty', '2 7 empty'), '2 7 empty')):
+            self.assertEqual(resolvers.combined(lines), expected)
+
+    def test_lines_of_other_batches_differ(self) -> None:
+        for other in ('0 2 committed', '1 1 committed', '0 1 committed committed'):
+            with self.assertRaises(Different):
+                resolvers.combined(('0 1 committed', other))
+
+    def test_verdicts_are_counted(self) -> None:
+        self.assertEqual(resolvers.verdicts(['0 1 committed conflict', '0 2 empty', '0 3 conflict']),
+                         Counter({'conflict': 2, 'committed': 1, 'empty': 1}))
+
+    def test_a_file_has_a_line_per_number_of_resolvers(self) -> None:
+        art = Program('art', pathlib.Path('art'), ())
+        several = resolvers.runs_of(pathlib.Path('replay'), 2)
+        self.assertEqual(several[1].command(5, pathlib.Path('f')), ['replay', '--resolvers', '2', '--limit', '5', 'f'])
+        runs = {'art': [Run(1.0, 4.0), Run(2.0, 4.0)], 'replay-1': [Run(2.0, 4.0), Run(2.0, 4.0)], 'replay-2': [Run(1.0, 5.0), Run(1.0, 6.0)]}
+        found = {'art': Counter(conflict=3, committed=7), 'replay-1': Counter(conflict=3, committed=7),
+                 'replay-2': Counter(conflict=5, committed=5)}
+        rows = resolvers.rows_of(workloads.FULL[1], (2, 10), {'art': art, **{each.name: each for each in several}}, runs, found)
+        with tempfile.TemporaryDirectory() as folder:
+            file = pathlib.Path(folder) / 'results.csv'
+            resolvers.write(file, ['machine: none'], rows)
+            lines = file.read_text().splitlines()
+        cells = list(csv.DictReader(line for line in lines if not line.startswith('#')))
+        self.assertEqual([(row['resolvers'], row['ratio_to_art_median'], row['extra_conflicts'], row['peak_mib']) for row in cells],
+                         [('', '1.00', '0', '4.0'), ('1', '1.50', '0', '4.0'), ('2', '0.75', '2', '6.0')])
+        self.assertEqual(resolvers.table(rows).splitlines()[-1], 'replay-2  1.000 (1.000-1.000)  0.75 (0.50-1.00)  5          2')
 
 
 if __name__ == '__main__':

@@ -1,7 +1,13 @@
 """What is run on both builds."""
 
+import re
 from dataclasses import dataclass, field
 from enum import Enum
+
+# How full a resolver was, in a summary.
+OCCUPANCY = re.compile(
+    rb'(resolver: held at most |"most_held":)\d+(, boundaries |,"boundaries":)\d+(, at most |,"most_boundaries":)\d+'
+)
 
 
 class Text(Enum):
@@ -21,6 +27,11 @@ class Outcome:
     err: bytes
 
 
+def hidden(text: bytes) -> bytes:
+    """Returns a text without how full a resolver was."""
+    return OCCUPANCY.sub(rb"\1*\2*\3*", text)
+
+
 @dataclass(frozen=True)
 class Run:
     """A command line. File names in it are relative to the case's folder."""
@@ -35,6 +46,9 @@ class Run:
     expected: Outcome | None = None
     # A part of standard error.
     says: bytes = b""
+    # How full the resolver was isn't compared. The schedule decides it if several proxies share the resolver, and the rules don't say how
+    # many boundaries it has.
+    hides_occupancy: bool = False
 
 
 @dataclass(frozen=True)

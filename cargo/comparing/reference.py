@@ -227,12 +227,13 @@ def summary_members(answers: Sequence[Sequence[Answer]]) -> dict[str, object]:
 
 
 def summary_of(answers: Sequence[Sequence[Answer]], is_json: bool) -> str:
-    """Returns the text that `--summary` prints."""
+    """Returns the text that `--summary` prints. How full the resolver was is hidden."""
     if is_json:
         proxies = [{"proxy": proxy} | summary_members([some]) for proxy, some in enumerate(answers)]
-        return json.dumps({"proxies": proxies} | summary_members(answers), separators=(",", ":")) + "\n"
+        members = json.dumps({"proxies": proxies} | summary_members(answers), separators=(",", ":"))[:-1]
+        return members + ',"most_held":*,"boundaries":*,"most_boundaries":*}\n'
     lines = [summary_words(f"proxy {proxy}", [some]) for proxy, some in enumerate(answers)]
-    return "".join(lines) + summary_words("all", answers)
+    return "".join(lines) + summary_words("all", answers) + "resolver: held at most *, boundaries *, at most *\n"
 
 
 def differences_of(expected: Reply, found: Reply) -> list[str]:

@@ -88,7 +88,8 @@ def draw_run(chance: Random, files: Sequence[bytes], window: int | None, is_know
         expected = replay_outcome(
             files, form, window or WINDOW, shown=shown, is_summary=is_summary, explains=explains, reports_all=reports_all
         )
-    return Run("replay", tuple(args), expected=expected)
+    hides_occupancy = is_summary and (is_known or len(files) > 1)
+    return Run("replay", tuple(args), expected=expected, hides_occupancy=hides_occupancy)
 
 
 def draw_chain(chance: Random) -> tuple[Drawer, int | None, list[Batch]]:

@@ -10,7 +10,7 @@ from dataclasses import dataclass
 from pathlib import Path
 from typing import BinaryIO
 
-from .case import Case, Outcome, Run, Text
+from .case import Case, Outcome, Run, Text, hidden
 
 LIMIT = 55  # seconds, if each process has a processor of its own
 ENDLESS = -1_000  # the status of a program that was ended after them
@@ -66,6 +66,8 @@ def fixed(run: Run, outcome: Outcome) -> Outcome:
     """Returns what the documents fix of an outcome."""
     if is_of_clap(run, outcome):
         return Outcome(outcome.status, kind_of(run, outcome.out), kind_of(run, outcome.err))
+    if run.hides_occupancy:
+        outcome = Outcome(outcome.status, hidden(outcome.out), hidden(outcome.err))
     if b"replay: stop " in outcome.err:
         # After a stop the schedule decides whether a worker still reads its file up to a fault.
         return Outcome(outcome.status, outcome.out, FAULT.sub(b"", outcome.err))

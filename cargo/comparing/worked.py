@@ -58,6 +58,7 @@ def shell_cases() -> list[Case]:
             row.args,
             files[row.stdin] if row.stdin else b"",
             expected=Outcome(row.status, row.out.encode(), row.err.encode()),
+            hides_occupancy=row.hides_occupancy(),
         )
         for row in shell_rows.ROWS
     ]

@@ -56,6 +56,10 @@ class ShellRow:
     # The name of the file that is standard input.
     stdin: str | None = None
 
+    def hides_occupancy(self) -> bool:
+        """Whether the row leaves open how full the resolver was."""
+        return any(open_numbers in self.out + self.err for open_numbers in (SHARED, SHARED_JSON))
+
 
 FIRST = "0 0 empty\n0 100 committed\n"
 
@@ -247,9 +251,19 @@ def counted(name: str, counts: tuple[int, ...], versions: str) -> str:
     return f"{name}: {', '.join([*parts[:5], f'conflict rate {rate}', *parts[5:]])}, versions {versions}\n"
 
 
-def alone(*counts: int, versions: str) -> str:
+def resolver(most_held: int | str, boundaries: int | str, most_boundaries: int | str) -> str:
+    """The line that says how full the resolver was."""
+    return f"resolver: held at most {most_held}, boundaries {boundaries}, at most {most_boundaries}\n"
+
+
+# Several proxies share the resolver, so the schedule decides.
+SHARED = resolver("*", "*", "*")
+SHARED_JSON = ',"most_held":*,"boundaries":*,"most_boundaries":*'
+
+
+def alone(*counts: int, versions: str, full: tuple[int, int, int] = (0, 3, 3)) -> str:
     """The summary of a run of one proxy."""
-    return counted("proxy 0", counts, versions) + counted("all", counts, versions)
+    return counted("proxy 0", counts, versions) + counted("all", counts, versions) + resolver(*full)
 
 
 # A summary in place of lines.
@@ -257,8 +271,9 @@ TWO_COUNTED = (
     counted("proxy 0", (2, 1, 1, 0, 0, 0, 0, 0), "0 to 100")
     + counted("proxy 1", (1, 1, 0, 1, 0, 0, 0, 0), "200 to 200")
     + counted("all", (3, 2, 1, 1, 0, 0, 0, 0), "0 to 200")
+    + SHARED
 )
-NOTHING = alone(0, 0, 0, 0, 0, 0, 0, 0, versions="none")
+NOTHING = alone(0, 0, 0, 0, 0, 0, 0, 0, versions="none", full=(0, 1, 1))
 SUMMARIES = (
     ShellRow(("--summary", "first"), alone(2, 1, 1, 0, 0, 0, 0, 0, versions="0 to 100")),
     ShellRow(("first", "--summary", "second"), TWO_COUNTED),
@@ -267,12 +282,13 @@ SUMMARIES = (
         alone(3, 3, 2, 0, 1, 0, 0, 0, versions="0 to 101"),
     ),
     ShellRow(("--summary", "again"), alone(2, 1, 1, 0, 0, 3, 0, 0, versions="0 to 100")),
-    ShellRow(("--summary", "overtaken"), alone(3, 1, 1, 0, 0, 0, 1, 0, versions="0 to 200")),
+    ShellRow(("--summary", "overtaken"), alone(3, 1, 1, 0, 0, 0, 1, 0, versions="0 to 200", full=(2, 3, 3))),
     ShellRow(
         ("--summary", "second", "third"),
         counted("proxy 0", (0, 0, 0, 0, 0, 0, 0, 1), "none")
         + counted("proxy 1", (0, 0, 0, 0, 0, 0, 0, 1), "none")
-        + counted("all", (0, 0, 0, 0, 0, 0, 0, 2), "none"),
+        + counted("all", (0, 0, 0, 0, 0, 0, 0, 2), "none")
+        + SHARED,
     ),
     ShellRow(("--summary", "empty"), NOTHING),
     ShellRow(("--summary", "-"), alone(2, 1, 1, 0, 0, 0, 0, 0, versions="0 to 100"), stdin="first"),
@@ -281,9 +297,11 @@ SUMMARIES = (
         '{"proxies":[{"proxy":0,"batches":2,"transactions":1,"committed":1,"conflict":0,"tooold":0,"conflict_percent":0.0,"repeats":0,"never":0,'
         '"held":0,"versions":{"first":0,"last":100}},{"proxy":1,"batches":0,"transactions":0,"committed":0,"conflict":0,'
         '"tooold":0,"conflict_percent":null,"repeats":0,"never":0,"held":0,"versions":null}],"batches":2,"transactions":1,"committed":1,'
-        '"conflict":0,"tooold":0,"conflict_percent":0.0,"repeats":0,"never":0,"held":0,"versions":{"first":0,"last":100}}\n',
+        '"conflict":0,"tooold":0,"conflict_percent":0.0,"repeats":0,"never":0,"held":0,"versions":{"first":0,"last":100}'
+        + SHARED_JSON
+        + "}\n",
     ),
-    ShellRow(("--summary", "cut"), alone(1, 0, 0, 0, 0, 0, 0, 0, versions="0 to 0"), SHORT, 1),
+    ShellRow(("--summary", "cut"), alone(1, 0, 0, 0, 0, 0, 0, 0, versions="0 to 0", full=(0, 1, 1)), SHORT, 1),
     ShellRow(
         ("--summary", "writes", "--limit", "3"),
         alone(2, 1, 1, 0, 0, 0, 0, 0, versions="0 to 100"),
@@ -433,10 +451,11 @@ TOPS = (
         '{"proxies":[{"proxy":0,"batches":3,"transactions":3,"committed":2,"conflict":1,"tooold":0,"conflict_percent":33.3,"repeats":0,'
         '"never":0,"held":0,"versions":{"first":0,"last":101}}],"batches":3,"transactions":3,"committed":2,"conflict":1,"tooold":0,'
         '"conflict_percent":33.3,"repeats":0,"never":0,"held":0,"versions":{"first":0,"last":101},'
+        '"most_held":0,"boundaries":3,"most_boundaries":3,'
         '"hot_reads":[{"begin":"a","end":"b","conflicts":1}],"hot_writes":[{"begin":"a","end":"b","conflicts":1}]}\n',
     ),
     ShellRow(("--summary", "--top", "9", "conflict", "--window=1"), alone(3, 3, 2, 0, 1, 0, 0, 0, versions="0 to 101") + hot((), ())),
-    ShellRow(("--summary", "--top", "9", "cut"), alone(1, 0, 0, 0, 0, 0, 0, 0, versions="0 to 0") + hot((), ()), SHORT, 1),
+    ShellRow(("--summary", "--top", "9", "cut"), alone(1, 0, 0, 0, 0, 0, 0, 0, versions="0 to 0", full=(0, 1, 1)) + hot((), ()), SHORT, 1),
     ShellRow(("--summary", "--top", "9", "first", "none"), "", "replay: proxy 1: cannot open\n", 1),
     ShellRow(("-o", "/dev/full", "--summary", "--top", "9", "first"), "", "", 1),
 )
@@ -515,7 +534,7 @@ BESIDES = (
     # The summary is of all answers.
     ShellRow(("--summary-to", "/dev/stderr", "first", "--quiet"), "", FIRST_COUNTED),
     ShellRow(("--summary-to", "/dev/stderr", "first", "--versions", "100.."), "0 100 committed\n", FIRST_COUNTED),
-    ShellRow(("--summary-to", "/dev/stderr", "cut"), "0 0 empty\n", alone(1, 0, 0, 0, 0, 0, 0, 0, versions="0 to 0") + SHORT, 1),
+    ShellRow(("--summary-to", "/dev/stderr", "cut"), "0 0 empty\n", alone(1, 0, 0, 0, 0, 0, 0, 0, versions="0 to 0", full=(0, 1, 1)) + SHORT, 1),
     ShellRow(("--summary-to", "out", "first"), FIRST),
     ShellRow(("--summary-to", "out", "-o", "/dev/stderr", "first"), "", FIRST),
     ShellRow(("--summary-to", "/dev/stderr", "-o", "out", "first"), "", FIRST_COUNTED),

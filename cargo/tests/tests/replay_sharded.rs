@@ -212,6 +212,13 @@ fn extents() {
     assert_eq!(opened(&["replay", "first"]), ["first"].map(complete));
 }
 
+/// A text without how full the resolver was. With several resolvers, a summary doesn't say that.
+fn without_occupancy(text: &str) -> String {
+    let lines = text.split_inclusive('\n').filter(|line| !line.starts_with("resolver: "));
+    let cut = |line: &str| line.find(",\"most_held\":").map(|members| format!("{}}}\n", &line[..members]));
+    lines.map(|line| cut(line).unwrap_or_else(|| line.to_owned())).collect()
+}
+
 /// A summary instead of the answers, and one beside them, are those of one resolver.
 #[test]
 fn summaries() {
@@ -224,6 +231,6 @@ fn summaries() {
     for words in rows {
         let several: Vec<_> = ["replay", "--resolvers", "2"].iter().chain(words).copied().collect();
         let one: Vec<_> = ["replay"].iter().chain(words).copied().collect();
-        assert_eq!(shell(&several), shell(&one), "{words:?}");
+        assert_eq!(shell(&several), without_occupancy(&shell(&one)), "{words:?}");
     }
 }

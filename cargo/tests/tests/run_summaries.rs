@@ -6,6 +6,7 @@ use rattle_std::sync::Arc;
 use replay_program::{AlwaysOpen, Form, Options, Reports, Status, Style, SummaryForm, SummaryRequest, SummaryWriter, Unshared};
 use replay_program::{replay_and_summarize_over, replay_over, summarize_over};
 use std::io::Write;
+use std::iter;
 use tests::failing::Failing;
 use tests::playing::{Reader, file_of, reader};
 use tests::printing::ended;
@@ -20,14 +21,18 @@ const CONFLICTS: &[&str] = &[
 
 /// The summary of that file in words.
 const LINES: &str = "proxy 0: batches 3, transactions 7, committed 4, conflict 3, tooold 0, conflict rate 42.9 %, repeats 0, never 0, held 0, versions 0 to 200\n\
-    all: batches 3, transactions 7, committed 4, conflict 3, tooold 0, conflict rate 42.9 %, repeats 0, never 0, held 0, versions 0 to 200\n";
+    all: batches 3, transactions 7, committed 4, conflict 3, tooold 0, conflict rate 42.9 %, repeats 0, never 0, held 0, versions 0 to 200\n\
+    resolver: held at most 0, boundaries 5, at most 5\n";
 
 /// The members of the summary of that file, of the proxy and of all.
 const MEMBERS: &str = "\"batches\":3,\"transactions\":7,\"committed\":4,\"conflict\":3,\"tooold\":0,\"conflict_percent\":42.9,\
     \"repeats\":0,\"never\":0,\"held\":0,\"versions\":{\"first\":0,\"last\":200}";
 
+/// How full the resolver was: its boundaries are the empty key, `a`, `b`, `k` and `l`.
+const FULL: &str = ",\"most_held\":0,\"boundaries\":5,\"most_boundaries\":5";
+
 fn object(more: &str) -> String {
-    format!("{{\"proxies\":[{{\"proxy\":0,{MEMBERS}}}],{MEMBERS}{more}}}\n")
+    format!("{{\"proxies\":[{{\"proxy\":0,{MEMBERS}}}],{MEMBERS}{FULL}{more}}}\n")
 }
 
 fn options() -> Options {
@@ -117,6 +122,40 @@ fn ranges_after_a_stop() {
     assert!(text.ends_with(ranges), "{text}");
 }
 
+/// The line of the resolver of one file.
+fn resolver_line(batches: &[&str], options: Options) -> String {
+    let text = summarized(&[(batches, b"")], options, SummaryForm::Words, None);
+    let line = text.lines().find(|line| line.starts_with("resolver: ")).expect("a line");
+    line.strip_prefix("resolver: held at most ").expect("the number held").to_owned()
+}
+
+/// The batches of a file are taken in its order. The empty key is always a boundary.
+#[test]
+fn how_full_the_resolver_was() {
+    let short = Options { window: 1, ..options() };
+    let small = Options { limit: 3, ..options() };
+    let rows: [(&[&str], Options, &str); 9] = [
+        (&[], options(), "0, boundaries 1, at most 1"),
+        (&["-1>0: W[a,b)"], options(), "0, boundaries 3, at most 3"),
+        // Held at once: two, then one. That one is held to the end.
+        (&["5>6: W[a,b)", "7>8", "-1>5: W[c,d)"], options(), "2, boundaries 5, at most 5"),
+        // One leaves, one comes.
+        (&["0>1", "-1>0", "2>3", "1>2"], options(), "1, boundaries 1, at most 1"),
+        // All leave at once.
+        (&["2>3", "1>2", "0>1", "-1>0"], options(), "3, boundaries 1, at most 1"),
+        // A batch that is held counts once for each time that it comes.
+        (&["7>8", "7>8", "-1>0"], options(), "2, boundaries 1, at most 1"),
+        // Writes expire.
+        (&["-1>0: W[a,b) W[c,d) W[e,f)", "0>100: W[a,b)", "100>200: W[a,b)"], short, "0, boundaries 3, at most 7"),
+        // A stop: the batch that would need more boundaries isn't counted.
+        (&["-1>0: W[a,b)", "0>1: W[c,d)"], small, "0, boundaries 3, at most 3"),
+        (&["-1>0: W[a,b)", "7>8", "0>1: W[c,d)"], small, "1, boundaries 3, at most 3"),
+    ];
+    for (batches, options, wanted) in rows {
+        assert_eq!(resolver_line(batches, options), wanted, "{batches:?}");
+    }
+}
+
 #[test]
 fn ranges_for_a_writer_that_fails() {
     for room in [0, 5, 400] {
@@ -145,21 +184,25 @@ fn replayed<O: Write, T: Write>(files: &[(&[&str], &[u8])], options: Options, fo
     (out.into_inner(), summary.writer.into_inner(), ended(run.status, b"", &error.into_inner()))
 }
 
-/// The answers are those without a summary, and the summary is that without answers.
+/// The answers are those without a summary, and the summary is that without answers. If one of several proxies meets a stop, the schedule
+/// decides how many batches were held before.
 #[test]
 fn both_texts() {
     let json = Options { style: Style::all(Form::Json), ..options() };
+    let small = Options { limit: 3, ..options() };
     let held: (&[&str], &[u8]) = (&["300>400"], b"");
-    for options in [options(), json, options().quieted(), Options { limit: 3, ..options() }] {
-        for files in [vec![(CONFLICTS, &b""[..])], vec![(CONFLICTS, &b"\0"[..]), held], vec![held, (CONFLICTS, &b""[..])]] {
+    let alone = vec![(CONFLICTS, &b""[..])];
+    let several = [vec![(CONFLICTS, &b"\0"[..]), held], vec![held, (CONFLICTS, &b""[..])]];
+    for options in [options(), json, options().quieted(), small] {
+        for files in iter::once(&alone).chain(several.iter().filter(|_| options.limit > 3)) {
             let mut out = StdSink::new(Vec::new());
             let mut error = StdSink::new(Vec::new());
-            let run = replay_over(&HostRuntime::new(), Global, readers(&files), options, &gatekeeper(), &mut out, &mut error);
+            let run = replay_over(&HostRuntime::new(), Global, readers(files), options, &gatekeeper(), &mut out, &mut error);
             let answers = (out.into_inner(), ended(run.status, b"", &error.into_inner()));
             for form in [SummaryForm::Words, SummaryForm::Json] {
-                let (out, to, end) = replayed(&files, options, form, Vec::new(), Vec::new());
+                let (out, to, end) = replayed(files, options, form, Vec::new(), Vec::new());
                 assert_eq!((out, end.clone()), answers);
-                assert_eq!(String::from_utf8(to).expect("a summary is text") + &end, summarized(&files, options, form, None));
+                assert_eq!(String::from_utf8(to).expect("a summary is text") + &end, summarized(files, options, form, None));
             }
         }
     }

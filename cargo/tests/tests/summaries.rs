@@ -3,7 +3,9 @@
 use keyspace::{Answer, Verdict};
 use rattle_std::alloc::Global;
 use rattle_std::vec::Vec as KitVec;
-use replay_summary::{Counted, Counts, Outcome, Summary, SummaryError, SummaryForm, Versions, summarize, summarize_all, summary_text, total};
+use replay_summary::{
+    Counted, Counts, Occupancy, Outcome, Summary, SummaryError, SummaryForm, Versions, summarize, summarize_all, summary_text, total,
+};
 use std::collections::BTreeSet;
 use tests::cases::{count, run};
 use tests::plain::{PlainEntry, PlainReply};
@@ -27,7 +29,11 @@ fn summarized(answers: Vec<Vec<Answer>>) -> Vec<Summary> {
 }
 
 fn text(summaries: &[Summary], form: SummaryForm) -> String {
-    String::from_utf8(summary_text(Global, summaries, form).expect("memory is ample").into_std()).expect("the text is ASCII")
+    text_with(summaries, None, form)
+}
+
+fn text_with(summaries: &[Summary], occupancy: Option<Occupancy>, form: SummaryForm) -> String {
+    String::from_utf8(summary_text(Global, summaries, occupancy, form).expect("memory is ample").into_std()).expect("the text is ASCII")
 }
 
 /// The answers to two proxies, in order of versions.
@@ -105,7 +111,7 @@ fn a_counted_answer_has_24_bytes() {
 fn numbers_beyond_64_bits_are_refused() {
     let half = Summary { held: usize::MAX / 2 + 1, ..Summary::empty() };
     assert_eq!(total(&[half, half]), None);
-    assert_eq!(summary_text(Global, &[half, half], SummaryForm::Json), Err(SummaryError::Count));
+    assert_eq!(summary_text(Global, &[half, half], None, SummaryForm::Json), Err(SummaryError::Count));
     assert_eq!(total(&[half]), Some(half));
 }
 
@@ -142,6 +148,30 @@ fn one_line_of_json() {
         "\n"
     );
     assert_eq!(text(&[], SummaryForm::Json), wanted);
+}
+
+/// The greatest numbers stay, and the number of boundaries is the last one.
+#[test]
+fn how_full_a_resolver_was() {
+    let mut occupancy = Occupancy::new(1);
+    assert_eq!(occupancy, Occupancy { most_held: 0, boundaries: 1, most_boundaries: 1 });
+    for (held, boundaries) in [(2, 3), (5, 9), (0, 7), (5, 7)] {
+        occupancy.note(held, boundaries);
+    }
+    assert_eq!(occupancy, Occupancy { most_held: 5, boundaries: 7, most_boundaries: 9 });
+}
+
+/// It is said of the resolver after the lines of the proxies and of all, and after the members of all.
+#[test]
+fn the_resolver_is_last() {
+    let summaries = summarized(two_proxies());
+    let occupancy = Some(Occupancy { most_held: 12, boundaries: 1, most_boundaries: usize::MAX });
+    let wanted = text(&summaries, SummaryForm::Words) + "resolver: held at most 12, boundaries 1, at most 18446744073709551615\n";
+    assert_eq!(text_with(&summaries, occupancy, SummaryForm::Words), wanted);
+    let object = text(&summaries, SummaryForm::Json);
+    let members = object.strip_suffix("}\n").expect("an object");
+    let wanted = format!("{members},\"most_held\":12,\"boundaries\":1,\"most_boundaries\":18446744073709551615}}\n");
+    assert_eq!(text_with(&summaries, occupancy, SummaryForm::Json), wanted);
 }
 
 /// The line of one proxy with these transactions in conflict, of so many.

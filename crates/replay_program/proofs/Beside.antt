@@ -1,5 +1,5 @@
 -- What failed, where the answers are printed and their summary is written beside them.
-use Rattle.std.specs.Prelude.{◌≡◌, ◌⊎◌, ℕ, ◌<◌, List, length, map, Result, Ok, Err, OnOk, OnErr, IsOk, IsErr}
+use Rattle.std.specs.Prelude.{◌≡◌, ◌⊎◌, ℕ, ◌<◌, List, length, map, Option, Result, Ok, Err, OnOk, OnErr, IsOk, IsErr}
 use Rattle.std.proofs.Common.{refl, subst, inl, inr, arith}
 use Rattle.std.proofs.lemmas.Bool.{false≢true}
 use Rattle.replay_output.specs.declared.failures.Ending.{Ending}
@@ -9,6 +9,7 @@ use Rattle.replay_output.specs.declared.options.style.Style.{Style}
 use Rattle.replay_output.specs.Failures.{failure_lines, with_loss, NothingFailed}
 use Rattle.replay_output.specs.Line.{answers_of}
 use Rattle.replay_output.specs.Lines.{lines}
+use Rattle.replay_summary.specs.declared.occupancy.Occupancy.{Occupancy}
 use Rattle.replay_summary.specs.declared.text.SummaryForm.{SummaryForm}
 use Rattle.replay_program.specs.Replayed.{HasFailed, Took, TookBeginning, Written}
 use Rattle.replay_program.specs.Summarized.{BothFailed, TakesToSummarize, TookUnlessFailed, run_summary}
@@ -30,8 +31,8 @@ pub lines_told : {T E : Type 0} (told : Result T E) (error : Written) (text : Li
 lines_told (Ok x) error text whole failed = inr whole
 lines_told (Err e) error text whole failed = inl (failed refl)
 
-module _ (form : SummaryForm) (style : Style) (received : List (List Line)) (failures : List ProxyFailure) (ending : Ending)
-    (out beside error : Written) where
+module _ (form : SummaryForm) (occupancy : Option Occupancy) (style : Style) (received : List (List Line)) (failures : List ProxyFailure)
+    (ending : Ending) (out beside error : Written) where
   -- which of four failed
   why_failed : {S T U E F G : Type 0} (printed : Result S E) (put : Result T F) (told : Result U G) → OnErr printed (HasFailed out)
       → OnErr put (HasFailed beside) → (IsErr told → HasFailed error)
@@ -47,17 +48,17 @@ module _ (form : SummaryForm) (style : Style) (received : List (List Line)) (fai
   pub both_failed : {S T U E F G : Type 0} (printed : Result S E) (put : Result T F) (told : Result U G)
       → OnOk printed (Took out (lines style (map answers_of received)))
       → OnErr printed (TookBeginning out (lines style (map answers_of received))) → OnErr printed (HasFailed out)
-      → OnOk put (Took beside (run_summary form (map answers_of received)))
-      → OnErr put (TookBeginning beside (run_summary form (map answers_of received))) → OnErr put (HasFailed beside)
+      → OnOk put (Took beside (run_summary form occupancy (map answers_of received)))
+      → OnErr put (TookBeginning beside (run_summary form occupancy (map answers_of received))) → OnErr put (HasFailed beside)
       → OnOk told (Took error (failure_lines failures ending)) → (IsErr told → HasFailed error)
       → ¬ (NothingFailed failures ending × IsOk printed × IsOk put × IsOk told)
-      → BothFailed form style received failures ending out beside error
+      → BothFailed form occupancy style received failures ending out beside error
   both_failed printed put told whole beginning failed put_whole put_beginning put_failed told_whole told_failed not_all = record {
     told = failures;
     texts = inl (
       refl,
       took printed out (lines style (map answers_of received)) whole beginning failed,
-      took put beside (run_summary form (map answers_of received)) put_whole put_beginning put_failed,
+      took put beside (run_summary form occupancy (map answers_of received)) put_whole put_beginning put_failed,
     );
     lines_of_failures = lines_told told error (failure_lines failures ending) told_whole told_failed;
     why = why_failed printed put told failed put_failed told_failed not_all;
@@ -67,7 +68,7 @@ module _ (form : SummaryForm) (style : Style) (received : List (List Line)) (fai
   pub both_lost : {U G : Type 0} (proxy : ℕ) (after : List ProxyFailure) (told : Result U G) → proxy < length received
       → length failures ≡ length received → TakesToSummarize received proxy → after ≡ with_loss proxy failures
       → OnOk told (Took error (failure_lines after ending)) → (IsErr told → HasFailed error) → out.after ≡ out.before
-      → beside.after ≡ beside.before → BothFailed form style received failures ending out beside error
+      → beside.after ≡ beside.before → BothFailed form occupancy style received failures ending out beside error
   both_lost proxy after told inside same takes is told_whole told_failed out_kept beside_kept = record {
     told = after;
     texts = inr ((proxy, inside, takes, is), out_kept, beside_kept);

@@ -1,7 +1,7 @@
 -- The ranges that conflict most in a run, from what an observer has seen of it.
 use Rattle.std.specs.Prelude.{◌≡◌, ℕ, ◌<◌, ℤ, Bool, List, length, Option, Result, OnOk, IsErr}
 use Rattle.std.specs.List.{All}
-use Rattle.std.proofs.Common.{refl, subst, sym, inr, arith}
+use Rattle.std.proofs.Common.{subst, sym, inr, arith}
 use Rattle.keyspace.specs.Chain.{IsChain}
 use Rattle.keyspace.specs.Processed.{Processed}
 use Rattle.keyspace.specs.Run.{Step, run}
@@ -25,16 +25,6 @@ module _ (Seen : List Processed → Type 0) (stop : Option Stop) (window : ℤ) 
       let begins = saw.no_others in
       subst (λ (w : ℤ). IsChain w saw.list) (sym same)
       (chain_begins window saw.list begins.0 (run window log).processed begins.1 chain)
-
-  -- these are the batches that were seen
-  pub seen_are : HasSeen (λ seen. seen ≡ saw.list) stop window log
-  seen_are = record {
-    list = saw.list;
-    seen = refl;
-    no_others = saw.no_others;
-    all = saw.all;
-    all_before_last = saw.all_before_last;
-  }
 
 -- memory was refused for what is to be printed, and nothing was
 pub ran_and_lost : (options : Options) (files : List (Option (List ℕ))) (received : List (List Line)) (failures : List ProxyFailure)

@@ -1,6 +1,7 @@
 pub mod Reporting
 pub mod Replaying
 pub mod Meeting
+pub mod Measuring
 pub mod Saying
 pub mod Unopened
 pub mod Streaming

@@ -76,14 +76,14 @@ abbrev pub IsReplayedAndSummarizedByShards : SummaryForm → List (List ℕ) →
 IsReplayedAndSummarizedByShards form points options files before after before_beside after_beside =
     IsReplayedByShardsBy
     (λ together. Appends before after (lines options.style together)
-    × Appends before_beside after_beside (run_summary form together))
+    × Appends before_beside after_beside (run_summary form None together))
     points options files
 
 -- the text printed is the summary of all combined answers
 abbrev pub IsSummarizedByShards : SummaryForm → List (List ℕ) → Options → List (Option (List ℕ)) → Option (List ℕ) → Option (List ℕ)
     → Type 0
 IsSummarizedByShards form points options files before after =
-    IsReplayedByShardsBy (λ together. Appends before after (run_summary form together)) points options files
+    IsReplayedByShardsBy (λ together. Appends before after (run_summary form None together)) points options files
 
 -- the text printed is the lines of the differences from the recorded replies, and their number is as said
 abbrev pub IsCheckedByShards : (ℕ → Type 0) → List (List Reply) → List (List ℕ) → Options → List (Option (List ℕ))
@@ -137,7 +137,7 @@ FailsToReplayByShards points options files out error =
 
 abbrev pub FailsToSummarizeByShards : SummaryForm → List (List ℕ) → Options → List (Option (List ℕ)) → Written → Written → Type 0
 FailsToSummarizeByShards form points options files out error =
-    FailsToPrintByShards (run_summary form) TakesToSummarize points options files out error
+    FailsToPrintByShards (run_summary form None) TakesToSummarize points options files out error
 
 abbrev pub FailsToCheckByShards : List (List Reply) → List (List ℕ) → Options → List (Option (List ℕ)) → Written → Written → Type 0
 FailsToCheckByShards recorded points options files out error =
@@ -150,7 +150,7 @@ pub record BothFailedOf (form : SummaryForm) (options : Options) (out beside : W
   pub complete : Bool
   pub stop : Option Stop
   pub run : Ran received failures complete stop
-  pub failed : BothFailed form options.style received failures (ending_of complete stop) out beside error
+  pub failed : BothFailed form None options.style received failures (ending_of complete stop) out beside error
 
 abbrev pub FailsToReplayAndSummarizeByShards : SummaryForm → List (List ℕ) → Options → List (Option (List ℕ)) → Written → Written
     → Written → Type 0

@@ -42,12 +42,13 @@ pub struct SummaryRequest {
 }
 
 /// Replays the files of these readers as [`replay_over`](crate::replay_over) does, and prints the
-/// summary of all answers to `out`, and one line a failure to `error`. If they are requested, the
-/// summary lists the ranges that conflict most. Lines of answers are made as the options say, and
-/// not printed.
+/// summary of all answers to `out`, with how full the resolver was, and one line a failure to
+/// `error`. If they are requested, the summary lists the ranges that conflict most. Lines of
+/// answers are made as the options say, and not printed.
 ///
 /// If memory is refused for the ranges, nothing is printed to `out`, and the last proxy has a loss.
-/// After a stop, the conflicts of the last step may not be counted.
+/// After a stop, the conflicts of the last step may not be counted, and how full the resolver was
+/// is said of the steps before it.
 pub fn summarize_over<
     S: Source + Send + Drop + 'static,
     G: Gatekeeper + ShareKeeper + Send + Sync + Drop + 'static,
@@ -142,6 +143,7 @@ fn summarize_alone<
         mut lines,
         mut failures,
         all_sent,
+        occupancy,
         ..
     } = outcome;
     let ending = Ending::new(account.complete && all_sent, account.stop);
@@ -151,6 +153,7 @@ fn summarize_alone<
         error,
         &mut lines,
         form,
+        Some(occupancy),
         b"",
         &mut failures,
         ending,
@@ -213,6 +216,7 @@ fn summarize_with_top<
         mut lines,
         mut failures,
         all_sent,
+        occupancy,
         ..
     } = outcome;
     let complete = is_complete(account.complete, all_sent);
@@ -225,6 +229,7 @@ fn summarize_with_top<
                 error,
                 &mut lines,
                 wanted.form,
+                Some(occupancy),
                 &ranges,
                 &mut failures,
                 ending,

@@ -2,5 +2,6 @@
 pub mod Counted
 pub mod Summary
 pub mod Adding
+pub mod Occupancy
 pub mod Rate
 pub mod Text

@@ -1,7 +1,8 @@
--- The text of summaries: one line of words per proxy and one for all, or one line of JSON. This project's own formats.
+-- The text of summaries: one line of words per proxy, one for all and one for the resolver, or one line of JSON. This project's own formats.
 use Rattle.std.specs.Prelude.{ℕ, ◌==◌, if◌then◌else◌, List, [], ◌++◌, codes, Option, None, Some}
 use Rattle.std.specs.List.{flat_map, enumerate_from}
 use Rattle.std.specs.Fmt.{decimal, signed_decimal}
+use Rattle.replay_summary.specs.declared.occupancy.Occupancy.{Occupancy}
 use Rattle.replay_summary.specs.declared.summary.Summary.{Summary}
 use Rattle.replay_summary.specs.declared.text.SummaryForm.{SummaryForm}
 use Rattle.replay_summary.specs.declared.text.SummaryForm.TheVariants.{Words, Json}
@@ -38,6 +39,17 @@ proxy_line proxy = codes "proxy " ++ decimal proxy.0 ++ codes ": " ++ words prox
 abbrev pub last_line : Summary → List ℕ
 last_line total = codes "all: " ++ words total
 
+-- the occupancy of the resolver in words: most batches held, boundaries at the end, and at most
+abbrev pub occupancy_words : Occupancy → List ℕ
+occupancy_words o =
+    codes "resolver: held at most " ++ decimal o.most_held ++ codes ", boundaries " ++ decimal o.boundaries
+    ++ codes ", at most " ++ decimal o.most_boundaries
+
+-- the line of the resolver, if its occupancy is known
+abbrev pub resolver_line : Option Occupancy → List ℕ
+resolver_line None = []
+resolver_line (Some o) = occupancy_words o ++ codes "\n"
+
 -- the same numbers as members of an object
 abbrev pub verdict_members : Summary → List ℕ
 verdict_members s =
@@ -51,25 +63,42 @@ other_members s =
     ++ codes ",\"held\":" ++ decimal s.held
 
 abbrev pub version_member : Option Versions → List ℕ
-version_member None = codes ",\"versions\":null}"
+version_member None = codes ",\"versions\":null"
 version_member (Some versions) =
     codes ",\"versions\":{\"first\":" ++ signed_decimal versions.first ++ codes ",\"last\":" ++ signed_decimal versions.last
-    ++ codes "}}"
+    ++ codes "}"
 
--- the members of a summary, to the end of the object
+-- the members of a summary
 abbrev pub members : Summary → List ℕ
 members s = verdict_members s ++ rate_member s ++ other_members s ++ version_member s.versions
+
+-- the same, to the end of the object
+abbrev pub members_to_end : Summary → List ℕ
+members_to_end s = members s ++ codes "}"
 
 -- the object of a proxy, given its number and its summary; a comma is before each but the first
 abbrev pub proxy_object : ℕ × Summary → List ℕ
 proxy_object proxy =
-    (if proxy.0 == 0 then [] else codes ",") ++ codes "{\"proxy\":" ++ decimal proxy.0 ++ codes "," ++ members proxy.1
+    (if proxy.0 == 0 then [] else codes ",") ++ codes "{\"proxy\":" ++ decimal proxy.0 ++ codes "," ++ members_to_end proxy.1
 
 abbrev pub proxy_objects : List Summary → List ℕ
 proxy_objects summaries = flat_map proxy_object (enumerate_from 0 summaries)
 
--- The text, given the summary of each proxy; a proxy's number is its index.
-abbrev pub text : SummaryForm → List Summary → List ℕ
-text Words summaries = flat_map proxy_line (enumerate_from 0 summaries) ++ last_line (total_of summaries)
-text Json summaries =
-    codes "{\"proxies\":[" ++ proxy_objects summaries ++ codes "]," ++ members (total_of summaries) ++ codes "\n"
+-- the same three numbers as members
+abbrev pub occupancy_members : Occupancy → List ℕ
+occupancy_members o =
+    codes ",\"most_held\":" ++ decimal o.most_held ++ codes ",\"boundaries\":" ++ decimal o.boundaries
+    ++ codes ",\"most_boundaries\":" ++ decimal o.most_boundaries
+
+-- the members of the resolver, if its occupancy is known
+abbrev pub resolver_members : Option Occupancy → List ℕ
+resolver_members None = []
+resolver_members (Some o) = occupancy_members o
+
+-- The text, given the summary of each proxy, and the occupancy of the resolver if it is known. A proxy's number is its index.
+abbrev pub text : SummaryForm → Option Occupancy → List Summary → List ℕ
+text Words occupancy summaries =
+    flat_map proxy_line (enumerate_from 0 summaries) ++ last_line (total_of summaries) ++ resolver_line occupancy
+text Json occupancy summaries =
+    codes "{\"proxies\":[" ++ proxy_objects summaries ++ codes "]," ++ members (total_of summaries)
+    ++ resolver_members occupancy ++ codes "}\n"

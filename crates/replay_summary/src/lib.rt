@@ -3,15 +3,17 @@
 //!
 //! [`Counted`] is an answer with its verdicts counted. [`summarize`] adds up the answers to one
 //! proxy, [`summarize_all`] those to each, and [`total`] the summaries of all proxies.
-//! [`summary_text`] is the text, as words or as JSON.
+//! [`Occupancy`] is how full the resolver was. [`summary_text`] is the text, as words or as JSON.
 //!
-//! `specs/Counted.antt`, `specs/Summary.antt` and `specs/Text.antt` define what these are.
+//! `specs/Counted.antt`, `specs/Summary.antt`, `specs/Occupancy.antt` and `specs/Text.antt` define
+//! what these are.
 #![tactic(auto)]
 
 mod all;
 mod counted;
 mod counts;
 mod error;
+mod occupancy;
 mod one;
 mod summary;
 mod text;
@@ -21,6 +23,7 @@ pub use all::summarize_all;
 pub use counted::{Counted, HasCounted, Outcome};
 pub use counts::Counts;
 pub use error::SummaryError;
+pub use occupancy::Occupancy;
 pub use one::summarize;
 pub use summary::{Summary, total};
 pub use text::{SummaryForm, summary_text};

@@ -5,4 +5,5 @@ pub mod Watching
 pub mod Runs
 pub mod Seen
 pub mod Keeping
+pub mod Occupying
 pub mod Reporting

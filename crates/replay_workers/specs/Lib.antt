@@ -8,4 +8,5 @@ pub mod Asking
 pub mod Watch
 pub mod Threads
 pub mod Stops
+pub mod Occupied
 pub mod Run

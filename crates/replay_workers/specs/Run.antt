@@ -18,6 +18,7 @@ use Rattle.resolver.specs.declared.turn.Account.{Account}
 use Rattle.resolver.specs.Core.{IsBeginning}
 use Rattle.resolver.specs.Observed.{HasSeen}
 use Rattle.resolver.specs.Resolver.{TakesOnlyFrom, FinishesLast}
+use Rattle.replay_summary.specs.declared.occupancy.Occupancy.{Occupancy}
 use Rattle.replay_output.specs.declared.failures.ProxyFailure.{ProxyFailure}
 use Rattle.replay_output.specs.declared.options.style.Style.{Style}
 use Rattle.replay_output.specs.declared.line.Line.{Line}
@@ -25,6 +26,7 @@ use Rattle.replay_output.specs.declared.options.Options.{Options}
 use Rattle.replay_output.specs.declared.options.reports.Reports.{Reports}
 use Rattle.replay_workers.specs.declared.outcome.Outcome.{Outcome}
 use Rattle.replay_output.specs.Line.{answers_of, IsLineOf}
+use Rattle.replay_workers.specs.Occupied.{IsOccupancyOf}
 use Rattle.replay_workers.specs.Stops.{IsStopOf}
 use Rattle.replay_workers.specs.Batches.{GivesEach, EndsWith}
 use Rattle.replay_workers.specs.Reporting.{TakesResolved}
@@ -118,6 +120,12 @@ module _ {X : Type 0} (Gives : X → X → Batch → Type 0) (IsEnd : X → Type
     pub run : IsRunOver Kept options streams received failures complete stop
     pub seen : HasSeen Seen stop options.window run.log
 
+  -- The same, and this is how full the resolver was over that log.
+  pub record IsMeasuredRunOver (Kept : ℕ → X → Type 0) (Seen : List Processed → Type 0) (occupancy : Occupancy) (options : Options)
+      (streams : List X) (received : List (List Line)) (failures : List ProxyFailure) (complete : Bool) (stop : Option Stop) : Type 0 where
+    pub observed : IsObservedRunOver Kept Seen options streams received failures complete stop
+    pub occupied : IsOccupancyOf stop options.limit options.window observed.run.log occupancy
+
 -- The same of files, whose readers told these bytes, and of the batches that are resolved for those of their frames.
 
 abbrev pub IsServed : Reports → ℤ → Style → List Step → Bool → Option Stop → Option (List ℕ) → ℕ → List Line → ProxyFailure → Type 0
@@ -133,3 +141,8 @@ abbrev pub IsObservedRun : (List Processed → Type 0) → Options → List (Opt
     → Option Stop → Type 0
 IsObservedRun Seen options =
     IsObservedRunOver (TakesResolved options.reports) IsAtEnd IsFaultAt (λ _ _. Unit {0}) Seen options
+
+abbrev pub IsMeasuredRun : (List Processed → Type 0) → Occupancy → Options → List (Option (List ℕ)) → List (List Line) → List ProxyFailure
+    → Bool → Option Stop → Type 0
+IsMeasuredRun Seen occupancy options =
+    IsMeasuredRunOver (TakesResolved options.reports) IsAtEnd IsFaultAt (λ _ _. Unit {0}) Seen occupancy options

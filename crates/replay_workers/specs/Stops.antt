@@ -3,14 +3,13 @@ use Rattle.std.specs.Prelude.{◌≡◌, ℕ, ℤ, ◌<ℤ◌, ◌⊎◌, List, 
 use Rattle.keyspace.specs.declared.batch.Batch.{Batch}
 use Rattle.keyspace.specs.Judged.{edge}
 use Rattle.keyspace.specs.Leaving.{Held, next_due}
-use Rattle.keyspace.specs.Processed.{Processed, version_of}
+use Rattle.keyspace.specs.Processed.{version_of}
 use Rattle.keyspace.specs.Run.{Step, Take, State, run, process, admit, leave}
 use Rattle.keyspace.specs.Writes.{writes}
 use Rattle.chain.specs.declared.gate.TheConstants.{MAX_HELD}
 use Rattle.conflict.specs.ConflictSet.{IsOverLimit}
 use Rattle.resolver.specs.declared.stop.Stop.{Stop}
 use Rattle.resolver.specs.declared.stop.Stop.TheVariants as resolver
-use Rattle.resolver.specs.Observed.{HasSeen}
 use Rattle.resolver.specs.Resolver.{ResolverState, StandsOver}
 
 -- the last step of the log takes a batch
@@ -61,10 +60,3 @@ pub record IsAccountedFor (r : ResolverState) : Type 0 where
   pub log : List Step
   pub stands : StandsOver r log
   pub met : IfSome r.core.stop (IsStopOf r.core.set.map.limit r.core.set.window log)
-
--- The same, and an observer of which this is true has seen what is processed over that log.
-pub record IsObserved (Seen : List Processed → Type 0) (r : ResolverState) : Type 0 where
-  pub log : List Step
-  pub stands : StandsOver r log
-  pub met : IfSome r.core.stop (IsStopOf r.core.set.map.limit r.core.set.window log)
-  pub seen : HasSeen Seen r.core.stop r.core.set.window log

@@ -1,6 +1,7 @@
 //! Runs one worker per file, each in its own thread, and turns the resolver between them.
 //!
-//! [`run`] does so over any readers, and returns an [`Outcome`]: what the workers returned.
+//! [`run`] does so over any readers, and returns an [`Outcome`]: what the workers returned, and how
+//! full the resolver was.
 //! [`run_observed`] also shows each batch that is processed to an observer, and [`run_over`] takes
 //! any streams of [`Batches`]. [`AskingFrames`] are the batches of a file, whose transactions all
 //! ask for their reports. [`work`] is what one worker does: it reads the batches of its file,
@@ -10,7 +11,8 @@
 //!
 //! In reading order: `running`, `threads`, `worker`, `batches`, `asking`, `inbox`, `ends`,
 //! `gatekeeper`, `watch`, `outcome`, `rest`. What became of the files is `IsRun`, in
-//! `specs/Run.antt`, and of streams `IsRunOver`. What one worker has done is `HasWorked`, in
+//! `specs/Run.antt`, and of streams `IsRunOver`. How full the resolver was is `IsOccupancyOf`, in
+//! `specs/Occupied.antt`. What one worker has done is `HasWorked`, in
 //! `specs/Worker.antt`. Which batches are resolved for those of a file is `resolved_for`, in
 //! `specs/Reporting.antt`.
 #![tactic(auto)]

@@ -1,14 +1,15 @@
-//! What the workers return.
+//! What a run hands back.
 
 ghost use Rattle.std.specs.Prelude.{◌≡◌, ◌≤◌, ◌<◌, [], ◌∷◌, ◌++◌, true, vec_len, vec_capacity};
 ghost use Rattle.std.specs.Prelude.{IfOk};
 
 use crate::worker::Finished;
 use replay_output::{Line, ProxyFailure};
+use replay_summary::Occupancy;
 use resolver::Client;
 use std::alloc::{AllocError, Global};
 
-/// What the workers have handed back, each at its proxy's number.
+/// What the workers have handed back, each at its proxy's number, and how full the resolver was.
 #[derive(Drop)]
 pub struct Outcome {
     pub clients: Vec<Client>,
@@ -17,6 +18,8 @@ pub struct Outcome {
     pub failures: Vec<ProxyFailure>,
     /// Each worker has sent every batch that it read.
     pub all_sent: bool,
+    /// How full the resolver was. After a stop, before the step that met it.
+    pub occupancy: Occupancy,
     ghost lines_each: { vec_len lines ≡ vec_len clients },
     ghost failures_each: { vec_len failures ≡ vec_len clients },
     ghost lines_room: { vec_capacity clients ≤ vec_capacity lines },
@@ -37,6 +40,7 @@ impl Outcome {
             lines: Vec::with_capacity(alloc, workers)?,
             failures: Vec::with_capacity(alloc, workers)?,
             all_sent: true,
+            occupancy: Occupancy::new(1),
         })
     }
 

@@ -7,10 +7,13 @@ ghost use Rattle.flow.specs.Next.{AllWait, IsNext};
 ghost use Rattle.resolver.specs.declared.resolver_core.TheConstants.{MAX_PROXIES};
 ghost use Rattle.resolver.specs.Core.{GoesOn};
 ghost use Rattle.resolver.specs.Lanes.{Lanes, Each, LanesGoOn};
-ghost use Rattle.resolver.specs.Resolver.{IsResolving, IsThrough};
+ghost use Rattle.resolver.specs.Resolver.{IsResolving, IsThrough, StandsOver};
+ghost use Rattle.resolver.specs.Turns.{Turns};
+ghost use Rattle.replay_workers.specs.Occupied.{IsMeasured};
 ghost use Rattle.replay_workers.specs.Run.{EndsAt, HasCapacity, is_complete};
-ghost use Rattle.replay_workers.specs.Run.{IsObservedRun, IsObservedRunOver, IsRun, IsRunOver};
-ghost use Rattle.replay_workers.specs.Stops.{IsAccountedFor, IsObserved};
+ghost use Rattle.replay_workers.specs.Run.{IsMeasuredRun, IsMeasuredRunOver, IsObservedRun};
+ghost use Rattle.replay_workers.specs.Run.{IsObservedRunOver, IsRun, IsRunOver};
+ghost use Rattle.replay_workers.specs.Stops.{IsAccountedFor};
 
 use crate::asking::asking_each;
 use crate::batches::{Batches, frames_each};
@@ -20,7 +23,8 @@ use crate::threads::{join_all, start_workers};
 use crate::watch::Watch;
 use observer::{Observer, Unobserved};
 use replay_output::{Options, Reports, StartError};
-use resolver::{Account, Resolver, Turn, open};
+use replay_summary::Occupancy;
+use resolver::{Account, Resolver, Stop, Turn, open};
 use std::alloc::Global;
 use std::sync::{Arc, Wait};
 use std::thread;
@@ -54,9 +58,9 @@ pub fn run<
 }
 
 /// Runs a worker for each reader, each in its own thread, and turns the resolver until it is done
-/// or has stopped. Returns what the workers return, and the account of the resolver. The observer
-/// sees the batches that are processed, in this thread. The options say which transactions ask for
-/// their reports: those that do so in the files, or all.
+/// or has stopped. Returns what the workers return with how full the resolver was, and the account
+/// of the resolver. The observer sees the batches that are processed, in this thread. The options
+/// say which transactions ask for their reports: those that do so in the files, or all.
 ///
 /// Once a thread was started, this one takes no memory but in turns, in starting threads and in the
 /// observer. After an error no thread is joined.
@@ -81,6 +85,10 @@ pub fn run_observed<
     ensures observed { IfOk result (λ ended. O.has_seen observer.old []
         → IsObservedRun (O.has_seen observer.new) options (map S.remaining readers.items)
         (map vec_items ended.0.lines.items)
+        ended.0.failures.items (is_complete ended.0 ended.1) ended.1.stop) }
+    ensures measured { IfOk result (λ ended. O.has_seen observer.old []
+        → IsMeasuredRun (O.has_seen observer.new) ended.0.occupancy options
+        (map S.remaining readers.items) (map vec_items ended.0.lines.items)
         ended.0.failures.items (is_complete ended.0 ended.1) ended.1.stop) }
     ensures capacity { IfOk result
         (λ ended. All (HasCapacity options.capacity) ended.0.clients.items) }
@@ -131,6 +139,11 @@ pub fn run_over<
         (EndsAt B.stays ended.1.items) (O.has_seen observer.new) options streams.items
         (map vec_items ended.0.lines.items)
         ended.0.failures.items (is_complete ended.0 ended.2) ended.2.stop) }
+    ensures measured { IfOk result (λ ended. O.has_seen observer.old []
+        → IsMeasuredRunOver B.gives B.is_at_end B.is_at_fault
+        (EndsAt B.stays ended.1.items) (O.has_seen observer.new) ended.0.occupancy options
+        streams.items (map vec_items ended.0.lines.items)
+        ended.0.failures.items (is_complete ended.0 ended.2) ended.2.stop) }
     ensures streams { IfOk result (λ ended. vec_len ended.1 ≡ vec_len streams) }
     ensures capacity { IfOk result
         (λ ended. All (HasCapacity options.capacity) ended.0.clients.items) }
@@ -149,45 +162,70 @@ pub fn run_over<
     let mut watch = Watch::new(alloc, proxies)?;
     let (mut resolver, clients) = open(alloc, proxies, capacity, window, limit)?;
     let workers = start_workers(rt, alloc, style, streams, clients, gatekeeper)?;
-    turn_to_end(rt, &mut resolver, &**gatekeeper, &mut watch, observer);
+    let occupancy = turn_to_end(rt, &mut resolver, &**gatekeeper, &mut watch, observer);
     let (mut outcome, ended) = join_all(rt, workers, outcome, ended);
+    outcome.occupancy = occupancy;
     let account = resolver.settle(outcome.clients.as_mut_slice());
     Ok((outcome, ended, account))
 }
 
 // Turns the resolver until it is done; after a stop, until a turn leaves nothing owed. If all
-// proxies wait for each other, a batch is admitted.
+// proxies wait for each other, a batch is admitted. Returns how full the resolver was.
 fn turn_to_end<G: ShareKeeper, R: Wait, O: Observer>(
     rt: &R,
     resolver: &mut Resolver,
     gatekeeper: &G,
     watch: &mut Watch,
     observer: &mut O,
-)
+) -> Occupancy
     ensures through { IsThrough resolver.new }
     ensures closed { (proxy : ℕ) (l : Lanes) → slice_get resolver.new.lanes proxy ≡ Some l
         → l.replies.closed ≡ true }
     ensures accounted { IsAccountedFor resolver.old → IsAccountedFor resolver.new }
-    ensures observed { IsObserved (O.has_seen observer.old) resolver.old
-        → IsObserved (O.has_seen observer.new) resolver.new }
+    ensures measured { StandsOver resolver.old [] → resolver.old.core.stop ≡ None
+        → O.has_seen observer.old [] → IsMeasured (O.has_seen observer.new) result resolver.new }
+    ensures boundaries { resolver.new.core.stop ≡ None
+        → result.boundaries ≡ length resolver.new.core.set.map.boundaries }
     ensures setting { O.setting observer.new ≡ O.setting observer.old }
     ensures resolving { IsResolving resolver.old → IsResolving resolver.new }
     ensures goes_on { GoesOn resolver.old.core resolver.new.core }
     ensures lanes { Each (λ _ l m. LanesGoOn l m) resolver.old.lanes resolver.new.lanes }
 {
+    let mut occupancy = Occupancy::new(resolver.boundaries());
     for _ in rt.forever() {
-        match resolver.turn_observed(observer) {
+        match turn_and_note(resolver, observer, &mut occupancy) {
             Ok(Turn::Took(_)) => watch.forget(),
             Ok(Turn::Idle) => {
                 let_through(resolver, gatekeeper, watch);
                 thread::yield_now();
             }
-            Ok(Turn::Done) => return,
-            Err(_) if resolver.owed() == 0 => return,
+            Ok(Turn::Done) => return occupancy,
+            Err(_) if resolver.owed() == 0 => return occupancy,
             Err(_) => thread::yield_now(),
         }
     }
     unreachable!()
+}
+
+// Takes a turn, and notes how full the resolver is after it, unless a stop was met.
+fn turn_and_note<O: Observer>(
+    resolver: &mut Resolver,
+    observer: &mut O,
+    occupancy: &mut Occupancy,
+) -> Result<Turn, Stop>
+    ensures turns { Turns result resolver.old resolver.new }
+    ensures measured { IsMeasured (O.has_seen observer.old) occupancy.old resolver.old
+        → IsMeasured (O.has_seen observer.new) occupancy.new resolver.new }
+    ensures boundaries { resolver.new.core.stop ≡ None
+        → occupancy.new.boundaries ≡ length resolver.new.core.set.map.boundaries }
+    ensures setting { O.setting observer.new ≡ O.setting observer.old }
+{
+    let turn = resolver.turn_observed(observer);
+    if turn.is_err() {
+        return turn;
+    }
+    occupancy.note(resolver.held(), resolver.boundaries());
+    turn
 }
 
 /// Lets the batch of the proxy through that is next, after a turn that took nothing. What all

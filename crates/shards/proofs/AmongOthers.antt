@@ -1,7 +1,7 @@
 -- Of the batches that all shards have processed, the reads of what all commit are current, and versions rise: also if each shard has
 -- processed others between them.
-use Rattle.std.proofs.Common.{◌≡◌, ℕ, ◌<◌, ◌≤◌, Bool, true, false, List, [], length, take, get_or, ℤ, refl, sym, ◌∙◌, subst}
-use Rattle.std.specs.Prelude.{◌≤ℤ◌, Option, Some, slice_get, IsSomeAnd, Contains}
+use Rattle.std.proofs.Common.{◌≡◌, ℕ, ◌<◌, Bool, true, false, List, [], length, take, get_or, ℤ, refl, sym, ◌∙◌, subst}
+use Rattle.std.specs.Prelude.{◌≤ℤ◌, Option, slice_get, IsSomeAnd, Contains}
 use Rattle.std.specs.List.{AllZip}
 use Rattle.std.proofs.lemmas.List.Elements.{All-get_or}
 use Rattle.std.proofs.lemmas.List.Folds.{Any-from_list_any, list_any-from_Any}
@@ -12,7 +12,6 @@ use Rattle.keys.proofs.callers.Booleans.{false_unless, not_both_ways}
 use Rattle.keyspace.specs.declared.txn.Txn.{Txn}
 use Rattle.keyspace.specs.Processed.{Processed}
 use Rattle.keyspace.specs.Writes.{writes, earlier}
-use Rattle.keyspace.specs.Chain.{IsChain}
 use Rattle.serial.specs.Commits.{IsCommitted, before, holds, holding, up_to, Current}
 use Rattle.serial.specs.Serial.{IsSerializable}
 use Rattle.serial.specs.Stores.{in_ranges}

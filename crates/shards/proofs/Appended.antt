@@ -1,14 +1,16 @@
 -- What lies in a buffer stays there when more is appended, and clips of one range more are appended.
 use Rattle.std.proofs.Common.{◌≡◌, ℕ, zero, suc, ◌+◌, ◌<◌, Bool, true, false, cond, List, [], ◌∷◌, ◌++◌, length, map, take, get_or, refl, sym, ap, ◌∙◌, subst, subst₂, arith, length-append, append-nil}
-use Rattle.std.specs.Prelude.{Option, Some, None, IfSome, is_some, nat_lt, filter, slice_get, unwrap_or}
-use Rattle.std.proofs.lemmas.List.{map-append}
+use Rattle.std.specs.Prelude.{Option, Some, None, IfSome, is_some, nat_lt, filter, slice_get}
+use Rattle.std.proofs.lemmas.List.{length-map, map-append}
 use Rattle.std.proofs.lemmas.List.Elements.{All-nil, All-cons, filter_more}
+use Rattle.std.proofs.lemmas.Option.{get_or_from_slice_get, slice_get-get_or, slice_get_within}
 use Rattle.keys.specs.declared.range.Range.{Range}
+use Rattle.keys.proofs.callers.Lists.{some_at}
 use Rattle.keyspace.specs.declared.span.Span.{Span}
 use Rattle.keyspace.specs.Fields.{RangeFields, range_fields}
 use Rattle.keyspace.specs.Tables.{bytes_at, range_told, LiesWithin}
 use Rattle.keyspace.specs.Putting.{ArePut}
-use Rattle.keyspace.proofs.callers.Putting.{slice_range-append}
+use Rattle.keyspace.proofs.callers.Putting.{slice_range-append, put_then}
 use Rattle.serial.specs.Shards.{Shard}
 use Rattle.shards.specs.Clips.{goes_to}
 use Rattle.keys.specs.Key.{is_before}
@@ -74,38 +76,6 @@ clip_put shard m range reach bounds begin end buffer new_buffer spans new_spans 
       end = cond e (end_or_empty shard.to) range.end;
     } ∷ []) new_buffer new_spans) begins ends made
 
--- a key of the buffer, or the end of the shard instead
-lies_or : (b : Bool) (buffer : List ℕ) (bound own : KeyAt) (key other : List ℕ) → LiesAt buffer bound key → LiesAt buffer own other
-    → LiesAt buffer (unwrap_or (cond b (Some bound) None) own) (cond b key other)
-lies_or true buffer bound own key other first second = first
-lies_or false buffer bound own key other first second = second
-
--- The keys of the clip of a range whose own keys lie in the buffer.
-pub cut_lies : (shard : Shard) (m : ℕ) (range : Range) (reach : Reach) (bounds : Bounds) (span : Span) (buffer : List ℕ)
-    (begin end : KeyAt) → HasBounds shard m buffer bounds → LiesWithin (length buffer) span
-    → range_told buffer span ≡ range_fields range → IsTold shard m range reach → is_reached reach m ≡ true
-    → begin ≡ unwrap_or (cond (nat_lt reach.first bounds.shard) (Some bounds.from) None)
-    (record { begin = span.begin; length = span.begin_length })
-    → end ≡ unwrap_or (cond (nat_lt bounds.shard reach.last) (Some bounds.to) None)
-    (record { begin = span.end; length = span.end_length })
-    → LiesAt buffer begin (clip_fields shard range).begin × LiesAt buffer end (clip_fields shard range).end
-cut_lies shard m range reach bounds span buffer begin end has within spanned told reached is_begin is_end =
-    let first : nat_lt reach.first bounds.shard ≡ is_before range.begin shard.from =
-    ap (nat_lt reach.first) has.number ∙ sym told.begins in
-    let last : nat_lt bounds.shard reach.last ≡ ends_below shard.to range.end =
-    ap (λ (n : ℕ). nat_lt n reach.last) has.number ∙ sym (told.ends reached) in
-    let own_begin : KeyAt = record { begin = span.begin; length = span.begin_length } in
-    let own_end : KeyAt = record { begin = span.end; length = span.end_length } in
-    let begins : LiesAt buffer own_begin range.begin =
-    record { within = within.begin; bytes = ap (λ (r : RangeFields). r.begin) spanned } in
-    let ends : LiesAt buffer own_end range.end =
-    record { within = within.end; bytes = ap (λ (r : RangeFields). r.end) spanned } in (
-      subst₂ (λ (at : KeyAt) (b : Bool). LiesAt buffer at (cond b shard.from range.begin)) (sym is_begin) first
-          (lies_or (nat_lt reach.first bounds.shard) buffer bounds.from own_begin shard.from range.begin has.from begins),
-      subst₂ (λ (at : KeyAt) (b : Bool). LiesAt buffer at (cond b (end_or_empty shard.to) range.end)) (sym is_end) last
-          (lies_or (nat_lt bounds.shard reach.last) buffer bounds.to own_end (end_or_empty shard.to) range.end has.to ends),
-    )
-
 -- the span of a range whose keys lie in the buffer is appended
 pub span_put : (buffer : List ℕ) (spans : List Span) (range : RangeFields) (span : Span) (new_spans : List Span)
     → new_spans ≡ spans ++ span ∷ [] → LiesWithin (length buffer) span → range_told buffer span ≡ range
@@ -152,3 +122,34 @@ module _ (shard : Shard) (ranges : List Range) (i : ℕ) (range : Range) (inside
   clips_without stays =
       clips_more ∙ ap (λ b. clips_of shard (take i ranges) ++ map (clip_fields shard) (cond b (range ∷ []) [])) stays
       ∙ append-nil (clips_of shard (take i ranges))
+
+  -- both by the test
+  pub clips_next : (goes : Bool) → goes ≡ goes_to shard range
+      → clips_of shard (take (i + 1) ranges) ≡ clips_of shard (take i ranges) ++ cond goes (clip_fields shard range ∷ []) []
+  clips_next true goes = clips_with (sym goes)
+  clips_next false goes = clips_without (sym goes) ∙ sym (append-nil (clips_of shard (take i ranges)))
+
+-- the range of a span, if spans tell ranges
+pub range_at : (buffer : List ℕ) (spans : List Span) (ranges : List Range) (i : ℕ) (none : Span)
+    → map (range_told buffer) spans ≡ map range_fields ranges → i < length spans
+    → (range : Range) × (slice_get ranges i ≡ Some range) × (range_told buffer (get_or spans i none) ≡ range_fields range)
+range_at buffer spans ranges i none told inside =
+    let within : i < length ranges =
+    omega (arith, inside, ap length told, length-map spans (range_told buffer), length-map ranges range_fields) in
+    let range = some_at ranges i within in (
+      range.0,
+      range.1,
+      told_each buffer spans ranges i (get_or spans i none) range.0 told (slice_get-get_or spans i none inside) range.1,
+    )
+
+-- The clip of one range more is appended, if the range goes to the shard.
+pub put_next : (shard : Shard) (ranges : List Range) (i : ℕ) (range : Range) → slice_get ranges i ≡ Some range
+    → (buffer : List ℕ) (old kept new : List Span) (goes : Bool) → goes ≡ goes_to shard range
+    → ArePut buffer old (clips_of shard (take i ranges)) buffer kept
+    → ArePut buffer kept (cond goes (clip_fields shard range ∷ []) []) buffer new
+    → ArePut buffer old (clips_of shard (take (i + 1) ranges)) buffer new
+put_next shard ranges i range at buffer old kept new goes is before one =
+    let there : range ≡ get_or ranges i range = sym (get_or_from_slice_get ranges i range range at) in
+    subst (λ (all : List RangeFields). ArePut buffer old all buffer new)
+    (sym (clips_next shard ranges i range (slice_get_within ranges i range at) there goes is))
+    (put_then buffer old (clips_of shard (take i ranges)) buffer kept (cond goes (clip_fields shard range ∷ []) []) buffer new before one)

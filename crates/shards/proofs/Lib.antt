@@ -2,6 +2,8 @@ pub mod callers
 mod ShardList
 mod Counts
 mod Reached
+mod HeadOrder
+mod Cutting
 mod ClipKeys
 mod ClipLists
 mod Appended

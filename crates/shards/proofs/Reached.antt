@@ -22,7 +22,7 @@ empty_before : (a b : List ℕ) → is_before a b ≡ true → is_before [] b �
 empty_before a [] h = let no = sym (none_before_empty a) ∙ h in cc
 empty_before a (byte ∷ b) h = refl
 
-and_comm : (a b : Bool) → (a && b) ≡ (b && a)
+pub and_comm : (a b : Bool) → (a && b) ≡ (b && a)
 and_comm true true = refl
 and_comm true false = refl
 and_comm false true = refl

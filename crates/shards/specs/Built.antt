@@ -3,7 +3,6 @@ use Rattle.std.specs.Prelude.{
   ◌≡◌,
   ℕ,
   ◌+◌,
-  ◌-◌,
   ◌≤◌,
   true,
   if◌then◌else◌,
@@ -12,27 +11,21 @@ use Rattle.std.specs.Prelude.{
   length,
   map,
   filter,
-  drop,
-  slice_range,
-  All,
   Option,
   Some,
   None,
 }
-use Rattle.std.specs.List.{AllZip}
 use Rattle.keys.specs.declared.range.Range.{Range}
 use Rattle.keys.specs.Key.{IsKey, is_before}
 use Rattle.keyspace.specs.declared.txn.Txn.{Txn}
 use Rattle.keyspace.specs.declared.span.Span.{Span}
 use Rattle.keyspace.specs.declared.row.Row.{Row}
-use Rattle.keyspace.specs.BatchRanges.{ranges_in}
 use Rattle.keyspace.specs.Fields.{RangeFields, TxnFields, txn_fields}
-use Rattle.keyspace.specs.Tables.{bytes_at, txn_told, txns_from, txns_told, LiesWithin, AreRows, AreTables}
+use Rattle.keyspace.specs.Tables.{bytes_at, txns_from, txns_told, AreRows, AreTables}
 use Rattle.serial.specs.Shards.{Shard, ends_above}
 use Rattle.shards.specs.Clips.{goes_to, read_indices}
-use Rattle.shards.specs.Reach.{ends_below, IsTold}
+use Rattle.shards.specs.Reach.{ends_below}
 use Rattle.shards.specs.ReadIndices.{parts_from, AreIndices}
-use Rattle.shards.specs.declared.reach.Reach.{Reach}
 use Rattle.shards.specs.declared.shard_tables.KeyAt.{KeyAt}
 use Rattle.shards.specs.declared.shard_tables.Bounds.{Bounds}
 use Rattle.shards.specs.declared.shard_tables.ShardTables.{ShardTables}
@@ -87,18 +80,7 @@ pub record IsBuilt (shard : Shard) (m : ℕ) (txns : List Txn) (tables : ShardTa
   pub indices : AreIndices tables.indices.items tables.ends.items
   pub reads : parts_from 0 tables.indices.items tables.ends.items ≡ map (read_indices shard) txns
 
--- The transaction of a row, whose spans begin at an index, and whose keys lie in the buffer. The reaches are those of the ranges of all
--- spans.
-pub record IsKept (shard : Shard) (m : ℕ) (buffer : List ℕ) (spans : List Span) (reaches : List Reach) (from : ℕ) (row : Row) (t : Txn)
-    : Type 0 where
-  pub told : txn_told buffer spans from row ≡ txn_fields t
-  pub within : All (LiesWithin (length buffer)) spans
-  pub reads : AllZip (IsTold shard m) t.reads (slice_range reaches from (row.end - row.writes))
-  pub writes : AllZip (IsTold shard m) t.writes (slice_range reaches (row.end - row.writes) row.end)
-
--- From an index of the spans on, the rows tell these transactions, and the reaches are those of their ranges.
-pub record AreLeft (shard : Shard) (m : ℕ) (buffer : List ℕ) (spans : List Span) (reaches : List Reach) (from : ℕ) (rows : List Row)
-    (txns : List Txn) : Type 0 where
+-- From an index of the spans on, the rows tell these transactions.
+pub record AreLeft (buffer : List ℕ) (spans : List Span) (from : ℕ) (rows : List Row) (txns : List Txn) : Type 0 where
   pub told : txns_from buffer spans from rows ≡ map txn_fields txns
   pub fit : AreRows from rows (length spans)
-  pub zipped : AllZip (IsTold shard m) (ranges_in txns) (drop from reaches)

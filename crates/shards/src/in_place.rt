@@ -2,8 +2,6 @@
 
 ghost use Rattle.std.specs.Prelude.{◌≡◌, ◌<◌, ◌≤◌, List, length, map, slice_get};
 ghost use Rattle.std.specs.Prelude.{IfOk, IsSomeAnd};
-ghost use Rattle.std.specs.List.{AllZip};
-ghost use Rattle.keyspace.specs.BatchRanges.{ranges_in};
 ghost use Rattle.keyspace.specs.Fields.{txn_fields};
 ghost use Rattle.keyspace.specs.Tables.{txns_told, AreTables};
 ghost use Rattle.keyspace.specs.declared.batch.TheConstants.{MAX_TXNS};
@@ -11,10 +9,10 @@ ghost use Rattle.keyspace.specs.declared.txn.Txn.{Txn};
 ghost use Rattle.serial.specs.Shards.{shards};
 ghost use Rattle.shards.specs.Built.{IsBuilt};
 ghost use Rattle.shards.specs.Clips.{IsClipped};
-ghost use Rattle.shards.specs.Reach.{shard_at, IsReach};
+ghost use Rattle.shards.specs.Reach.{shard_at};
 
 use crate::clipped::Clipped;
-use crate::reach::{Reach, reaches_in};
+use crate::shard_ends::ShardEnds;
 use crate::shard_tables::ShardTables;
 use crate::split_points::SplitPoints;
 use keyspace::{Batch, Tables, UnorderedBatch};
@@ -36,8 +34,7 @@ pub fn clip_in_place(
     let previous = batch.previous;
     let version = batch.version;
     let received = batch.received;
-    let reaches = reaches_in(alloc, &batch.ranges(), points)?;
-    let tables = clip_tables(alloc, batch.into_tables(), points, shard, &reaches)?;
+    let tables = clip_tables(alloc, batch.into_tables(), points, shard)?;
     let (txns, reads) = tables.into_txns(alloc)?;
     Ok(Clipped {
         batch: Batch::new(previous, version, received, txns),
@@ -45,25 +42,21 @@ pub fn clip_in_place(
     })
 }
 
-// Clips the transactions of the tables to the shard, given the shards to which each of their ranges
-// goes.
+// Clips the transactions of the tables to the shard.
 fn clip_tables(
     alloc: Global,
     own: Tables,
     points: &SplitPoints,
     shard: usize,
-    reaches: &[Reach],
 ) -> Result<ShardTables, AllocError>
     requires within { shard < length (shards points.now) }
     requires tables { AreTables own.buffer.items own.spans.items own.rows.items }
     requires txns { (txns : List Txn)
         × (txns_told own.buffer.items own.spans.items own.rows.items ≡ map txn_fields txns)
-        × (length txns ≤ MAX_TXNS)
-        × AllZip (IsReach points.now) (ranges_in txns) reaches.now }
+        × (length txns ≤ MAX_TXNS) }
     ensures built { IfOk result (λ tables. (txns : List Txn)
         → txns_told own.buffer.items own.spans.items own.rows.items ≡ map txn_fields txns
         → length txns ≤ MAX_TXNS
-        → AllZip (IsReach points.now) (ranges_in txns) reaches.now
         → IsBuilt (shard_at points.now shard) shard txns tables) }
 {
     let Tables {
@@ -71,7 +64,8 @@ fn clip_tables(
         spans,
         rows,
     } = own;
+    let ends = ShardEnds::of(points, shard);
     let mut tables = ShardTables::new(alloc, buffer, points, shard)?;
-    tables.keep_all(&rows, &spans, reaches)?;
+    tables.keep_all(&ends, &rows, &spans)?;
     Ok(tables)
 }

@@ -24,11 +24,7 @@ impl Reach {
         ensures reach { IsReach points.now range.now result }
     {
         let first = points.shard_of(range.begin());
-        let last = if range.is_empty() {
-            first
-        } else {
-            points.count_before(range.end())
-        };
+        let last = points.last_before(first, range.end());
         Reach {
             first: first as u8,
             last: last as u8,
@@ -43,8 +39,8 @@ impl Reach {
     }
 }
 
-/// Finds for each range of the batch the shards to which it goes, as [`reaches_in`] does. The index
-/// of a range is that in `ranges` of its transactions.
+/// Finds for each range of the batch the shards to which it goes. The index of a range is that in
+/// `ranges` of its transactions.
 pub(crate) fn reaches_of(
     alloc: Global,
     batch: &Batch,
@@ -56,8 +52,8 @@ pub(crate) fn reaches_of(
     reaches_in(alloc, &batch.txns.ranges(), points)
 }
 
-/// Finds for each of the ranges the shards to which it goes, in one pass over their keys.
-pub(crate) fn reaches_in(
+// Finds for each of the ranges the shards to which it goes, in one pass over their keys.
+fn reaches_in(
     alloc: Global,
     ranges: &RangesRef<'_>,
     points: &SplitPoints,

@@ -1,7 +1,7 @@
 //! The tables of a shard while a batch is clipped to it.
 
 ghost use Rattle.std.specs.Prelude.{◌≡◌, ◌<◌, ◌≤◌, ◌∷◌, ◌++◌, [], ℕ, List, length, is_some, nat_lt};
-ghost use Rattle.std.specs.Prelude.{◌+◌, if◌then◌else◌, map, true};
+ghost use Rattle.std.specs.Prelude.{◌+◌, if◌then◌else◌, map};
 ghost use Rattle.std.specs.Prelude.{All, IfOk, IfSome, OnOk};
 ghost use Rattle.std.specs.List.{AllZip};
 ghost use Rattle.keys.specs.declared.key.TheConstants.{MAX_KEY_LENGTH};
@@ -9,19 +9,20 @@ ghost use Rattle.keys.specs.declared.range.Range.{Range};
 ghost use Rattle.keyspace.specs.declared.batch.TheConstants.{MAX_TXNS};
 ghost use Rattle.keyspace.specs.declared.txn.TheConstants.{MAX_RANGES};
 ghost use Rattle.keyspace.specs.declared.txn.Txn.{Txn};
-ghost use Rattle.keyspace.specs.Fields.{range_fields};
+ghost use Rattle.keyspace.specs.Fields.{range_fields, txn_fields};
 ghost use Rattle.keyspace.specs.Judge.{places_from};
 ghost use Rattle.keyspace.specs.Putting.{ArePut};
-ghost use Rattle.keyspace.specs.Tables.{range_told, LiesWithin};
+ghost use Rattle.keyspace.specs.Tables.{bytes_at, range_told, txn_told, LiesWithin};
 ghost use Rattle.serial.specs.Shards.{Shard, shards};
-ghost use Rattle.shards.specs.Built.{AreLeft, LiesAt, HasBounds, IsBuilt, IsKept, clip_fields};
-ghost use Rattle.shards.specs.Built.{clips_of};
+ghost use Rattle.shards.specs.Built.{AreLeft, LiesAt, HasBounds, IsBuilt, clip_fields, clips_of};
 ghost use Rattle.shards.specs.Clips.{goes_to, read_indices, IsClipped, IsTxnClip};
-ghost use Rattle.shards.specs.Reach.{is_reached, shard_at, IsTold};
+ghost use Rattle.shards.specs.Cut.{shard_of_ends, IsCut};
+ghost use Rattle.shards.specs.Reach.{shard_at, IsTold};
 
 use crate::clipped::Clipped;
 use crate::reach::Reach;
 use crate::read_indices::ReadIndices;
+use crate::shard_ends::{Cut, ShardEnds};
 use crate::split_points::SplitPoints;
 use keys::RangeRef;
 use keyspace::{Batch, RangesRef, Row, Span, TxnRef, Txns};
@@ -127,41 +128,47 @@ impl ShardTables {
     }
 
     /// Appends the clip of the transaction of a row, whose spans begin at an index, and whose keys
-    /// lie in the buffer. The reaches are those of the ranges of the spans. After an error, which
-    /// says that memory was refused, the tables are unspecified, but for their buffer.
+    /// lie in the buffer. After an error, which says that memory was refused, the tables are
+    /// unspecified, but for their buffer.
     pub fn keep(
         &mut self,
+        shard: &ShardEnds<'_>,
         row: &Row,
         from: usize,
         spans: &[Span],
-        reaches: &[Reach],
     ) -> Result<(), AllocError>
         requires rows { from + row.now.writes ≤ row.now.end }
         requires within { row.now.end ≤ length spans.now }
-        requires each { length reaches.now ≡ length spans.now }
-        requires built { (shard : Shard) × (m : ℕ) × (txns : List Txn) × (t : Txn)
-            × IsBuilt shard m txns self.old
+        requires lie { All (LiesWithin (length self.old.buffer.items)) spans.now }
+        requires built { (m : ℕ) × (txns : List Txn) × (t : Txn)
+            × IsBuilt (shard_of_ends shard.now) m txns self.old
             × (length txns < MAX_TXNS)
-            × IsKept shard m self.old.buffer.items spans.now reaches.now from row.now t }
-        ensures built { OnOk result ((shard : Shard) (m : ℕ) (txns : List Txn) (t : Txn)
-            → IsBuilt shard m txns self.old
+            × (txn_told self.old.buffer.items spans.now from row.now ≡ txn_fields t) }
+        ensures built { OnOk result ((m : ℕ) (txns : List Txn) (t : Txn)
+            → IsBuilt (shard_of_ends shard.now) m txns self.old
             → length txns < MAX_TXNS
-            → IsKept shard m self.old.buffer.items spans.now reaches.now from row.now t
-            → IsBuilt shard m (txns ++ t ∷ []) self.new) }
+            → txn_told self.old.buffer.items spans.now from row.now ≡ txn_fields t
+            → IsBuilt (shard_of_ends shard.now) m (txns ++ t ∷ []) self.new) }
         ensures buffer { self.new.buffer ≡ self.old.buffer }
     {
         let end = row.end as usize;
         let middle = end - row.writes as usize;
-        let reads = &reaches[from..middle];
-        keep_clips(&mut self.spans, &self.bounds, &spans[from..middle], reads)?;
+        keep_reads(
+            &mut self.spans,
+            &mut self.indices,
+            &self.bounds,
+            shard,
+            &self.buffer,
+            &spans[from..middle],
+        )?;
         let count = self.spans.len();
-        keep_clips(
+        keep_writes(
             &mut self.spans,
             &self.bounds,
+            shard,
+            &self.buffer,
             &spans[middle..end],
-            &reaches[middle..end],
         )?;
-        put_indices(&mut self.indices, self.bounds.shard, reads)?;
         self.ends.push(self.indices.len())?;
         self.rows.push(Row {
             snapshot: row.snapshot,
@@ -175,25 +182,24 @@ impl ShardTables {
     /// Appends the clips of the transactions of all rows, as [`ShardTables::keep`] does.
     pub fn keep_all(
         &mut self,
+        shard: &ShardEnds<'_>,
         rows: &[Row],
         spans: &[Span],
-        reaches: &[Reach],
     ) -> Result<(), AllocError>
-        requires each { length reaches.now ≡ length spans.now }
-        requires within { All (LiesWithin (length self.old.buffer.items)) spans.now }
-        requires built { (shard : Shard) × (m : ℕ) × (txns : List Txn)
-            × IsBuilt shard m [] self.old
+        requires lie { All (LiesWithin (length self.old.buffer.items)) spans.now }
+        requires built { (m : ℕ) × (txns : List Txn)
+            × IsBuilt (shard_of_ends shard.now) m [] self.old
             × (length txns ≤ MAX_TXNS)
-            × AreLeft shard m self.old.buffer.items spans.now reaches.now 0 rows.now txns }
-        ensures built { OnOk result ((shard : Shard) (m : ℕ) (txns : List Txn)
-            → IsBuilt shard m [] self.old
+            × AreLeft self.old.buffer.items spans.now 0 rows.now txns }
+        ensures built { OnOk result ((m : ℕ) (txns : List Txn)
+            → IsBuilt (shard_of_ends shard.now) m [] self.old
             → length txns ≤ MAX_TXNS
-            → AreLeft shard m self.old.buffer.items spans.now reaches.now 0 rows.now txns
-            → IsBuilt shard m txns self.new) }
+            → AreLeft self.old.buffer.items spans.now 0 rows.now txns
+            → IsBuilt (shard_of_ends shard.now) m txns self.new) }
     {
         let mut from = 0;
         for row in rows {
-            self.keep(row, from, spans, reaches)?;
+            self.keep(shard, row, from, spans)?;
             from = row.end as usize;
         }
         Ok(())
@@ -262,26 +268,27 @@ impl Bounds {
         }
     }
 
-    // Returns the span of the clip of a range that goes to the shard. Its keys are those of the
+    // Returns the span of the clip of a range that is cut to the shard. Its keys are those of the
     // span and the ends of the shard.
-    fn cut(&self, span: &Span, reach: &Reach) -> Span
-        ensures cut { (shard : Shard) (m : ℕ) (buffer : List ℕ) (range : Range)
+    fn clip(&self, span: &Span, cut: Cut) -> Span
+        ensures clip { (shard : Shard) (m : ℕ) (buffer : List ℕ) (range : Range)
             → HasBounds shard m buffer self.now
             → LiesWithin (length buffer) span.now
             → range_told buffer span.now ≡ range_fields range
-            → IsTold shard m range reach.now
-            → is_reached reach.now m ≡ true
+            → IsCut shard range cut
             → LiesWithin (length buffer) result
             × (range_told buffer result ≡ clip_fields shard range) }
     {
-        let begin = self.begin_of(reach).unwrap_or(KeyAt {
+        let own_begin = KeyAt {
             begin: span.begin,
             length: span.begin_length,
-        });
-        let end = self.end_of(reach).unwrap_or(KeyAt {
+        };
+        let own_end = KeyAt {
             begin: span.end,
             length: span.end_length,
-        });
+        };
+        let begin = pick(cut.begin, self.from, own_begin);
+        let end = pick(cut.end, self.to, own_end);
         Span {
             begin: begin.begin,
             begin_length: begin.length,
@@ -291,28 +298,101 @@ impl Bounds {
     }
 }
 
-// Appends the spans of the clips of those ranges that go to the shard. Their keys, and the ends of
-// the shard, lie in the buffer.
-fn keep_clips(
-    kept: &mut Vec<Span>,
-    bounds: &Bounds,
-    spans: &[Span],
-    reaches: &[Reach],
-) -> Result<(), AllocError>
-    requires count { length reaches.now ≡ length spans.now }
-    ensures kept { OnOk result ((shard : Shard) (m : ℕ) (buffer : List ℕ) (ranges : List Range)
-        → HasBounds shard m buffer bounds.now
-        → All (LiesWithin (length buffer)) spans.now
-        → map (range_told buffer) spans.now ≡ map range_fields ranges
-        → AllZip (IsTold shard m) ranges reaches.now
-        → ArePut buffer kept.old.items (clips_of shard ranges) buffer kept.new.items) }
+// Returns the first location if the test says so, and otherwise the second one.
+fn pick(test: bool, first: KeyAt, second: KeyAt) -> KeyAt
+    ensures picked { result ≡ (if test then first else second) }
 {
-    for (index, reach) in reaches.iter().enumerate() {
-        if reach.includes(bounds.shard) {
-            kept.push(bounds.cut(&spans[index], reach))?;
+    if test { first } else { second }
+}
+
+// Appends the spans of the clips of those read ranges that go to the shard, and the indices of
+// these. Their keys, and the ends of the shard, lie in the buffer.
+fn keep_reads(
+    kept: &mut Vec<Span>,
+    indices: &mut Vec<u16>,
+    bounds: &Bounds,
+    shard: &ShardEnds<'_>,
+    buffer: &[u8],
+    spans: &[Span],
+) -> Result<(), AllocError>
+    requires lie { All (LiesWithin (length buffer.now)) spans.now }
+    requires few { length spans.now ≤ MAX_RANGES }
+    ensures kept { OnOk result ((m : ℕ) (ranges : List Range)
+        → HasBounds (shard_of_ends shard.now) m buffer.now bounds.now
+        → map (range_told buffer.now) spans.now ≡ map range_fields ranges
+        → ArePut buffer.now kept.old.items (clips_of (shard_of_ends shard.now) ranges)
+        buffer.now kept.new.items) }
+    ensures indices { OnOk result ((m : ℕ) (ranges : List Range)
+        → HasBounds (shard_of_ends shard.now) m buffer.now bounds.now
+        → map (range_told buffer.now) spans.now ≡ map range_fields ranges
+        → indices.new.items ≡ indices.old.items
+        ++ places_from 0 (goes_to (shard_of_ends shard.now)) ranges) }
+{
+    for (index, span) in spans.iter().enumerate() {
+        let goes = keep_clip(kept, bounds, shard, buffer, span)?;
+        if goes {
+            indices.push(index as u16)?;
         }
     }
     Ok(())
+}
+
+// Appends the spans of the clips of those write ranges that go to the shard. Their keys, and the
+// ends of the shard, lie in the buffer.
+fn keep_writes(
+    kept: &mut Vec<Span>,
+    bounds: &Bounds,
+    shard: &ShardEnds<'_>,
+    buffer: &[u8],
+    spans: &[Span],
+) -> Result<(), AllocError>
+    requires lie { All (LiesWithin (length buffer.now)) spans.now }
+    ensures kept { OnOk result ((m : ℕ) (ranges : List Range)
+        → HasBounds (shard_of_ends shard.now) m buffer.now bounds.now
+        → map (range_told buffer.now) spans.now ≡ map range_fields ranges
+        → ArePut buffer.now kept.old.items (clips_of (shard_of_ends shard.now) ranges)
+        buffer.now kept.new.items) }
+{
+    for span in spans {
+        keep_clip(kept, bounds, shard, buffer, span)?;
+    }
+    Ok(())
+}
+
+// Appends the span of the clip of a range, if the range goes to the shard, and returns whether it
+// does. Its keys, and the ends of the shard, lie in the buffer.
+fn keep_clip(
+    kept: &mut Vec<Span>,
+    bounds: &Bounds,
+    shard: &ShardEnds<'_>,
+    buffer: &[u8],
+    span: &Span,
+) -> Result<bool, AllocError>
+    requires lies { LiesWithin (length buffer.now) span.now }
+    ensures kept { IfOk result (λ goes. (m : ℕ) (range : Range)
+        → HasBounds (shard_of_ends shard.now) m buffer.now bounds.now
+        → range_told buffer.now span.now ≡ range_fields range
+        → (goes ≡ goes_to (shard_of_ends shard.now) range)
+        × ArePut buffer.now kept.old.items
+        (if goes then clip_fields (shard_of_ends shard.now) range ∷ [] else []) buffer.now
+        kept.new.items) }
+{
+    let begin = bytes_at(buffer, span.begin, span.begin_length);
+    let end = bytes_at(buffer, span.end, span.end_length);
+    let Some(cut) = shard.cut(begin, end) else {
+        return Ok(false);
+    };
+    kept.push(bounds.clip(span, cut))?;
+    Ok(true)
+}
+
+// Returns n bytes of the buffer, from an index on.
+fn bytes_at(buffer: &[u8], from: u32, count: u16) -> &[u8]
+    requires within { from + count ≤ length buffer.now }
+    ensures bytes { result.now ≡ bytes_at buffer.now from count }
+{
+    let from = from as usize;
+    &buffer[from..from + count as usize]
 }
 
 // Appends the clips of those ranges that go to the shard: their keys to the buffer, and their spans

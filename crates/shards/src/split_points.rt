@@ -1,9 +1,9 @@
 //! Split points: keys that split all keys into shards.
 
-ghost use Rattle.std.specs.Prelude.{◌≡◌, ◌≤◌, ◌<◌, ◌↔◌, ◌+◌, ℕ, [], not, length, slice_get};
-ghost use Rattle.std.specs.Prelude.{vec_len};
-ghost use Rattle.std.specs.Prelude.{IfOk, IsErrOf, IsSomeAnd, IsTrue, MatchOption};
-ghost use Rattle.keys.specs.Key.{IsKey, is_before};
+ghost use Rattle.std.specs.Prelude.{◌≡◌, ◌≤◌, ◌<◌, ◌↔◌, ◌+◌, ℕ, List, [], not, length, slice_get};
+ghost use Rattle.std.specs.Prelude.{nat_lt, option_map, vec_len, Some};
+ghost use Rattle.std.specs.Prelude.{IfOk, IfSome, IsErrOf, IsSomeAnd, IsTrue, MatchOption};
+ghost use Rattle.keys.specs.Key.{IsKey, is_before, IsAtMost, IsBefore};
 ghost use Rattle.serial.specs.Shards.{IsRising, has_key, shards};
 ghost use Rattle.shards.specs.Built.{end_or_empty};
 ghost use Rattle.shards.specs.Reach.{shard_at, AreFirst};
@@ -92,12 +92,18 @@ impl SplitPoints {
             .partition_point(|point| point.as_bytes().cmp(key).is_le())
     }
 
-    /// Returns the number of split points before the key.
-    pub(crate) fn count_before(&self, key: &[u8]) -> usize
-        ensures first { AreFirst (λ point. is_before point key.now) self.now result }
+    /// Returns the number of the last shard that begins before the key, or this number, if it is
+    /// greater. Most ranges end in the shard in which they begin, so one comparison decides.
+    pub(crate) fn last_before(&self, first: usize, key: &[u8]) -> usize
+        requires within { first ≤ length self.now }
+        ensures from { first ≤ result }
+        ensures within { result ≤ length self.now }
+        ensures last { (index : ℕ) (point : List ℕ) → first ≤ index
+            → slice_get self.now index ≡ Some point
+            → is_before point key.now ≡ nat_lt index result }
+        ensures points { AreSplitPoints self.now }
     {
-        self.points
-            .partition_point(|point| point.as_bytes().cmp(key).is_lt())
+        first_at_most(&self.points, first, key)
     }
 
     /// Returns the first key of the shard.
@@ -110,6 +116,16 @@ impl SplitPoints {
             return &[];
         }
         self.points[shard - 1].as_bytes()
+    }
+
+    /// Returns the key at which the shard ends, if there is one. The last shard has none.
+    pub(crate) fn end_if_any(&self, shard: usize) -> Option<&[u8]>
+        ensures to { option_map (λ key. key.now) result ≡ (shard_at self.now shard).to }
+    {
+        match self.points.get(shard) {
+            Some(point) => Some(point.as_bytes()),
+            None => None,
+        }
     }
 
     /// Returns the key at which the shard ends, or the empty key if it is the last one.
@@ -137,4 +153,21 @@ fn first_fall(points: &[Key]) -> Option<usize>
         before = point.as_bytes();
     }
     None
+}
+
+// Returns the index of the first of the points, from an index on, that doesn't come before the key.
+fn first_at_most(points: &[Key], first: usize, key: &[u8]) -> usize
+    requires within { first ≤ length points.now }
+    ensures from { first ≤ result }
+    ensures within { result ≤ length points.now }
+    ensures before { (index : ℕ) (point : List ℕ) → first ≤ index → index < result
+        → slice_get points.now index ≡ Some point → IsBefore point key.now }
+    ensures next { IfSome (slice_get points.now result) (λ point. IsAtMost key.now point) }
+{
+    for index in first..points.len() {
+        if key.cmp(points[index].as_bytes()).is_le() {
+            return index;
+        }
+    }
+    points.len()
 }

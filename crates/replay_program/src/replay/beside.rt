@@ -78,6 +78,7 @@ pub fn replay_and_summarize_over<
         mut lines,
         mut failures,
         all_sent,
+        occupancy,
         ..
     } = outcome;
     let ending = Ending::new(account.complete && all_sent, account.stop);
@@ -87,6 +88,7 @@ pub fn replay_and_summarize_over<
         summary,
         error,
         &mut lines,
+        Some(occupancy),
         &mut failures,
         ending,
     );

@@ -81,6 +81,7 @@ pub fn replay_and_summarize_sharded_over<
         summary,
         error,
         &mut lines,
+        None,
         &mut failures,
         ending,
     );

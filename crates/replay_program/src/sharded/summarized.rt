@@ -77,6 +77,7 @@ pub fn summarize_sharded_over<
         error,
         &mut lines,
         form,
+        None,
         b"",
         &mut failures,
         ending,

@@ -14,7 +14,7 @@ ghost use Rattle.replay_program.specs.Summarized.{BothFailed, run_summary};
 use super::report::text_of;
 use crate::explain::report_loss;
 use replay_output::{Ending, Line, ProxyFailure, Status, nothing_failed, print_failures};
-use replay_summary::SummaryForm;
+use replay_summary::{Occupancy, SummaryForm};
 use std::alloc::Global;
 use wire::{Failed, Sink, write_and_flush};
 
@@ -33,9 +33,10 @@ pub struct BesideReport {
     pub output_failed: bool,
 }
 
-/// Sorts the lines of the answers, prints them to `out` and writes their summary. Then prints what
-/// failed to `error`, as [`print_failures`] does. `received` and `failures` hold those of each
-/// proxy at its number. If one writer fails, the other is given its text all the same.
+/// Sorts the lines of the answers, prints them to `out` and writes their summary, with how full the
+/// resolver was if that is given. Then prints what failed to `error`, as [`print_failures`] does.
+/// `received` and `failures` hold those of each proxy at its number. If one writer fails, the other
+/// is given its text all the same.
 ///
 /// If memory is refused, neither text is begun. A proxy whose lines could not be sorted has a loss
 /// then, or the last one if there is no summary.
@@ -45,6 +46,7 @@ pub fn print_with_summary<O: Sink, T: Sink, E: Sink>(
     summary: &mut SummaryWriter<T>,
     error: &mut E,
     received: &mut [Vec<Line>],
+    occupancy: Option<Occupancy>,
     failures: &mut [ProxyFailure],
     ending: Ending,
 ) -> BesideReport
@@ -55,12 +57,14 @@ pub fn print_with_summary<O: Sink, T: Sink, E: Sink>(
         → Appends (O.given out.old) (O.given out.new)
         (lines style (map answers_of (map vec_items received.old)))
         × Appends (T.given summary.old.writer) (T.given summary.new.writer)
-        (run_summary summary.old.form (map answers_of (map vec_items received.old))) }
+        (run_summary summary.old.form occupancy
+        (map answers_of (map vec_items received.old))) }
     ensures nothing_failed { result.status ≡ Status.Done → NothingFailed failures.old ending }
     ensures quiet { result.status ≡ Status.Done → Keeps (E.given error.old) (E.given error.new) }
     ensures failed { (style : Style) → AreLines style (map vec_items received.old)
         → result.status ≡ Status.Failed
-        → BothFailed summary.old.form style (map vec_items received.old) failures.old ending
+        → BothFailed summary.old.form occupancy style (map vec_items received.old) failures.old
+        ending
         (written (O.given out.old) (O.given out.new) (O.failures out.old) (O.failures out.new))
         (written (T.given summary.old.writer) (T.given summary.new.writer)
         (T.failures summary.old.writer) (T.failures summary.new.writer))
@@ -70,7 +74,7 @@ pub fn print_with_summary<O: Sink, T: Sink, E: Sink>(
     ensures ends { result.status ≢ Status.Usage }
     ensures same { result.status ≢ Status.Differs }
 {
-    let text = match text_of(alloc, received, summary.form, b"") {
+    let text = match text_of(alloc, received, summary.form, occupancy, b"") {
         Ok(text) => text,
         Err(proxy) => {
             return BesideReport {

@@ -16,14 +16,15 @@ use replay_output::{
     Ending, Line, PrintError, ProxyFailure, Report, Status, note_loss, nothing_failed,
     print_failures, sort_lines,
 };
-use replay_summary::{SummaryError, SummaryForm, summarize_all, summary_text};
+use replay_summary::{Occupancy, SummaryError, SummaryForm, summarize_all, summary_text};
 use std::alloc::Global;
 use wire::{Failed, Sink, write_and_flush};
 
-/// Prints the summary of the answers, with the text of these ranges, to `out`, and flushes it. Then
-/// prints what failed to `error`, as [`print_failures`] does. `received` holds the lines of each
-/// proxy at its number, in the order in which the answers were received, and `failures` what failed
-/// of it. Without ranges their text is empty.
+/// Prints the summary of the answers, with how full the resolver was if that is given and with the
+/// text of these ranges, to `out`, and flushes it. Then prints what failed to `error`, as
+/// [`print_failures`] does. `received` holds the lines of each proxy at its number, in the order in
+/// which the answers were received, and `failures` what failed of it. Without ranges their text is
+/// empty.
 ///
 /// If memory is refused while the lines of a proxy are sorted, nothing is printed to `out`, and
 /// that proxy has a loss from then on. The last proxy has it if memory is refused for the summary,
@@ -34,6 +35,7 @@ pub fn print_summary<O: Sink, E: Sink>(
     error: &mut E,
     received: &mut [Vec<Line>],
     form: SummaryForm,
+    occupancy: Option<Occupancy>,
     ranges: &[u8],
     failures: &mut [ProxyFailure],
     ending: Ending,
@@ -42,7 +44,7 @@ pub fn print_summary<O: Sink, E: Sink>(
     requires proxies { length failures.old ≡ length received.old }
     ensures lines { (style : Style) → AreLines style (map vec_items received.old)
         → OnOk result.printed (Appends (O.given out.old) (O.given out.new)
-        (with_ranges form (run_summary form (map answers_of (map vec_items received.old)))
+        (with_ranges form (run_summary form occupancy (map answers_of (map vec_items received.old)))
         ranges.now)) }
     ensures memory { (proxy : ℕ) → result.printed ≡ Err (PrintError.Memory proxy)
         → proxy < length received.old }
@@ -53,7 +55,8 @@ pub fn print_summary<O: Sink, E: Sink>(
     ensures beginning { (style : Style) → AreLines style (map vec_items received.old)
         → result.printed ≡ Err PrintError.Write → IfSome (O.given out.new) (λ _. (n : ℕ)
         × Appends (O.given out.old) (O.given out.new)
-        (take n (with_ranges form (run_summary form (map answers_of (map vec_items received.old)))
+        (take n (with_ranges form
+        (run_summary form occupancy (map answers_of (map vec_items received.old)))
         ranges.now))) }
     ensures write { (result.printed ≡ Err PrintError.Write)
         ↔ (O.failures out.old < O.failures out.new) }
@@ -70,7 +73,7 @@ pub fn print_summary<O: Sink, E: Sink>(
     ensures ends { result.status ≢ Status.Usage }
     ensures same { result.status ≢ Status.Differs }
 {
-    let printed = print_text(alloc, out, received, form, ranges);
+    let printed = print_text(alloc, out, received, form, occupancy, ranges);
     if let Err(PrintError::Memory(proxy)) = printed {
         note_loss(failures, proxy);
     }
@@ -88,12 +91,13 @@ fn print_text<W: Sink>(
     out: &mut W,
     received: &mut [Vec<Line>],
     form: SummaryForm,
+    occupancy: Option<Occupancy>,
     ranges: &[u8],
 ) -> Result<(), PrintError>
     requires some { 1 ≤ length received.old }
     ensures lines { (style : Style) → AreLines style (map vec_items received.old)
         → OnOk result (Appends (W.given out.old) (W.given out.new)
-        (with_ranges form (run_summary form (map answers_of (map vec_items received.old)))
+        (with_ranges form (run_summary form occupancy (map answers_of (map vec_items received.old)))
         ranges.now)) }
     ensures memory { (proxy : ℕ) → result ≡ Err (PrintError.Memory proxy)
         → proxy < length received.old }
@@ -104,11 +108,12 @@ fn print_text<W: Sink>(
     ensures beginning { (style : Style) → AreLines style (map vec_items received.old)
         → result ≡ Err PrintError.Write
         → IfSome (W.given out.new) (λ _. (n : ℕ) × Appends (W.given out.old) (W.given out.new)
-        (take n (with_ranges form (run_summary form (map answers_of (map vec_items received.old)))
+        (take n (with_ranges form
+        (run_summary form occupancy (map answers_of (map vec_items received.old)))
         ranges.now))) }
     ensures write { (result ≡ Err PrintError.Write) ↔ (W.failures out.old < W.failures out.new) }
 {
-    let made = match text_of(alloc, received, form, ranges) {
+    let made = match text_of(alloc, received, form, occupancy, ranges) {
         Ok(made) => made,
         Err(proxy) => return Err(PrintError::Memory(proxy)),
     };
@@ -124,12 +129,14 @@ pub fn text_of(
     alloc: Global,
     received: &mut [Vec<Line>],
     form: SummaryForm,
+    occupancy: Option<Occupancy>,
     ranges: &[u8],
 ) -> Result<Vec<u8>, usize>
     requires some { 1 ≤ length received.old }
     ensures text { (style : Style) → AreLines style (map vec_items received.old)
         → IfOk result (λ made. made.items
-        ≡ with_ranges form (run_summary form (map answers_of (map vec_items received.old)))
+        ≡ with_ranges form
+        (run_summary form occupancy (map answers_of (map vec_items received.old)))
         ranges.now) }
     ensures sorted { OnOk result (map vec_items received.new
         ≡ map (in_order_by version_of_line) (map vec_items received.old)) }
@@ -138,7 +145,7 @@ pub fn text_of(
 {
     sort_lines(alloc, received)?;
     let last = received.len() - 1;
-    match text_of_sorted(alloc, received, form, ranges) {
+    match text_of_sorted(alloc, received, form, occupancy, ranges) {
         Ok(made) => Ok(made),
         Err(_) => Err(last),
     }
@@ -149,15 +156,16 @@ fn text_of_sorted(
     alloc: Global,
     sorted: &[Vec<Line>],
     form: SummaryForm,
+    occupancy: Option<Occupancy>,
     ranges: &[u8],
 ) -> Result<Vec<u8>, SummaryError>
     requires rise { All (Rise version_of_line) (map vec_items sorted.now) }
-    ensures text { IfOk result (λ made. made.items ≡ with_ranges form (text form
+    ensures text { IfOk result (λ made. made.items ≡ with_ranges form (text form occupancy
         (map (λ lines. summary_of (map counted_of_line lines)) (map vec_items sorted.now)))
         ranges.now) }
 {
     let summaries = summarize_all(alloc, sorted)?;
-    let mut made = summary_text(alloc, &summaries, form)?;
+    let mut made = summary_text(alloc, &summaries, occupancy, form)?;
     match add_ranges(&mut made, form, ranges) {
         Ok(()) => Ok(made),
         Err(_) => Err(SummaryError::Memory),

@@ -2,18 +2,52 @@
 
 ghost use Rattle.std.specs.Prelude.{◌≡◌, ◌++◌, OnOk};
 ghost use Rattle.std.specs.List.{flat_map, enumerate_from};
-ghost use Rattle.replay_summary.specs.Text.{last_line, other_words, proxy_line, verdict_words};
-ghost use Rattle.replay_summary.specs.Text.{version_words, words};
+ghost use Rattle.replay_summary.specs.Text.{last_line, occupancy_words, other_words, proxy_line};
+ghost use Rattle.replay_summary.specs.Text.{resolver_line, verdict_words, version_words, words};
 
 use super::number::put_number;
 use super::rate::put_rate;
+use crate::occupancy::Occupancy;
 use crate::summary::Summary;
 use crate::versions::Versions;
 use std::io;
 use std::io::Write;
 
-/// Appends the line of each proxy, and that of all.
-pub fn put_lines(out: &mut Vec<u8>, summaries: &[Summary], total: &Summary) -> io::Result<()>
+/// Appends the line of each proxy, that of all, and that of the resolver if its occupancy is known.
+pub fn put_lines_of_run(
+    out: &mut Vec<u8>,
+    summaries: &[Summary],
+    total: &Summary,
+    occupancy: Option<Occupancy>,
+) -> io::Result<()>
+    ensures text { OnOk result (out.new.items ≡ out.old.items
+        ++ flat_map proxy_line (enumerate_from 0 summaries.now) ++ last_line total.now
+        ++ resolver_line occupancy) }
+{
+    put_lines(out, summaries, total)?;
+    put_resolver(out, occupancy)
+}
+
+fn put_resolver(out: &mut Vec<u8>, occupancy: Option<Occupancy>) -> io::Result<()>
+    ensures text { OnOk result (out.new.items ≡ out.old.items ++ resolver_line occupancy) }
+{
+    let Some(occupancy) = occupancy else {
+        return Ok(());
+    };
+    put_occupancy(out, occupancy)?;
+    out.write_all(b"\n")
+}
+
+fn put_occupancy(out: &mut Vec<u8>, occupancy: Occupancy) -> io::Result<()>
+    ensures text { OnOk result (out.new.items ≡ out.old.items ++ occupancy_words occupancy) }
+{
+    put_number(out, b"resolver: held at most ", occupancy.most_held)?;
+    put_number(out, b", boundaries ", occupancy.boundaries)?;
+    put_number(out, b", at most ", occupancy.most_boundaries)
+}
+
+// Appends the line of each proxy, and that of all.
+fn put_lines(out: &mut Vec<u8>, summaries: &[Summary], total: &Summary) -> io::Result<()>
     ensures text { OnOk result (out.new.items ≡ out.old.items
         ++ flat_map proxy_line (enumerate_from 0 summaries.now) ++ last_line total.now) }
 {

@@ -1,8 +1,7 @@
 -- A resolver from turn to turn, with what the stop that it meets tells of its log.
 use Rattle.std.specs.Prelude.{◌≡◌, ℕ, ℤ, negsuc, ◌<ℤ◌, ◌⊎◌, List, [], ◌∷◌, ◌++◌, length, Option, None, Some, IsSome, IfSome, Result, Ok, Err, OnOk, IfOk, IfErr, is_some}
-use Rattle.std.proofs.Common.{refl, sym, ap, subst, ◌∙◌, inl, inr, append-nil, arith}
+use Rattle.std.proofs.Common.{refl, sym, ap, subst, ◌∙◌, inl, inr}
 use Rattle.keyspace.specs.declared.batch.Batch.{Batch}
-use Rattle.keyspace.specs.Processed.{Processed}
 use Rattle.keyspace.specs.Run.{Step, Take, Finish, run}
 use Rattle.chain.specs.declared.gate.TheConstants.{MAX_HELD}
 use Rattle.resolver.specs.declared.stop.Stop.{Stop}
@@ -11,12 +10,10 @@ use Rattle.resolver.specs.declared.turn.Turn.{Turn}
 use Rattle.resolver.specs.declared.turn.Turn.TheVariants as turn
 use Rattle.resolver.specs.Core.{CoreState, Given, GoesOn, StopsAtLimit}
 use Rattle.resolver.specs.Lanes.{sent_to}
-use Rattle.resolver.specs.Observed.{HasSeen, Observes}
 use Rattle.resolver.specs.OpeningLog.{log_from}
 use Rattle.resolver.specs.Resolver.{ResolverState, StandsOver, StandsOverFrom, TakesFrom, Finishes, TakesNoStep, StepsBy}
-use Rattle.resolver.specs.Turns.{Turns}
 use Rattle.resolver.proofs.callers.Standing.{IsIn-standing}
-use Rattle.replay_workers.specs.Stops.{FillsArena, IsStopOf, IsAccountedFor, IsObserved}
+use Rattle.replay_workers.specs.Stops.{FillsArena, IsStopOf, IsAccountedFor}
 
 pub core_goes_on : (a b c : CoreState) → GoesOn a b → GoesOn b c → GoesOn a c
 core_goes_on a b c first second = record {
@@ -32,27 +29,6 @@ accounted_new r stands none = record {
   stands = stands;
   met = subst (λ (stop : Option Stop). IfSome stop (IsStopOf r.core.set.map.limit r.core.set.window [])) (sym none) tt;
 }
-
-no_last : (before : List Step) (last : Step) → [] ≡ before ++ last ∷ [] → ⊥
-no_last [] last is = absurd (omega (arith, ap length is))
-no_last (first ∷ before) last is = absurd (omega (arith, ap length is))
-
--- and an observer that has seen nothing
-pub observed_new : (Seen : List Processed → Type 0) (r : ResolverState) → StandsOver r [] → r.core.stop ≡ None → Seen []
-    → IsObserved Seen r
-observed_new Seen r stands none seen =
-    record {
-      log = [];
-      stands = stands;
-      met = subst (λ (stop : Option Stop). IfSome stop (IsStopOf r.core.set.map.limit r.core.set.window [])) (sym none) tt;
-      seen = record {
-        list = [];
-        seen = seen;
-        no_others = ([], refl);
-        all = λ _. refl;
-        all_before_last = λ before last is. absurd (no_last before last is);
-      };
-    }
 
 at_limit : (limit : ℕ) (window : ℤ) (before : List Step) (proxy : ℕ) (batch : Batch) (given : Given) (core : CoreState)
     → StopsAtLimit limit window proxy batch (run window before) given core
@@ -72,18 +48,25 @@ at_limit limit window before proxy batch given core stops = record {
 }
 
 -- the resolver represents a log of which something else is true too, and the stop that it met, if any, is that of the log
-record IsAccountedWith (Also : List Step → Type 0) (r : ResolverState) : Type 0 where
-  log : List Step
-  stands : StandsOver r log
-  met : IfSome r.core.stop (IsStopOf r.core.set.map.limit r.core.set.window log)
-  also : Also log
+pub record IsAccountedWith (Also : List Step → Type 0) (r : ResolverState) : Type 0 where
+  pub log : List Step
+  pub stands : StandsOver r log
+  pub met : IfSome r.core.stop (IsStopOf r.core.set.map.limit r.core.set.window log)
+  pub also : Also log
 
--- a step, and what it makes true of the log with it
+-- a turn that took no stop was not stopped before
+unstopped : (did : Turn) (was : Option Stop) → IfSome was (λ (stop : Stop). ◌≡◌ {A = Result Turn Stop} (Ok did) (Err stop)) → was ≡ None
+unstopped did None stays = refl
+unstopped did (Some stop) stays = let both = stays in cc
+
+-- A step, and what it makes true of the log with it. A step is taken only where no stop was met before; where none is taken, none is met.
 module _ (old new : ResolverState) (goes : GoesOn old.core new.core) (Before After : List Step → Type 0)
-    (takes : (proxy : ℕ) (took : TakesFrom proxy old new) (log : List Step) → StandsOver old log → Before log
+    (takes : old.core.stop ≡ None → (proxy : ℕ) (took : TakesFrom proxy old new) (log : List Step) → StandsOver old log → Before log
     → After (log ++ Take proxy took.batch ∷ []))
-    (finishes : Finishes old new → (log : List Step) → StandsOver old log → Before log → After (log ++ Finish ∷ []))
-    (rests : TakesNoStep old new → (log : List Step) → StandsOver old log → Before log → After log) where
+    (finishes : old.core.stop ≡ None → Finishes old new → (log : List Step) → StandsOver old log → Before log
+    → After (log ++ Finish ∷ []))
+    (rests : new.core.stop ≡ old.core.stop → TakesNoStep old new → (log : List Step) → StandsOver old log → Before log
+    → After log) where
   abbrev Met : List Step → Option Stop → Type 0
   Met log stop = IfSome stop (IsStopOf old.core.set.map.limit old.core.set.window log)
 
@@ -101,21 +84,22 @@ module _ (old new : ResolverState) (goes : GoesOn old.core new.core) (Before Aft
   }
 
   -- no step, or the last
-  finished_or_none : Finishes old new ⊎ TakesNoStep old new → new.core.stop ≡ None → IsAccountedWith Before old
+  finished_or_none : old.core.stop ≡ None → Finishes old new ⊎ TakesNoStep old new → new.core.stop ≡ None → IsAccountedWith Before old
       → IsAccountedWith After new
-  finished_or_none (inl step) none before =
+  finished_or_none was (inl step) none before =
       accounted (before.log ++ Finish ∷ []) (step.adds (negsuc 0) before.log before.stands) None none tt
-      (finishes step before.log before.stands before.also)
-  finished_or_none (inr step) none before =
+      (finishes was step before.log before.stands before.also)
+  finished_or_none was (inr step) none before =
       accounted before.log (step.adds (negsuc 0) before.log before.stands) None none tt
-      (rests step before.log before.stands before.also)
+      (rests (none ∙ sym was) step before.log before.stands before.also)
 
-  turned : (t : Turn) → StepsBy t old new → new.core.stop ≡ None → IsAccountedWith Before old → IsAccountedWith After new
-  turned (turn.Took proxy) step none before =
+  turned : (t : Turn) → old.core.stop ≡ None → StepsBy t old new → new.core.stop ≡ None → IsAccountedWith Before old
+      → IsAccountedWith After new
+  turned (turn.Took proxy) was step none before =
       accounted (before.log ++ Take proxy step.batch ∷ []) (step.adds (negsuc 0) before.log before.stands) None none tt
-      (takes proxy step before.log before.stands before.also)
-  turned turn.Idle step none before = finished_or_none step none before
-  turned turn.Done step none before = finished_or_none step none before
+      (takes was proxy step before.log before.stands before.also)
+  turned turn.Idle was step none before = finished_or_none was step none before
+  turned turn.Done was step none before = finished_or_none was step none before
 
   -- the gate's and the arena's stops, as a turn tells them
   abbrev AtFullGate : Type 0
@@ -136,10 +120,10 @@ module _ (old new : ResolverState) (goes : GoesOn old.core new.core) (Before Aft
       → IsAccountedWith Before old → IsAccountedWith After new
   stopped_now resolver.Memory is was (inl took) gate arena before =
       accounted (before.log ++ Take took.0 took.1.batch ∷ []) (took.1.adds (negsuc 0) before.log before.stands)
-      (Some resolver.Memory) is tt (takes took.0 took.1 before.log before.stands before.also)
+      (Some resolver.Memory) is tt (takes was took.0 took.1 before.log before.stands before.also)
   stopped_now resolver.Memory is was (inr step) gate arena before =
       accounted (before.log ++ Finish ∷ []) (step.adds (negsuc 0) before.log before.stands)
-      (Some resolver.Memory) is tt (finishes step before.log before.stands before.also)
+      (Some resolver.Memory) is tt (finishes was step before.log before.stands before.also)
   stopped_now resolver.GateFull is was met gate arena before =
       let at = gate refl in
       let state = IsIn-standing old.core.stop before.log (sent_to old.lanes) old.core was before.stands.core in
@@ -148,20 +132,20 @@ module _ (old new : ResolverState) (goes : GoesOn old.core new.core) (Before Aft
         last = record { before = before.log; proxy = at.0; batch = at.1.batch; log_is = refl };
         ahead = subst (λ (version : ℤ). version <ℤ at.1.batch.previous) state.version at.2;
         full = ap length (sym state.held) ∙ at.3;
-      }) (takes at.0 at.1 before.log before.stands before.also)
+      }) (takes was at.0 at.1 before.log before.stands before.also)
   stopped_now resolver.ArenaFull is was met gate arena before =
       let at = arena refl before.log before.stands in
       let log = before.log ++ Take at.0 at.1.batch ∷ [] in
       accounted log (at.1.adds (negsuc 0) before.log before.stands) (Some resolver.ArenaFull) is
       (at_limit old.core.set.map.limit old.core.set.window before.log at.0 at.1.batch (sent_to new.lanes)
-      new.core at.2) (takes at.0 at.1 before.log before.stands before.also)
+      new.core at.2) (takes was at.0 at.1 before.log before.stands before.also)
 
   -- after a stop nothing is taken, and the stop is the same
   stopped_before : (was : Option Stop) → old.core.stop ≡ was → IsSome was → (TakesNoStep old new)
       → new.core.stop ≡ was → IsAccountedWith Before old → IsAccountedWith After new
   stopped_before was is some step stays before =
       accounted before.log (step.adds (negsuc 0) before.log before.stands) was stays (subst (Met before.log) is before.met)
-      (rests step before.log before.stands before.also)
+      (rests (stays ∙ sym is) step before.log before.stands before.also)
 
   erred : (stop : Stop) → (was : Option Stop) → old.core.stop ≡ was → new.core.stop ≡ Some stop
       → (old.core.stop ≡ None → ((proxy : ℕ) × TakesFrom proxy old new) ⊎ Finishes old new)
@@ -177,7 +161,7 @@ module _ (old new : ResolverState) (goes : GoesOn old.core new.core) (Before Aft
       let same : stop ≡ first = cc in
       stopped_before (Some first) is refl (no_step (ap is_some is)) (now ∙ ap (λ (s : Stop). Some s) same) before
 
-  after_turn : (result : Result Turn Stop) → IfOk result (λ turn. StepsBy turn old new)
+  pub after_turn : (result : Result Turn Stop) → IfOk result (λ turn. StepsBy turn old new)
       → IfErr result (λ _. old.core.stop ≡ None → ((proxy : ℕ) × TakesFrom proxy old new) ⊎ Finishes old new)
       → (IsSome old.core.stop → TakesNoStep old new) → IfErr result (λ stop. new.core.stop ≡ Some stop)
       → IfSome old.core.stop (λ stop. result ≡ Err stop) → OnOk result (new.core.stop ≡ None)
@@ -185,7 +169,8 @@ module _ (old new : ResolverState) (goes : GoesOn old.core new.core) (Before Aft
       → (old.core.stop ≡ None → result ≡ Err resolver.ArenaFull → (version : ℤ) (log : List Step)
       → StandsOverFrom version old log → AtFullArena (log_from version (length old.lanes) log))
       → IsAccountedWith Before old → IsAccountedWith After new
-  after_turn (Ok turn) step met no_step now stays none gate arena before = turned turn step none before
+  after_turn (Ok turn) step met no_step now stays none gate arena before =
+      turned turn (unstopped turn old.core.stop stays) step none before
   after_turn (Err stop) step met no_step now stays none gate arena before =
       erred stop old.core.stop refl now met no_step stays (λ was is. gate was (ap Err is))
       (λ was is. arena was (ap Err is) (negsuc 0)) before
@@ -205,32 +190,6 @@ pub accounted_turn : (old new : ResolverState) → GoesOn old.core new.core → 
     → IsAccountedFor old → IsAccountedFor new
 accounted_turn old new goes result step met no_step now stays none gate arena before =
     let also : IsAccountedWith (λ _. Unit {0}) new =
-    after_turn old new goes (λ _. Unit {0}) (λ _. Unit {0}) (λ _ _ _ _ _. tt) (λ _ _ _ _. tt) (λ _ _ _ _. tt) result step met no_step
+    after_turn old new goes (λ _. Unit {0}) (λ _. Unit {0}) (λ _ _ _ _ _ _. tt) (λ _ _ _ _ _. tt) (λ _ _ _ _ _. tt) result step met no_step
     now stays none gate arena (record { log = before.log; stands = before.stands; met = before.met; also = tt }) in
     record { log = also.log; stands = also.stands; met = also.met }
-
--- what an observer has seen of the log before a turn, and after it
-module _ (old new : ResolverState) (result : Result Turn Stop) (turns : Turns result old new) (Before After : List Processed → Type 0)
-    (taken : (proxy : ℕ) (took : TakesFrom proxy old new) → Observes Before After old new (Take proxy took.batch ∷ []))
-    (finish : Finishes old new → Observes Before After old new (Finish ∷ []))
-    (nothing : TakesNoStep old new → Observes Before After old new []) where
-  abbrev Saw : List Step → Type 0
-  Saw log = HasSeen Before old.core.stop old.core.set.window log
-
-  abbrev Sees : List Step → Type 0
-  Sees log = HasSeen After new.core.stop old.core.set.window log
-
-  pub observed_turn : IsObserved Before old → IsObserved After new
-  observed_turn before =
-      let also : IsAccountedWith Sees new =
-      after_turn old new turns.goes_on Saw Sees (λ proxy took log stands seen. taken proxy took (negsuc 0) log stands seen)
-      (λ step log stands seen. finish step (negsuc 0) log stands seen)
-      (λ step log stands seen. subst Sees (append-nil log) (nothing step (negsuc 0) log stands seen)) result turns.step turns.stop_met
-      turns.stopped turns.stop turns.stop_stays turns.no_stop turns.gate_full turns.arena_full
-      (record { log = before.log; stands = before.stands; met = before.met; also = before.seen }) in
-      record {
-        log = also.log;
-        stands = also.stands;
-        met = also.met;
-        seen = subst (λ (window : ℤ). HasSeen After new.core.stop window also.log) (sym turns.goes_on.window) also.also;
-      }

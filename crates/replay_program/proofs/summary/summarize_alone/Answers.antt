@@ -1,5 +1,5 @@
 use Rattle.std.proofs.Common.{◌≡◌, ℕ, Bool, ◌&&◌, List, [], map, refl, ap, sym, subst, inl, inr, ◌∙◌, arith, Vec, Global}
-use Rattle.std.specs.Prelude.{Err, OnOk, vec_items}
+use Rattle.std.specs.Prelude.{Err, OnOk, Some, length, vec_items}
 use Rattle.std.proofs.lemmas.List.{length-map}
 use Rattle.keyspace.specs.declared.answer.Answer.{Answer}
 use Rattle.replay_output.specs.declared.failures.Ending.{Ending}
@@ -8,12 +8,15 @@ use Rattle.replay_output.specs.declared.line.Line.{Line}
 use Rattle.replay_output.specs.declared.report.lines.PrintError.TheVariants as print
 use Rattle.replay_output.specs.Failures.{failure_lines, NothingFailed}
 use Rattle.replay_output.specs.Line.{answers_of}
-use Rattle.replay_workers.specs.Run.{IsRun, is_complete}
-use Rattle.replay_program.specs.Replayed.{written, Took, TookBeginning}
+use Rattle.replay_summary.specs.declared.occupancy.Occupancy.{Occupancy}
+use Rattle.replay_workers.specs.Occupied.{IsOccupancyOver}
+use Rattle.replay_workers.specs.Run.{IsMeasuredRun, is_complete}
+use Rattle.replay_program.specs.Replayed.{written, Took, TookBeginning, ending_of}
 use Rattle.replay_program.specs.Summarized.{TakesToSummarize, run_summary, with_ranges}
 use Rattle.replay_program.proofs.Meeting.{has_met, met_nothing, not_failed, stop_told}
 use Rattle.replay_program.proofs.Ranges.{no_ranges}
-use Rattle.replay_program.proofs.Replaying.{ending_is, held_ok, are_lines, is_replayed, ran_and_failed}
+use Rattle.replay_program.proofs.Measuring.{measured_for_any, occupied_over}
+use Rattle.replay_program.proofs.Replaying.{complete_from, ending_is, held_ok, are_lines, is_replayed_over, ran_as_and_failed}
 use Rattle.replay_program.proofs.summary.summarize_alone.Goals.{then-account, else-account}
 use Rattle.replay_program.proofs.summary.summarize_alone.Goals as goal
 
@@ -49,12 +52,20 @@ returns g c =
       | else-account w ↦
           w.new-is ∙ w.if-account.false ∙ sym (ap (λ (b : Bool). b && outcome.all_sent) w.if-account.false)
     ] in
+    let occupancy = outcome.occupancy in
+    let of_any = measured_for_any options files (map (vec_items {X = Line} {Z = Global}) outcome.lines.items) outcome.failures.items
+    (is_complete outcome account) occupancy account.stop (c.in-Ok.ensures.measured (tt, c.new-reached.ensures.none)) in
     let of_lines = subst
-    (λ (l : List (Vec Line Global)). IsRun options files (map (vec_items {X = Line} {Z = Global}) l) outcome.failures.items (is_complete outcome account) account.stop)
-    (sym c.deref_mut.ensures.value) c.in-Ok.ensures.run in
-    let of_both = subst (λ (f : List ProxyFailure). IsRun options files received f (is_complete outcome account) account.stop)
+    (λ (l : List (Vec Line Global)). IsMeasuredRun (λ _. Unit {0}) occupancy options files (map (vec_items {X = Line} {Z = Global}) l) outcome.failures.items (is_complete outcome account) account.stop)
+    (sym c.deref_mut.ensures.value) of_any in
+    let of_both = subst
+    (λ (f : List ProxyFailure). IsMeasuredRun (λ _. Unit {0}) occupancy options files received f (is_complete outcome account) account.stop)
     (sym c.deref_mut-2.ensures.value) of_lines in
-    let run = subst (λ (b : Bool). IsRun options files received failures b account.stop) (sym whole) of_both in
+    let measured = subst (λ (b : Bool). IsMeasuredRun (λ _. Unit {0}) occupancy options files received failures b account.stop) (sym whole) of_both in
+    let run = measured.observed.run in
+    let over = λ (nothing : NothingFailed failures (ending_of complete account.stop)).
+    occupied_over options files received failures complete occupancy account.stop (λ _. Unit {0}) measured
+    (run.no_stop (complete_from complete account.stop nothing.complete)) in
     let ending = ending_is complete account.stop c.new-ending.result c.new-ending.ensures.ending in
     let report = c.print_summary-report.ensures in
     let told = c.print_summary-report.new.failures in
@@ -64,8 +75,8 @@ returns g c =
     (g.E.Sink.failures c.args.error.now) (g.E.Sink.failures c.print_summary-report.new.error) in
     let are = are_lines options files received failures complete account.stop run in
     let form = c.args.form in
-    let alone : (λ (answers : List (List Answer)). with_ranges form (run_summary form answers) []) ≡ run_summary form =
-    λ i answers. no_ranges form (run_summary form answers) [] refl i in
+    let alone : (λ (answers : List (List Answer)). with_ranges form (run_summary form (Some occupancy) answers) []) ≡ run_summary form (Some occupancy) =
+    λ i answers. no_ranges form (run_summary form (Some occupancy) answers) [] refl i in
     let lines = subst (λ (text : List (List Answer) → List ℕ). OnOk c.print_summary-report.result.printed (Took out (text (map answers_of received))))
     alone (report.lines options.style are) in
     let beginning = subst (λ (text : List (List Answer) → List ℕ). c.print_summary-report.result.printed ≡ Err print.Write
@@ -73,27 +84,32 @@ returns g c =
     record {
       done = λ is.
           let parts = report.done.0 is in
-          is_replayed options files received failures complete account.stop run (λ answers. Took out (run_summary form answers))
-          c.answers_tell_verdicts.ensures.tell
-          (subst (λ (e : Ending). NothingFailed failures e) ending parts.2)
-          (held_ok c.print_summary-report.result.printed _ lines parts.0);
+          let nothing = subst (λ (e : Ending). NothingFailed failures e) ending parts.2 in
+          is_replayed_over options files received failures complete account.stop run
+          (λ log answers. (o : Occupancy) × IsOccupancyOver options.limit options.window log o × Took out (run_summary form (Some o) answers))
+          c.answers_tell_verdicts.ensures.tell nothing
+          (occupancy, over nothing, held_ok c.print_summary-report.result.printed _ lines parts.0);
       quiet = report.quiet;
       failed = λ is.
-          inr (ran_and_failed options files received failures complete account.stop run (run_summary form) TakesToSummarize out error told
-          c.print_summary-report.result.printed c.print_summary-report.result.told lines
-          (λ proxy memory. omega (
-            arith,
-            report.memory proxy memory,
-            length-map c.deref_mut.result.now (vec_items {X = Line} {Z = Global}),
-          ))
-          report.takes
-          report.nothing beginning report.write.0
-          (subst (λ (e : Ending). OnOk c.print_summary-report.result.told (Took error (failure_lines told e))) ending report.failure_lines)
-          report.told.0 report.loss report.no_loss
-          (λ all.
-          let done =
-          report.done.1 (all.0, all.1, subst (λ (e : Ending). NothingFailed failures e) (sym ending) all.2) in
-          cc (done, is)));
+          inr (record {
+            occupancy = occupancy;
+            failed = ran_as_and_failed received failures complete account.stop (length files) run.received_count run.failures_count
+                (IsMeasuredRun (λ _. Unit {0}) occupancy options files) measured (run_summary form (Some occupancy)) TakesToSummarize out error told
+                c.print_summary-report.result.printed c.print_summary-report.result.told lines
+                (λ proxy memory. omega (
+                  arith,
+                  report.memory proxy memory,
+                  length-map c.deref_mut.result.now (vec_items {X = Line} {Z = Global}),
+                ))
+                report.takes
+                report.nothing beginning report.write.0
+                (subst (λ (e : Ending). OnOk c.print_summary-report.result.told (Took error (failure_lines told e))) ending report.failure_lines)
+                report.told.0 report.loss report.no_loss
+                (λ all.
+                let done =
+                report.done.1 (all.0, all.1, subst (λ (e : Ending). NothingFailed failures e) (sym ending) all.2) in
+                cc (done, is));
+          });
       met = has_met options files (map (vec_items {X = Line} {Z = Global}) outcome.lines.items) outcome.failures.items
           (is_complete outcome account) (λ _. Unit {0}) c.run_observed-run.new.observer.version account.stop c.is_unwritten.result error
           (c.in-Ok.ensures.observed (tt, c.new-reached.ensures.none))

@@ -16,11 +16,14 @@ use Rattle.replay_output.specs.declared.line.Line.{Line}
 use Rattle.replay_output.specs.declared.report.lines.PrintError.TheVariants as print
 use Rattle.replay_output.specs.Line.{answers_of}
 use Rattle.replay_output.specs.Failures.{failure_lines, NothingFailed}
-use Rattle.replay_workers.specs.Run.{IsObservedRun, is_complete}
+use Rattle.replay_summary.specs.declared.occupancy.Occupancy.{Occupancy}
+use Rattle.replay_workers.specs.Occupied.{IsOccupancyOver}
+use Rattle.replay_workers.specs.Run.{IsMeasuredRun, is_complete}
 use Rattle.replay_program.specs.Replayed.{written, Took, TookBeginning}
 use Rattle.replay_program.specs.Summarized.{TakesToSummarize, run_summary, summary_and_top, with_ranges}
-use Rattle.replay_program.proofs.Counting.{ran_and_lost, seen_are, seen_chain}
-use Rattle.replay_program.proofs.Meeting.{has_met, met_nothing, not_failed, seen_by_other, stop_told}
+use Rattle.replay_program.proofs.Counting.{ran_and_lost, seen_chain}
+use Rattle.replay_program.proofs.Measuring.{measured_as, measured_by_other, occupied_over}
+use Rattle.replay_program.proofs.Meeting.{has_met, met_nothing, not_failed, stop_told}
 use Rattle.replay_program.proofs.Replaying.{complete_from, ending_is, held_ok, are_lines, is_replayed_over, ran_as_and_failed}
 use Rattle.replay_program.proofs.summary.summarize_with_top.Goals as goal
 
@@ -59,14 +62,16 @@ returns-in-Ok-text_of_top-clause-done g c = λ is.
     let start : HasSeen c.new-reached.result.observer [] =
     subst (λ (h : HotRanges). HasSeen h []) (sym c.new-reached.ensures.observer) c.new-hot.ensures.none in
     let lines_taken = map (vec_items {X = Line} {Z = Global}) outcome.lines.items in
-    let both = c.in-Ok.ensures.observed (start, c.new-reached.ensures.none) in
+    let occupancy = outcome.occupancy in
+    let both = c.in-Ok.ensures.measured (start, c.new-reached.ensures.none) in
     let of_lines = subst
-    (λ (l : List (Vec Line Global)). IsObservedRun Seen options files (map (vec_items {X = Line} {Z = Global}) l) outcome.failures.items (is_complete outcome account) account.stop)
-    (sym c.deref_mut.ensures.value) (seen_by_other options files lines_taken outcome.failures.items (is_complete outcome account) Seen reached.version account.stop both) in
+    (λ (l : List (Vec Line Global)). IsMeasuredRun Seen occupancy options files (map (vec_items {X = Line} {Z = Global}) l) outcome.failures.items (is_complete outcome account) account.stop)
+    (sym c.deref_mut.ensures.value) (measured_by_other options files lines_taken outcome.failures.items (is_complete outcome account) occupancy account.stop Seen reached.version both) in
     let of_both = subst
-    (λ (f : List ProxyFailure). IsObservedRun Seen options files received f (is_complete outcome account) account.stop)
+    (λ (f : List ProxyFailure). IsMeasuredRun Seen occupancy options files received f (is_complete outcome account) account.stop)
     (sym c.deref_mut-in-Ok-text_of_top.ensures.value) of_lines in
-    let observed = subst (λ (b : Bool). IsObservedRun Seen options files received failures b account.stop) (sym whole) of_both in
+    let measured = subst (λ (b : Bool). IsMeasuredRun Seen occupancy options files received failures b account.stop) (sym whole) of_both in
+    let observed = measured.observed in
     let run = observed.run in
     let list = observed.seen.list in
     let kept : to_z w64 (of_z w64 options.window) ≡ options.window =
@@ -82,18 +87,25 @@ returns-in-Ok-text_of_top-clause-done g c = λ is.
     let out = written (g.O.Sink.given c.args.out.now) (g.O.Sink.given c.print_summary-report.new.out)
     (g.O.Sink.failures c.args.out.now) (g.O.Sink.failures c.print_summary-report.new.out) in
     let are = are_lines options files received failures complete account.stop run in
-    let text_is : (λ (answers : List (List Answer)). with_ranges form (run_summary form answers) c.deref.result.now) ≡ summary_and_top form top =
-    λ i answers. with_ranges form (run_summary form answers) ((c.deref.ensures.value ∙ of_top.is_text) i) in
+    let text_is : (λ (answers : List (List Answer)). with_ranges form (run_summary form (Some occupancy) answers) c.deref.result.now) ≡ summary_and_top form occupancy top =
+    λ i answers. with_ranges form (run_summary form (Some occupancy) answers) ((c.deref.ensures.value ∙ of_top.is_text) i) in
     let lines = subst (λ (text : List (List Answer) → List ℕ). OnOk printed (Took out (text (map answers_of received)))) text_is
     (report.lines options.style are) in
     let parts = report.done.0 is in
     let nothing = subst (λ (e : Ending). NothingFailed failures e) ending parts.2 in
-    let all = observed.seen.all (run.no_stop (complete_from complete account.stop nothing.complete)) in
+    let no_stop = run.no_stop (complete_from complete account.stop nothing.complete) in
+    let all = observed.seen.all no_stop in
     is_replayed_over options files received failures complete account.stop run
-    (λ log answers. (hottest : Top) × IsTopOf (run_of options.window log).processed most hottest
-    × Took out (summary_and_top form hottest answers))
-    c.answers_tell_verdicts.ensures.tell nothing
-    (top, subst (λ (ps : List Processed). IsTopOf ps most top) all of_top.is_top, held_ok printed _ lines parts.0)
+    (λ log answers. (o : Occupancy) × IsOccupancyOver options.limit options.window log o
+    × ((hottest : Top) × IsTopOf (run_of options.window log).processed most hottest
+    × Took out (summary_and_top form o hottest answers)))
+    c.answers_tell_verdicts.ensures.tell nothing (
+      occupancy,
+      occupied_over options files received failures complete occupancy account.stop Seen measured no_stop,
+      top,
+      subst (λ (ps : List Processed). IsTopOf ps most top) all of_top.is_top,
+      held_ok printed _ lines parts.0,
+    )
 
 pub returns-in-Ok-text_of_top-clause-failed : goal.returns-in-Ok-text_of_top-clause-failed
 returns-in-Ok-text_of_top-clause-failed g c = λ is.
@@ -113,14 +125,16 @@ returns-in-Ok-text_of_top-clause-failed g c = λ is.
     let start : HasSeen c.new-reached.result.observer [] =
     subst (λ (h : HotRanges). HasSeen h []) (sym c.new-reached.ensures.observer) c.new-hot.ensures.none in
     let lines_taken = map (vec_items {X = Line} {Z = Global}) outcome.lines.items in
-    let both = c.in-Ok.ensures.observed (start, c.new-reached.ensures.none) in
+    let occupancy = outcome.occupancy in
+    let both = c.in-Ok.ensures.measured (start, c.new-reached.ensures.none) in
     let of_lines = subst
-    (λ (l : List (Vec Line Global)). IsObservedRun Seen options files (map (vec_items {X = Line} {Z = Global}) l) outcome.failures.items (is_complete outcome account) account.stop)
-    (sym c.deref_mut.ensures.value) (seen_by_other options files lines_taken outcome.failures.items (is_complete outcome account) Seen reached.version account.stop both) in
+    (λ (l : List (Vec Line Global)). IsMeasuredRun Seen occupancy options files (map (vec_items {X = Line} {Z = Global}) l) outcome.failures.items (is_complete outcome account) account.stop)
+    (sym c.deref_mut.ensures.value) (measured_by_other options files lines_taken outcome.failures.items (is_complete outcome account) occupancy account.stop Seen reached.version both) in
     let of_both = subst
-    (λ (f : List ProxyFailure). IsObservedRun Seen options files received f (is_complete outcome account) account.stop)
+    (λ (f : List ProxyFailure). IsMeasuredRun Seen occupancy options files received f (is_complete outcome account) account.stop)
     (sym c.deref_mut-in-Ok-text_of_top.ensures.value) of_lines in
-    let observed = subst (λ (b : Bool). IsObservedRun Seen options files received failures b account.stop) (sym whole) of_both in
+    let measured = subst (λ (b : Bool). IsMeasuredRun Seen occupancy options files received failures b account.stop) (sym whole) of_both in
+    let observed = measured.observed in
     let run = observed.run in
     let list = observed.seen.list in
     let kept : to_z w64 (of_z w64 options.window) ≡ options.window =
@@ -130,10 +144,7 @@ returns-in-Ok-text_of_top-clause-failed g c = λ is.
     let chain = seen_chain Seen account.stop options.window run.log observed.seen hot.history.window window_is run.chain in
     let of_top = c.in-Ok-text_of_top.ensures.text list observed.seen.seen chain in
     let top = of_top.top in
-    let ran : IsObservedRun (λ seen. seen ≡ list) options files received failures complete account.stop = record {
-      run = run;
-      seen = seen_are Seen account.stop options.window run.log observed.seen;
-    } in
+    let ran = measured_as options files received failures complete occupancy account.stop Seen measured in
     let ending = ending_is complete account.stop c.new-ending.result c.new-ending.ensures.ending in
     let report = c.print_summary-report.ensures in
     let printed = c.print_summary-report.result.printed in
@@ -143,19 +154,20 @@ returns-in-Ok-text_of_top-clause-failed g c = λ is.
     let error = written (g.E.Sink.given c.args.error.now) (g.E.Sink.given c.print_summary-report.new.error)
     (g.E.Sink.failures c.args.error.now) (g.E.Sink.failures c.print_summary-report.new.error) in
     let are = are_lines options files received failures complete account.stop run in
-    let text_is : (λ (answers : List (List Answer)). with_ranges form (run_summary form answers) c.deref.result.now) ≡ summary_and_top form top =
-    λ i answers. with_ranges form (run_summary form answers) ((c.deref.ensures.value ∙ of_top.is_text) i) in
+    let text_is : (λ (answers : List (List Answer)). with_ranges form (run_summary form (Some occupancy) answers) c.deref.result.now) ≡ summary_and_top form occupancy top =
+    λ i answers. with_ranges form (run_summary form (Some occupancy) answers) ((c.deref.ensures.value ∙ of_top.is_text) i) in
     let lines = subst (λ (text : List (List Answer) → List ℕ). OnOk printed (Took out (text (map answers_of received)))) text_is
     (report.lines options.style are) in
     let beginning = subst (λ (text : List (List Answer) → List ℕ). printed ≡ Err print.Write
     → TookBeginning out (text (map answers_of received))) text_is (report.beginning options.style are) in
     inr (record {
       counted = list;
+      occupancy = occupancy;
       top = Some top;
       is_top = of_top.is_top;
       nothing_without = λ none. absurd (none-some top (sym none));
       failed = ran_as_and_failed received failures complete account.stop (length files) run.received_count run.failures_count
-          (IsObservedRun (λ seen. seen ≡ list) options files) ran (summary_and_top form top) TakesToSummarize out error told
+          (IsMeasuredRun (λ seen. seen ≡ list) occupancy options files) ran (summary_and_top form occupancy top) TakesToSummarize out error told
           printed c.print_summary-report.result.told lines
           (λ proxy memory. omega (
             arith,
@@ -186,18 +198,17 @@ returns-clause-failed g c = λ is.
     let whole : complete ≡ is_complete outcome account = c.is_complete-complete.ensures.complete in
     let start : HasSeen c.new-reached.result.observer [] =
     subst (λ (h : HotRanges). HasSeen h []) (sym c.new-reached.ensures.observer) c.new-hot.ensures.none in
-    let both = c.in-Ok.ensures.observed (start, c.new-reached.ensures.none) in
+    let occupancy = outcome.occupancy in
+    let both = c.in-Ok.ensures.measured (start, c.new-reached.ensures.none) in
     let of_both = subst
-    (λ (f : List ProxyFailure). IsObservedRun Seen options files received f (is_complete outcome account) account.stop)
+    (λ (f : List ProxyFailure). IsMeasuredRun Seen occupancy options files received f (is_complete outcome account) account.stop)
     (sym c.deref_mut-in-Err-text_of_top.ensures.value)
-    (seen_by_other options files received outcome.failures.items (is_complete outcome account) Seen reached.version account.stop both) in
-    let observed = subst (λ (b : Bool). IsObservedRun Seen options files received failures b account.stop) (sym whole) of_both in
+    (measured_by_other options files received outcome.failures.items (is_complete outcome account) occupancy account.stop Seen reached.version both) in
+    let measured = subst (λ (b : Bool). IsMeasuredRun Seen occupancy options files received failures b account.stop) (sym whole) of_both in
+    let observed = measured.observed in
     let run = observed.run in
     let list = observed.seen.list in
-    let ran : IsObservedRun (λ seen. seen ≡ list) options files received failures complete account.stop = record {
-      run = run;
-      seen = seen_are Seen account.stop options.window run.log observed.seen;
-    } in
+    let ran = measured_as options files received failures complete occupancy account.stop Seen measured in
     let ending = ending_is complete account.stop c.new-ending.result c.new-ending.ensures.ending in
     let report = c.report_last_loss.ensures in
     let told = c.report_last_loss.new.failures in
@@ -215,11 +226,12 @@ returns-clause-failed g c = λ is.
     let last = length failures - 1 in
     inr (record {
       counted = list;
+      occupancy = occupancy;
       top = None;
       is_top = tt;
       nothing_without = λ none. refl;
       failed = ran_and_lost options files received failures complete account.stop run
-          (IsObservedRun (λ seen. seen ≡ list) options files) ran (run_summary c.args.wanted.form) TakesToSummarize out error
+          (IsMeasuredRun (λ seen. seen ≡ list) occupancy options files) ran (run_summary c.args.wanted.form (Some occupancy)) TakesToSummarize out error
           last told c.report_last_loss.result.told (omega (arith, some))
           (inr (omega (arith, some, run.failures_count, run.received_count))) refl
           (subst (λ (e : Ending). OnOk c.report_last_loss.result.told (Took error (failure_lines told e))) ending report.failure_lines)

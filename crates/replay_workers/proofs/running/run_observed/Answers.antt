@@ -14,7 +14,8 @@ use Rattle.replay_workers.specs.declared.asking.AskingFrames.{AskingFrames}
 use Rattle.replay_workers.specs.Asking.{asking_reader}
 use Rattle.replay_workers.specs.Reporting.{TakesResolved, resolved_for}
 use Rattle.replay_workers.specs.Worker.{IsFaultAt}
-use Rattle.replay_workers.specs.Run.{IsRun, IsObservedRun, is_complete}
+use Rattle.replay_workers.specs.Occupied.{IsOccupancyOf}
+use Rattle.replay_workers.specs.Run.{IsMeasuredRun, IsRun, IsObservedRun, is_complete}
 use Rattle.replay_workers.proofs.Seen.{map_twice, run_seen, run_seen_log}
 use Rattle.replay_workers.proofs.running.run_observed.Goals as goal
 
@@ -86,6 +87,19 @@ returns-in_ok-outcome-in-Asked g c =
             seen = subst (λ (log : List Step). HasSeen Seen account.stop options.window log)
                 (sym (run_seen_log view Gives (TakesResolved reports) IsAtEnd IsFaultAt seen _ options streams _ _ _ _ saw.run)) saw.seen;
           });
+      measured = λ first.
+          let saw = ended.measured first in
+          let log_is = run_seen_log view Gives (TakesResolved reports) IsAtEnd IsFaultAt seen _ options streams _ _ _ _ saw.observed.run in
+          subst (λ (files : List (Option (List ℕ))). IsMeasuredRun Seen outcome.occupancy options files (map vec_items outcome.lines.items)
+          outcome.failures.items (is_complete outcome account) account.stop) files
+          (record {
+            observed = record {
+              run = run_seen view Gives (TakesResolved reports) IsAtEnd IsFaultAt seen _ options streams _ _ _ _ saw.observed.run;
+              seen = subst (λ (log : List Step). HasSeen Seen account.stop options.window log) (sym log_is) saw.observed.seen;
+            };
+            occupied = subst (λ (log : List Step). IsOccupancyOf account.stop options.limit options.window log outcome.occupancy)
+                (sym log_is) saw.occupied;
+          });
       capacity = ended.capacity;
       setting = c.run_over.ensures.setting;
     }
@@ -116,6 +130,19 @@ returns-in_ok-outcome-in-All g c =
             run = run_seen view Gives (TakesResolved reports) IsAtEnd IsFaultAt seen _ options streams _ _ _ _ saw.run;
             seen = subst (λ (log : List Step). HasSeen Seen account.stop options.window log)
                 (sym (run_seen_log view Gives (TakesResolved reports) IsAtEnd IsFaultAt seen _ options streams _ _ _ _ saw.run)) saw.seen;
+          });
+      measured = λ first.
+          let saw = ended.measured first in
+          let log_is = run_seen_log view Gives (TakesResolved reports) IsAtEnd IsFaultAt seen _ options streams _ _ _ _ saw.observed.run in
+          subst (λ (files : List (Option (List ℕ))). IsMeasuredRun Seen outcome.occupancy options files (map vec_items outcome.lines.items)
+          outcome.failures.items (is_complete outcome account) account.stop) files
+          (record {
+            observed = record {
+              run = run_seen view Gives (TakesResolved reports) IsAtEnd IsFaultAt seen _ options streams _ _ _ _ saw.observed.run;
+              seen = subst (λ (log : List Step). HasSeen Seen account.stop options.window log) (sym log_is) saw.observed.seen;
+            };
+            occupied = subst (λ (log : List Step). IsOccupancyOf account.stop options.limit options.window log outcome.occupancy)
+                (sym log_is) saw.occupied;
           });
       capacity = ended.capacity;
       setting = c.run_over-in-All.ensures.setting;

@@ -17,10 +17,11 @@ use Rattle.replay_workers.specs.declared.threads.Worked.{Worked}
 use Rattle.replay_workers.specs.declared.worker.Finished.{Finished}
 use Rattle.replay_workers.specs.declared.outcome.Outcome.{Outcome}
 use Rattle.replay_workers.specs.Threads.{finished_of, given_each, HasWorkedOn, IsOutcomeOf}
-use Rattle.replay_workers.specs.Run.{HasCapacity}
+use Rattle.replay_workers.specs.Occupied.{IsOccupancyOf}
+use Rattle.replay_workers.specs.Run.{EndsAt, HasCapacity, IsMeasuredRunOver, is_complete}
 use Rattle.replay_workers.specs.Stops.{IsStopOf}
 use Rattle.replay_workers.proofs.callers.SameLanes.{clients_go_on}
-use Rattle.replay_workers.proofs.callers.Stopping.{accounted_new, observed_new}
+use Rattle.replay_workers.proofs.callers.Stopping.{accounted_new}
 use Rattle.replay_workers.proofs.Working.{capacities, capacities_stay, clients_back, clients_ended, started_count}
 use Rattle.replay_workers.proofs.Runs.{is_run, is_run_log}
 use Rattle.replay_workers.proofs.running.run_over.Goals as goal
@@ -66,7 +67,7 @@ settle-account-requires g c =
     let streams = c.args.streams.items in
     let share = share_of (vec_len c.args.streams) in
     let clients = c.in_ok-resolver.clients.items in
-    let lanes = c.turn_to_end.new.resolver.lanes in
+    let lanes = c.turn_to_end-occupancy.new.resolver.lanes in
     let worked = c.join_all-outcome.ensures.worked in
     let back = map (λ (f : Finished). f.client) (finished_of worked.0) in
     let same : length streams ≡ length clients = omega (arith, c.in_ok-resolver.ensures.proxies, c.len-proxies.ensures) in
@@ -75,7 +76,7 @@ settle-account-requires g c =
       clients = subst (λ (clients : List Client). AreClients lanes clients)
           (sym (c.as_mut_slice.ensures.value ∙ worked.2.clients))
           (clients_go_on c.in_ok-resolver.resolver.lanes lanes clients back c.in_ok-resolver.ensures.clients
-          c.turn_to_end.ensures.lanes (clients_back g.B.Batches.gives g.B.Batches.is_at_end g.B.Batches.is_at_fault g.B.Batches.stays c.args.options.style share 0 clients streams worked.0 same handed));
+          c.turn_to_end-occupancy.ensures.lanes (clients_back g.B.Batches.gives g.B.Batches.is_at_end g.B.Batches.is_at_fault g.B.Batches.stays c.args.options.style share 0 clients streams worked.0 same handed));
     }
 
 pub returns : goal.returns
@@ -86,13 +87,13 @@ returns g c =
     let worked = c.join_all-outcome.ensures.worked in
     let same : length streams ≡ length clients = omega (arith, c.in_ok-resolver.ensures.proxies, c.len-proxies.ensures) in
     let handed = subst (λ given. AllZip (HasWorkedOn g.B.Batches.gives g.B.Batches.is_at_end g.B.Batches.is_at_fault g.B.Batches.stays) given worked.0) c.in_ok-workers.ensures.given worked.1 in
-    let resolver = c.turn_to_end.new.resolver in
+    let resolver = c.turn_to_end-occupancy.new.resolver in
     let account = c.settle-account.result in
     let back = map (λ (f : Finished). f.client) (finished_of worked.0) in
     let kept : to_z w64 (of_z w64 c.args.options.window) ≡ c.args.options.window =
     first_of (search rules, grind (arith, ints, to_z-of_z)) in
-    let window_is = c.turn_to_end.ensures.goes_on.window ∙ c.in_ok-resolver.ensures.window ∙ kept in
-    let limit_is = c.turn_to_end.ensures.goes_on.limit ∙ c.in_ok-resolver.ensures.limit in
+    let window_is = c.turn_to_end-occupancy.ensures.goes_on.window ∙ c.in_ok-resolver.ensures.window ∙ kept in
+    let limit_is = c.turn_to_end-occupancy.ensures.goes_on.limit ∙ c.in_ok-resolver.ensures.limit in
     let handed_back = c.as_mut_slice.ensures.value ∙ worked.2.clients in
     let settled : (log : List Step) → StandsOver resolver log → Settled c.args.options.window log resolver.lanes back account =
     λ log stands. subst (λ (back : List Client). Settled c.args.options.window log resolver.lanes back account) handed_back
@@ -107,7 +108,7 @@ returns g c =
     let whole : account.stop ≡ None → account.complete ≡ true = λ none.
     c.settle-account.ensures.complete.1 (record {
       no_stop = sym c.settle-account.ensures.stop ∙ none;
-      closed = c.turn_to_end.ensures.closed;
+      closed = c.turn_to_end-occupancy.ensures.closed;
       taken = λ proxy client at.
           c.settle-account.ensures.ended proxy client at
           (all_ended proxy client (ap (λ (l : List Client). slice_get l proxy) (sym handed_back) ∙ at));
@@ -118,27 +119,40 @@ returns g c =
     (subst (λ (window : ℤ). IfSome account.stop (IsStopOf resolver.core.set.map.limit window log)) window_is
     (subst (λ (stop : Option Stop). IfSome stop (IsStopOf resolver.core.set.map.limit resolver.core.set.window log))
     (sym c.settle-account.ensures.stop) is)) in
-    let told = c.turn_to_end.ensures.accounted
+    let told = c.turn_to_end-occupancy.ensures.accounted
     (accounted_new c.in_ok-resolver.resolver c.in_ok-resolver.ensures.stands c.in_ok-resolver.ensures.no_stop) in
     let ran = is_run g.B.Batches.gives g.B.Batches.is_at_end g.B.Batches.is_at_fault g.B.Batches.stays c.args.options share streams clients worked.0 outcome c.join_all-outcome.result.1.items told.log resolver.lanes
     account same c.in_ok-resolver.ensures.new_clients handed worked.2 worked.3 (settled told.log told.stands) whole (met told.log told.met) in
+    let occupancy = c.turn_to_end-occupancy.result in
+    let Seen = g.O.Observer.has_seen c.turn_to_end-occupancy.new.observer in
+    let measured : g.O.Observer.has_seen c.args.observer.now []
+    → IsMeasuredRunOver g.B.Batches.gives g.B.Batches.is_at_end g.B.Batches.is_at_fault
+    (EndsAt g.B.Batches.stays c.join_all-outcome.result.1.items) Seen occupancy c.args.options streams
+    (map (vec_items {X = Line} {Z = Global}) outcome.lines.items) outcome.failures.items (is_complete outcome account) account.stop =
+    λ first.
+    let saw = c.turn_to_end-occupancy.ensures.measured c.in_ok-resolver.ensures.stands c.in_ok-resolver.ensures.no_stop first in
+    let log_is = is_run_log g.B.Batches.gives g.B.Batches.is_at_end g.B.Batches.is_at_fault g.B.Batches.stays c.args.options share streams clients worked.0 outcome c.join_all-outcome.result.1.items saw.log resolver.lanes
+    account same c.in_ok-resolver.ensures.new_clients handed worked.2 worked.3 (settled saw.log saw.stands) whole (met saw.log saw.met) in
+    record {
+      observed = record {
+        run = is_run g.B.Batches.gives g.B.Batches.is_at_end g.B.Batches.is_at_fault g.B.Batches.stays c.args.options share streams clients worked.0 outcome c.join_all-outcome.result.1.items saw.log resolver.lanes
+            account same c.in_ok-resolver.ensures.new_clients handed worked.2 worked.3 (settled saw.log saw.stands) whole
+            (met saw.log saw.met);
+        seen = subst (λ (log : List Step). HasSeen Seen account.stop c.args.options.window log) (sym log_is)
+            (subst (λ (window : ℤ). HasSeen Seen account.stop window saw.log) window_is
+            (subst (λ (stop : Option Stop). HasSeen Seen stop resolver.core.set.window saw.log)
+            (sym c.settle-account.ensures.stop) saw.seen));
+      };
+      occupied = subst (λ (log : List Step). IsOccupancyOf account.stop c.args.options.limit c.args.options.window log occupancy) (sym log_is)
+          (subst (λ (limit : ℕ). IsOccupancyOf account.stop limit c.args.options.window saw.log occupancy) limit_is
+          (subst (λ (window : ℤ). IsOccupancyOf account.stop resolver.core.set.map.limit window saw.log occupancy) window_is
+          (subst (λ (stop : Option Stop). IsOccupancyOf stop resolver.core.set.map.limit resolver.core.set.window saw.log occupancy)
+          (sym c.settle-account.ensures.stop) saw.occupied)));
+    } in
     record {
       run = ran;
-      observed = λ first.
-          let Seen = g.O.Observer.has_seen c.turn_to_end.new.observer in
-          let saw = c.turn_to_end.ensures.observed (observed_new (g.O.Observer.has_seen c.args.observer.now)
-          c.in_ok-resolver.resolver c.in_ok-resolver.ensures.stands c.in_ok-resolver.ensures.no_stop first) in
-          let log_is = is_run_log g.B.Batches.gives g.B.Batches.is_at_end g.B.Batches.is_at_fault g.B.Batches.stays c.args.options share streams clients worked.0 outcome c.join_all-outcome.result.1.items saw.log resolver.lanes
-          account same c.in_ok-resolver.ensures.new_clients handed worked.2 worked.3 (settled saw.log saw.stands) whole (met saw.log saw.met) in
-          record {
-            run = is_run g.B.Batches.gives g.B.Batches.is_at_end g.B.Batches.is_at_fault g.B.Batches.stays c.args.options share streams clients worked.0 outcome c.join_all-outcome.result.1.items saw.log resolver.lanes
-                account same c.in_ok-resolver.ensures.new_clients handed worked.2 worked.3 (settled saw.log saw.stands) whole
-                (met saw.log saw.met);
-            seen = subst (λ (log : List Step). HasSeen Seen account.stop c.args.options.window log) (sym log_is)
-                (subst (λ (window : ℤ). HasSeen Seen account.stop window saw.log) window_is
-                (subst (λ (stop : Option Stop). HasSeen Seen stop resolver.core.set.window saw.log)
-                (sym c.settle-account.ensures.stop) saw.seen));
-          };
+      observed = λ first. (measured first).observed;
+      measured = measured;
       streams = omega (
         arith,
         c.join_all-outcome.result.1.ok.0,
@@ -151,7 +165,7 @@ returns g c =
         length-map worked.0 (λ (w : Worked g.row.B.Denot). w.finished),
         c.args.streams.ok.0,
       );
-      setting = c.turn_to_end.ensures.setting;
+      setting = c.turn_to_end-occupancy.ensures.setting;
       capacity = subst (All (HasCapacity c.args.options.capacity))
           (sym (written_back outcome.clients.len now outcome.clients.items same_clients.count outcome.clients.ok.0))
           (capacities_stay c.args.options.capacity outcome.clients.items now same_clients

@@ -1,17 +1,18 @@
-use Rattle.std.proofs.Common.{◌≡◌}
+use Rattle.std.proofs.Common.{◌≡◌, None, []}
 use Rattle.resolver.specs.Core.{GoesOn}
 use Rattle.resolver.specs.Lanes.{Each, LanesGoOn}
-use Rattle.resolver.specs.Resolver.{IsResolving}
-use Rattle.replay_workers.specs.Stops.{IsAccountedFor, IsObserved}
+use Rattle.resolver.specs.Resolver.{IsResolving, StandsOver}
+use Rattle.replay_workers.specs.Occupied.{IsMeasured}
+use Rattle.replay_workers.specs.Stops.{IsAccountedFor}
 use Rattle.replay_workers.proofs.running.turn_to_end.Given as goal
 
 abbrev pub invariant-loop : goal.invariant-loop
 invariant-loop g l = record {
   resolving : IsResolving l.fn.resolver → IsResolving l.resolver;
   accounted : IsAccountedFor l.fn.resolver → IsAccountedFor l.resolver;
-  observed :
-      IsObserved (g.O.Observer.has_seen l.fn.observer) l.fn.resolver
-      → IsObserved (g.O.Observer.has_seen l.observer) l.resolver;
+  measured :
+      StandsOver l.fn.resolver [] → l.fn.resolver.core.stop ≡ None → g.O.Observer.has_seen l.fn.observer []
+      → IsMeasured (g.O.Observer.has_seen l.observer) l.occupancy l.resolver;
   setting : g.O.Observer.setting l.observer ≡ g.O.Observer.setting l.fn.observer;
   goes_on : GoesOn l.fn.resolver.core l.resolver.core;
   lanes : Each (λ _ l m. LanesGoOn l m) l.fn.resolver.lanes l.resolver.lanes;

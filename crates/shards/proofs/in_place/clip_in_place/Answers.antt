@@ -1,48 +1,35 @@
-use Rattle.std.proofs.Common.{◌≡◌, ◌≤◌, ◌∙◌, List, [], FitsSigned, w64, length, sym, ap, subst, rules, arith}
+use Rattle.std.proofs.Common.{◌≤◌, ◌∙◌, List, [], FitsSigned, w64, length, sym, ap, subst, rules, arith}
 use Rattle.std.specs.Prelude.{Option, IsSomeAnd}
 use Rattle.std.specs.List.{AllZip}
 use Rattle.std.proofs.lemmas.Int.{to_z-of_z}
-use Rattle.keys.specs.declared.range.Range.{Range}
 use Rattle.keyspace.specs.declared.batch.Batch.{Batch}
 use Rattle.keyspace.specs.declared.txn.Txn.{Txn}
-use Rattle.keyspace.specs.BatchRanges.{ranges_in}
 use Rattle.serial.specs.Shards.{Shard}
-use Rattle.shards.specs.declared.reach.Reach.{Reach}
 use Rattle.shards.specs.Clips.{IsClipped, IsTxnClip}
-use Rattle.shards.specs.Reach.{shard_at, IsReach}
+use Rattle.shards.specs.Reach.{shard_at}
 use Rattle.shards.proofs.ShardList.{length-shards, shard_get}
-use Rattle.shards.proofs.in_place.clip_in_place.Goals.{After-deref}
 use Rattle.shards.proofs.in_place.clip_in_place.Goals as goal
-
-zipped : (c : After-deref) → AllZip (IsReach c.args.points.now) (ranges_in c.args.batch.txns) c.deref.result.now
-zipped c =
-    subst (λ (found : List Reach). AllZip (IsReach c.args.points.now) (ranges_in c.args.batch.txns) found) (sym c.deref.ensures.value)
-    (subst (λ (ranges : List Range). AllZip (IsReach c.args.points.now) ranges c.in_ok-reaches.reaches.items) c.ranges-2.ensures.ranges
-    c.in_ok-reaches.ensures.reaches)
 
 pub clip_tables-requires-clause-txns : goal.clip_tables-requires-clause-txns
 clip_tables-requires-clause-txns c =
-    let at = goal.at.clip_tables-requires-clause-txns c in
     let batch = c.args.batch in
-    (batch.txns, c.into_tables.ensures.txns, batch.few, zipped at.After-deref)
+    (batch.txns, c.into_tables.ensures.txns, batch.few)
 
 pub into_txns-requires : goal.into_txns-requires
 into_txns-requires c =
-    let at = goal.at.into_txns-requires c in
     let batch = c.args.batch in
     record {
       built = (
         shard_at c.args.points.now c.args.shard,
         c.args.shard,
         batch.txns,
-        c.in_ok-tables.ensures.built batch.txns c.into_tables.ensures.txns batch.few (zipped at.After-deref),
+        c.in_ok-tables.ensures.built batch.txns c.into_tables.ensures.txns batch.few,
         batch.few,
       );
     }
 
 pub returns : goal.returns
 returns c =
-    let at = goal.at.returns c in
     let b = c.args.batch in
     let points = c.args.points.now in
     let m = c.args.shard in
@@ -51,8 +38,7 @@ returns c =
     let previous : FitsSigned w64 c.batch.inside.previous = search rules in
     let version : FitsSigned w64 c.batch.inside.version = search rules in
     let received : FitsSigned w64 c.batch.inside.received = search rules in
-    let made = c.in_ok-txns.ensures.clips shard m b.txns
-    (c.in_ok-tables.ensures.built b.txns c.into_tables.ensures.txns b.few (zipped at.After-deref)) in
+    let made = c.in_ok-txns.ensures.clips shard m b.txns (c.in_ok-tables.ensures.built b.txns c.into_tables.ensures.txns b.few) in
     record {
       clip = subst (λ (o : Option Shard). IsSomeAnd o (λ shard. IsClipped shard b (record { batch = c.new.result; reads = c.in_ok-txns.reads })))
           (sym (shard_get points m inside)) (record {

@@ -5,7 +5,9 @@ use Rattle.replay_output.specs.declared.failures.ProxyFailure.{ProxyFailure}
 use Rattle.replay_output.specs.declared.line.Line.{Line}
 use Rattle.replay_output.specs.Lines.{lines as lines_of}
 use Rattle.replay_output.specs.Failures.{NothingFailed}
-use Rattle.replay_workers.specs.Run.{IsRun, is_complete}
+use Rattle.replay_summary.specs.declared.occupancy.Occupancy.{Occupancy}
+use Rattle.replay_workers.specs.Occupied.{IsOccupancyOver}
+use Rattle.replay_workers.specs.Run.{IsMeasuredRun, is_complete}
 use Rattle.resolver.specs.declared.stop.Stop.{Stop}
 use Rattle.replay_output.specs.declared.failures.Ending.TheVariants.{Complete, Stopped}
 use Rattle.replay_output.specs.declared.status.Status.TheVariants.{Done}
@@ -13,7 +15,8 @@ use Rattle.replay_program.specs.Met.{TellsStop}
 use Rattle.replay_program.specs.Replayed.{written, Took, ending_of}
 use Rattle.replay_program.specs.Summarized.{BothFailed, run_summary}
 use Rattle.replay_program.proofs.Meeting.{has_met, is_failed, met_nothing, not_failed, tells_as}
-use Rattle.replay_program.proofs.Replaying.{ending_is, are_lines, is_replayed}
+use Rattle.replay_program.proofs.Measuring.{measured_for_any, occupied_over}
+use Rattle.replay_program.proofs.Replaying.{complete_from, ending_is, are_lines, is_replayed_over}
 use Rattle.replay_program.proofs.replay.beside.replay_and_summarize_over.Goals.{then-account, else-account}
 use Rattle.replay_program.proofs.replay.beside.replay_and_summarize_over.Goals as goal
 
@@ -53,12 +56,20 @@ returns g c =
       | else-account w ↦
           w.new-is ∙ w.if-account.false ∙ sym (ap (λ (b : Bool). b && outcome.all_sent) w.if-account.false)
     ] in
+    let occupancy = outcome.occupancy in
+    let of_any = measured_for_any options files (map (vec_items {X = Line} {Z = Global}) outcome.lines.items) outcome.failures.items
+    (is_complete outcome account) occupancy account.stop (c.in-Ok.ensures.measured (tt, c.new-reached.ensures.none)) in
     let of_lines = subst
-    (λ (l : List (Vec Line Global)). IsRun options files (map (vec_items {X = Line} {Z = Global}) l) outcome.failures.items (is_complete outcome account) account.stop)
-    (sym c.deref_mut.ensures.value) c.in-Ok.ensures.run in
-    let of_both = subst (λ (f : List ProxyFailure). IsRun options files received f (is_complete outcome account) account.stop)
+    (λ (l : List (Vec Line Global)). IsMeasuredRun (λ _. Unit {0}) occupancy options files (map (vec_items {X = Line} {Z = Global}) l) outcome.failures.items (is_complete outcome account) account.stop)
+    (sym c.deref_mut.ensures.value) of_any in
+    let of_both = subst
+    (λ (f : List ProxyFailure). IsMeasuredRun (λ _. Unit {0}) occupancy options files received f (is_complete outcome account) account.stop)
     (sym c.deref_mut-2.ensures.value) of_lines in
-    let run = subst (λ (b : Bool). IsRun options files received failures b account.stop) (sym whole) of_both in
+    let measured = subst (λ (b : Bool). IsMeasuredRun (λ _. Unit {0}) occupancy options files received failures b account.stop) (sym whole) of_both in
+    let run = measured.observed.run in
+    let over = λ (nothing : NothingFailed failures (ending_of complete account.stop)).
+    occupied_over options files received failures complete occupancy account.stop (λ _. Unit {0}) measured
+    (run.no_stop (complete_from complete account.stop nothing.complete)) in
     let ending = ending_is complete account.stop c.new-ending.result c.new-ending.ensures.ending in
     let report = c.print_with_summary-report.ensures in
     let out = written (g.O.Sink.given c.args.out.now) (g.O.Sink.given c.print_with_summary-report.new.out)
@@ -77,11 +88,12 @@ returns g c =
     tells_as error both.told c.new-ending.result s by both.lines_of_failures in
     record {
       done = λ is.
-          is_replayed options files received failures complete account.stop run
-          (λ answers. Took out (lines_of options.style answers) × Took beside (run_summary form answers))
-          c.answers_tell_verdicts.ensures.tell
-          (subst (λ (e : Ending). NothingFailed failures e) ending (report.nothing_failed is))
-          (report.done options.style are is);
+          let texts = report.done options.style are is in
+          let nothing = subst (λ (e : Ending). NothingFailed failures e) ending (report.nothing_failed is) in
+          is_replayed_over options files received failures complete account.stop run
+          (λ log answers. Took out (lines_of options.style answers)
+          × ((o : Occupancy) × IsOccupancyOver options.limit options.window log o × Took beside (run_summary form (Some o) answers)))
+          c.answers_tell_verdicts.ensures.tell nothing (texts.0, occupancy, over nothing, texts.1);
       quiet = report.quiet;
       failed = λ is.
           inr (record {
@@ -89,8 +101,9 @@ returns g c =
             failures = failures;
             complete = complete;
             stop = account.stop;
-            run = run;
-            failed = subst (λ (e : Ending). BothFailed form options.style received failures e out beside error) ending
+            occupancy = occupancy;
+            run = measured;
+            failed = subst (λ (e : Ending). BothFailed form (Some occupancy) options.style received failures e out beside error) ending
                 (report.failed options.style are is);
           });
       met = has_met options files (map (vec_items {X = Line} {Z = Global}) outcome.lines.items) outcome.failures.items

@@ -1,5 +1,5 @@
 use Rattle.std.proofs.Common.{◌≡◌, ◌≢◌, List, map, refl, ap, sym, subst, inl, inr, ◌∙◌, Vec, Global}
-use Rattle.std.specs.Prelude.{Option, Some, vec_items}
+use Rattle.std.specs.Prelude.{None, Option, Some, vec_items}
 use Rattle.resolver.specs.declared.stop.Stop.{Stop}
 use Rattle.replay_output.specs.declared.failures.Ending.{Ending}
 use Rattle.replay_output.specs.declared.failures.Ending.TheVariants.{Complete, Stopped}
@@ -78,7 +78,7 @@ returns g c =
       done = λ files read is.
           let done = sym status ∙ is in
           is_replayed_by_shards points options files combined (c.in-Ok.ensures.together files read) received failures lines_are failures_are
-          (λ together. Took out (lines_of options.style together) × Took beside (run_summary form together))
+          (λ together. Took out (lines_of options.style together) × Took beside (run_summary form None together))
           (c.in-Ok.ensures.resolved files read)
           (subst (λ (e : Ending). NothingFailed failures e) ending (report.nothing_failed done))
           (report.done options.style are done);
@@ -100,7 +100,7 @@ returns g c =
               complete = combined.complete;
               stop = stop;
               run = (lines_are, failures_are, refl, refl);
-              failed = subst (λ (e : Ending). BothFailed form options.style received failures e out beside so_far) ending
+              failed = subst (λ (e : Ending). BothFailed form None options.style received failures e out beside so_far) ending
                   (report.failed options.style are (sym status ∙ is));
             };
             named = named;

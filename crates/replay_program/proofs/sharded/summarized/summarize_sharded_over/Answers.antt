@@ -1,5 +1,5 @@
 use Rattle.std.proofs.Common.{◌≡◌, ℕ, [], List, map, refl, ap, sym, subst, inl, inr, ◌∙◌, arith, Vec, Global}
-use Rattle.std.specs.Prelude.{Err, OnOk, length, vec_items}
+use Rattle.std.specs.Prelude.{Err, None, OnOk, length, vec_items}
 use Rattle.std.proofs.lemmas.List.{length-map}
 use Rattle.keyspace.specs.declared.answer.Answer.{Answer}
 use Rattle.replay_output.specs.declared.failures.Ending.{Ending}
@@ -63,8 +63,8 @@ returns g c =
     let status = c.print_stopped.ensures.status in
     let are : AreLines options.style received =
     subst (λ (l : List (List Line)). AreLines options.style l) (sym lines_are) c.in-Ok.ensures.lines in
-    let alone : (λ (answers : List (List Answer)). with_ranges form (run_summary form answers) []) ≡ run_summary form =
-    λ i answers. no_ranges form (run_summary form answers) [] refl i in
+    let alone : (λ (answers : List (List Answer)). with_ranges form (run_summary form None answers) []) ≡ run_summary form None =
+    λ i answers. no_ranges form (run_summary form None answers) [] refl i in
     let lines = subst (λ (text : List (List Answer) → List ℕ). OnOk c.print_summary-report.result.printed (Took out (text (map answers_of received))))
     alone (report.lines options.style are) in
     let beginning = subst (λ (text : List (List Answer) → List ℕ). c.print_summary-report.result.printed ≡ Err print.Write
@@ -75,7 +75,7 @@ returns g c =
       done = λ files read is.
           let parts = report.done.0 (sym status ∙ is) in
           is_replayed_by_shards points options files combined (c.in-Ok.ensures.together files read) received failures lines_are failures_are
-          (λ together. Took out (run_summary form together)) (c.in-Ok.ensures.resolved files read)
+          (λ together. Took out (run_summary form None together)) (c.in-Ok.ensures.resolved files read)
           (subst (λ (e : Ending). NothingFailed failures e) ending parts.2)
           (held_ok c.print_summary-report.result.printed _ lines parts.0);
       quiet = λ is.
@@ -93,7 +93,7 @@ returns g c =
             failed = ran_as_and_failed received failures combined.complete stop (length files)
                 (received_count points options files combined runs received failures lines_are failures_are)
                 (failures_count points options files combined runs received failures lines_are failures_are) (AreAsCombined combined)
-                (lines_are, failures_are, refl, refl) (run_summary form) TakesToSummarize out so_far told
+                (lines_are, failures_are, refl, refl) (run_summary form None) TakesToSummarize out so_far told
                 c.print_summary-report.result.printed c.print_summary-report.result.told lines
                 (λ proxy memory. omega (
                   arith,

@@ -23,7 +23,7 @@ returns-in-Err-clause-failed g c = λ style are is.
     (g.T.Sink.failures c.args.summary.now.writer) (g.T.Sink.failures c.args.summary.now.writer) in
     let error = written (g.E.Sink.given c.args.error.now) (g.E.Sink.given c.report_loss.new.error)
     (g.E.Sink.failures c.args.error.now) (g.E.Sink.failures c.report_loss.new.error) in
-    both_lost c.args.summary.now.form style received c.args.failures.now c.args.ending out beside error c.in-Err.proxy
+    both_lost c.args.summary.now.form c.args.occupancy style received c.args.failures.now c.args.ending out beside error c.in-Err.proxy
     c.report_loss.new.failures c.report_loss.result.told (omega (arith, c.in-Err.ensures.proxy, count))
     (c.requires.proxies ∙ sym count) c.in-Err.ensures.takes report.loss report.failure_lines report.told.0 refl refl
 
@@ -42,7 +42,7 @@ returns-clause-done g c = λ style are is.
           c.print_and_flush-printed.ensures.whole) all.1,
       held c.write_and_flush-put.result
           (subst (λ (text : List ℕ). OnOk c.write_and_flush-put.result (Took beside text))
-          (c.deref.ensures.value ∙ c.in-Ok.ensures.text style are ∙ no_ranges form (run_summary form (map answers_of received)) [] refl)
+          (c.deref.ensures.value ∙ c.in-Ok.ensures.text style are ∙ no_ranges form (run_summary form c.args.occupancy (map answers_of received)) [] refl)
           c.write_and_flush-put.ensures.whole) all.2,
     )
 
@@ -61,9 +61,9 @@ returns-clause-failed g c = λ style are is.
     (g.E.Sink.failures c.args.error.now) (g.E.Sink.failures c.print_failures-told.new.error) in
     let answers_are : texts (map vec_items c.text_of.new.received) ≡ lines style (map answers_of received) =
     ap texts c.in-Ok.ensures.sorted ∙ texts_are_lines (line style) received (are_lines_by style received are) in
-    let summary_is : c.deref.result.now ≡ run_summary form (map answers_of received) =
-    c.deref.ensures.value ∙ c.in-Ok.ensures.text style are ∙ no_ranges form (run_summary form (map answers_of received)) [] refl in
-    both_failed form style received c.args.failures.now c.args.ending out beside error c.print_and_flush-printed.result
+    let summary_is : c.deref.result.now ≡ run_summary form c.args.occupancy (map answers_of received) =
+    c.deref.ensures.value ∙ c.in-Ok.ensures.text style are ∙ no_ranges form (run_summary form c.args.occupancy (map answers_of received)) [] refl in
+    both_failed form c.args.occupancy style received c.args.failures.now c.args.ending out beside error c.print_and_flush-printed.result
     c.write_and_flush-put.result c.print_failures-told.result
     (subst (λ (text : List ℕ). OnOk c.print_and_flush-printed.result (Took out text)) answers_are printed.whole)
     (subst (λ (text : List ℕ). OnErr c.print_and_flush-printed.result (TookBeginning out text)) answers_are printed.beginning) printed.failed

@@ -19,6 +19,6 @@ returns-in-Ok-clause-text c = λ style are.
     let received = map vec_items c.args.received.now in
     c.in-Ok.ensures.text
     ∙ ap (λ (summary : List ℕ). with_ranges c.args.form summary c.args.ranges.now)
-    (ap (λ (sorted : List (List Line)). text c.args.form (map (λ lines. summary_of (map counted_of_line lines)) sorted))
+    (ap (λ (sorted : List (List Line)). text c.args.form c.args.occupancy (map (λ lines. summary_of (map counted_of_line lines)) sorted))
     c.in_ok-sort_lines.ensures.ok
-    ∙ ap (text c.args.form) (counted_in_order summary_of style received are))
+    ∙ ap (text c.args.form c.args.occupancy) (counted_in_order summary_of style received are))

@@ -1,5 +1,4 @@
-use Rattle.std.proofs.Common.{◌≡◌, ◌≤◌, ◌<◌, ◌+◌, ◌-◌, ◌++◌, ◌∷◌, ◌∙◌, ℕ, List, [], FitsSigned, w64, length, take, drop, sym, ap, ap₂, subst, subst₂, rules, arith, length-append}
-use Rattle.std.specs.Prelude.{All}
+use Rattle.std.proofs.Common.{◌≡◌, ◌≤◌, ◌<◌, ◌+◌, ◌-◌, ◌++◌, ◌∷◌, ◌∙◌, ℕ, List, [], FitsSigned, w64, length, take, drop, sym, ap, subst, rules, arith, length-append}
 use Rattle.std.specs.List.{AllZip}
 use Rattle.std.proofs.lemmas.Int.{to_z-of_z}
 use Rattle.std.proofs.lemmas.List.{length-map}
@@ -7,18 +6,15 @@ use Rattle.std.proofs.lemmas.Slice.Zip.{AllZip-long}
 use Rattle.keyspace.specs.declared.txn.Txn.{Txn}
 use Rattle.keyspace.specs.Judge.{places_from}
 use Rattle.keyspace.specs.Putting.{ArePut}
-use Rattle.keyspace.specs.Tables.{txns_told, AreTables}
 use Rattle.keyspace.proofs.callers.Putting.{length-put, few_spans, length-told}
 use Rattle.serial.specs.Shards.{Shard}
 use Rattle.shards.specs.declared.reach.Reach.{Reach}
 use Rattle.shards.specs.Built.{IsBuilt, HasBounds, clips_of, clip_txn}
 use Rattle.shards.specs.Clips.{goes_to, read_indices}
-use Rattle.shards.specs.ReadIndices.{parts_from, AreIndices}
 use Rattle.shards.specs.Reach.{IsTold}
 use Rattle.shards.proofs.Appended.{bounds_kept}
-use Rattle.shards.proofs.BuiltTables.{zip_split, built_put, clip_put, indices_put}
+use Rattle.shards.proofs.BuiltTables.{zip_split, built_put}
 use Rattle.shards.proofs.ClipLists.{few_clips}
-use Rattle.shards.proofs.IndexLists.{indices_appended, places_below}
 use Rattle.shards.proofs.shard_tables.ShardTables.put.Goals.{Start, After-len, After-split_at, In_ok-put_clips-2}
 use Rattle.shards.proofs.shard_tables.ShardTables.put.Goals as goal
 
