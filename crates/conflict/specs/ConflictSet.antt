@@ -39,12 +39,12 @@ use Rattle.conflict.specs.declared.error.SetStop.TheVariants.{Memory, ArenaFull}
 use Rattle.conflict.specs.declared.when_full.WhenFull.{WhenFull}
 use Rattle.conflict.specs.declared.when_full.WhenFull.TheVariants.{Stop, Refuse}
 
--- why a set stops where its step map refuses
+-- why a set stops if its step map refuses
 abbrev pub stop_of : StepError → SetStop
 stop_of step.Memory = Memory
 stop_of step.Full = ArenaFull
 
--- why a set stops, if it does, where it doesn't resolve a batch for this reason
+-- why a set stops, if it does, when it doesn't resolve a batch for this reason
 abbrev pub stop_after : WhenFull → SetStop → Option SetStop
 stop_after Stop stop = Some stop
 stop_after Refuse Memory = Some Memory

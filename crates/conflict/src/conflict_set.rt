@@ -162,7 +162,7 @@ impl ConflictSet {
         self.resolved
     }
 
-    /// Returns the edge: what was written below this version is forgotten, or will be.
+    /// Returns the edge: writes below this version are forgotten, or will be.
     pub fn edge(&self) -> i64
         ensures edge { result ≡ self.now.map.edge }
     {
@@ -170,7 +170,7 @@ impl ConflictSet {
     }
 }
 
-// Returns the edge of a batch: its version minus the window, or 0 where that is negative.
+// Returns the edge of a batch: its version minus the window, or 0 if that is negative.
 fn edge_of(window: i64, batch: &Batch) -> i64
     requires least_window { pos 1 ≤ℤ window }
     requires most_window { window ≤ℤ MAX_WINDOW }
@@ -179,7 +179,7 @@ fn edge_of(window: i64, batch: &Batch) -> i64
     edge_at(window, batch.version)
 }
 
-// Returns the version minus the window, or 0 where that is negative.
+// Returns the version minus the window, or 0 if that is negative.
 fn edge_at(window: i64, version: i64) -> i64
     requires least_window { pos 1 ≤ℤ window }
     requires most_window { window ≤ℤ MAX_WINDOW }

@@ -8,7 +8,7 @@
 //! ranges covers, and `gaps` keeps those that earlier transactions wrote. What the batch commits is
 //! marked by `marking`, its `union` is gathered by begins, and `writing` writes that. `laws` ties
 //! these parts to the reference definitions. A set that starts at a version has one write of every
-//! key, by `unknown`, in place of what was written before.
+//! key, by `unknown`, instead of the writes before it.
 //!
 //! The layer above may use the contracts of [`ConflictSet`], which see it as its window, the
 //! greatest version resolved, its step map and its stop, and the laws of [`laws`].

@@ -108,7 +108,7 @@ pub fn write_batch(
     Ok(spans.len())
 }
 
-// Returns whether so many ranges are refused: they don't fit the limit, and the set doesn't stop
+// Returns whether this many ranges are refused: they don't fit the limit, and the set doesn't stop
 // for that.
 fn is_refused(steps: &StepMap, ranges: usize, edge: i64, when_full: WhenFull) -> bool
     requires raised { steps.now.edge ≤ℤ edge }

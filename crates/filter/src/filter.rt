@@ -179,7 +179,7 @@ impl Filter {
 }
 
 // Makes two cells of each of the first ones, in order and in place. It goes from the last of them
-// to the first, so that what it reads is as it was.
+// to the first, so that it overwrites no cell before it reads it.
 fn spread(cells: &mut [Cell], count: usize)
     requires room { length cells.old ≡ 2 * count }
     ensures twice { cells.new ≡ each_twice (take count cells.old) }

@@ -1,18 +1,18 @@
--- Whose batch goes first where all proxies wait for each other. This project's own.
+-- Whose batch goes first when all proxies wait for each other. This project's own.
 use Rattle.std.specs.Prelude.{◌≡◌, ◌≢◌, ℕ, ◌<◌, ◌<ℤ◌, ◌≤ℤ◌, List, Option, None, Some, slice_get}
 use Rattle.flow.specs.declared.next.Candidate.{Candidate}
 use Rattle.flow.specs.declared.told.Stand.{Stand}
 use Rattle.flow.specs.declared.told.Told.{Told}
 use Rattle.flow.specs.declared.told.Told.TheVariants.{Goes, Stands, Closed}
 
--- The proxy waits for others, where so many answers were sent to it: it stands and has received them all, or it sends no
+-- The proxy, to which `sent` answers were sent, waits for others: it stands and has received them all, or it sends no
 -- more.
 abbrev pub WaitsForOthers : Told → ℕ → Type 0
 WaitsForOthers Goes sent = ⊥
 WaitsForOthers (Stands stand) sent = stand.answered ≡ sent
 WaitsForOthers Closed sent = Unit {0}
 
--- all proxies wait for each other, by what each has told and how many answers were sent to it, at its number
+-- all proxies wait for each other, by the state of each and the number of answers sent to it
 abbrev pub AllWait : List Told → List ℕ → Type 0
 AllWait told sent =
     (proxy : ℕ) (state : Told) (count : ℕ) → slice_get told proxy ≡ Some state → slice_get sent proxy ≡ Some count →
@@ -43,7 +43,7 @@ pub record IsFirstBelow (n : ℕ) (told : List Told) (candidate : Candidate) : T
       (other : ℕ) (s : Stand) → other < candidate.proxy → slice_get told other ≡ Some (Stands s) →
       candidate.stand.previous <ℤ s.previous
 
--- there is a candidate where one of these stands
+-- there is a candidate if one of these stands
 abbrev pub HasFirst : ℕ → List Told → Option Candidate → Type 0
 HasFirst n told None = (proxy : ℕ) (stand : Stand) → proxy < n → slice_get told proxy ≢ Some (Stands stand)
 HasFirst n told (Some candidate) = IsFirstBelow n told candidate

@@ -1,6 +1,6 @@
 -- A proxy's share. This project's own.
 use Rattle.std.specs.Prelude.{ℕ, ◌-◌}
 
--- how many batches are unanswered, of so many sent, after so many answers
+-- the number of batches of those sent that aren't answered yet
 abbrev pub unanswered : ℕ → ℕ → ℕ
 unanswered sent answered = sent - answered

@@ -5,7 +5,7 @@ use Rattle.flow.specs.declared.place.Place.TheVariants.{Goes, Stands, Admitted, 
 use Rattle.flow.specs.declared.words.Words.{Words}
 use Rattle.flow.specs.declared.words.TheConstants.{GOES, STANDS, ADMITTED, CLOSED}
 
--- Each state is of one place. Where the proxy stands, the other two words are those of its batch.
+-- Each state is of one place. If the proxy stands, the other two words are those of its batch.
 abbrev pub Carries : Words → Place → Type 0
 Carries words Goes = words.state ≡ GOES
 Carries words (Stands stand) =

@@ -1,4 +1,4 @@
-//! Where a place lies, for two threads to load and store.
+//! The memory of a place, which two threads load and store.
 
 ghost use Rattle.flow.specs.declared.place.Place.{Place as PlaceValue};
 
@@ -6,7 +6,7 @@ use crate::place::Place;
 use crate::words::{STANDS, Words};
 use std::sync::atomic::{AtomicI64, AtomicU64, Ordering};
 
-/// Where a place lies. No clause can say what another thread has stored there. So contracts say
+/// The memory of a place. No clause can say what another thread has stored there. So contracts say
 /// what was loaded and stored, by two relations that only these calls give.
 pub trait PlaceCell {
     // A load of this cell gave the place.

@@ -1,13 +1,13 @@
-//! Flow control: how many batches of a proxy may be on their way, and which one goes first where
-//! all have used up their share.
+//! Flow control: how many batches of a proxy may be unanswered, and which batch goes first when all
+//! proxies have used up their share.
 //!
-//! A proxy sends freely while [`is_below_share`]. With a batch in hand and its share used up it
-//! *stands*, and tells so in a [`WaitingRoom`], which it shares with the thread that turns the
-//! resolver. Where all proxies wait for each other, [`next_through`] says whose batch is let
-//! through all the same. The rules of the room are those of a [`Place`], which two threads load and
-//! store in a [`PlaceCell`].
+//! A proxy sends freely while [`is_below_share`]. If it has a batch to send and its share is used
+//! up, it *stands*: it says so in a [`WaitingRoom`], which it shares with the thread that turns the
+//! resolver. If all proxies wait for each other, [`next_through`] says whose batch is admitted
+//! nevertheless. The rules of the room are those of a [`Place`], which two threads load and store in
+//! a [`PlaceCell`].
 //!
-//! The crate knows nothing of batches, lanes or the resolver, but for the numbers that they go by.
+//! The crate knows nothing about batches, lanes or the resolver except their numbers.
 //! Its definitions are in `specs/Share.antt`, `specs/Next.antt` and `specs/Words.antt`.
 #![tactic(auto)]
 

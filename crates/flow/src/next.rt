@@ -1,4 +1,4 @@
-//! Whose batch goes first where all proxies wait for each other.
+//! Whose batch goes first when all proxies wait for each other.
 
 ghost use Rattle.std.specs.Prelude.{◌≡◌, ◌+◌, ◌<ℤ◌, ◌≤ℤ◌, ◌↔◌, List, length, slice_get, IfSome};
 ghost use Rattle.std.specs.Prelude.{IsTrue, None, Some};
@@ -28,12 +28,12 @@ impl Candidate {
     }
 }
 
-/// Returns the proxy whose batch is to be let through. `told` is what each proxy tells, at its
-/// number, and `sent` how many answers were sent to it.
+/// Returns the proxy whose batch is to be admitted. At the number of each proxy, `told` is its
+/// state, and `sent` is the number of answers sent to it.
 ///
-/// There is one only where all wait for each other: each proxy has closed its lane, or stands and
-/// has received all answers that were sent to it. Of those that stand it is the one whose batch has
-/// the least previous version, among equals the one with the lowest number.
+/// There is one only if all wait for each other: each proxy has closed its lane, or stands and has
+/// received all answers that were sent to it. Of those that stand, it is the one whose batch has the
+/// least previous version, among equals the one with the lowest number.
 pub fn next_through(told: &[Told], sent: &[u64]) -> Option<usize>
     requires each { length told.now ≡ length sent.now }
     ensures some { IfSome result (λ proxy. AllWait told.now sent.now × IsNext told.now proxy) }
@@ -64,7 +64,7 @@ fn first_of(first: Option<Candidate>, proxy: usize, state: Told) -> Option<Candi
     }
 }
 
-// Returns whether a proxy to which so many answers were sent waits for others.
+// Returns whether a proxy to which this many answers were sent waits for others.
 fn waits_for_others(told: Told, sent: u64) -> bool
     ensures waits { IsTrue result ↔ WaitsForOthers told sent }
 {

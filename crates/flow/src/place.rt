@@ -23,8 +23,8 @@ impl Place {
     /// The proxy asks whether it may send the batch with which it stands. Returns what it stores,
     /// if anything, and whether it may send.
     ///
-    /// An admission serves one batch: a proxy that may send goes on, and has to ask again for its
-    /// next batch.
+    /// An admission serves one batch: a proxy that may send goes, and has to ask again for its next
+    /// batch.
     pub fn ask(self, stand: Stand) -> (Option<Place>, bool)
         ensures admitted { IsTrue result.1 ↔ (self ≡ Place.Admitted) }
         ensures goes { IsTrue result.1 → result.0 ≡ Some Place.Goes }
@@ -51,7 +51,7 @@ impl Place {
         }
     }
 
-    /// Returns what the turning thread is told by this place.
+    /// Returns the state of the proxy that this place shows the turning thread.
     pub fn told(self) -> Told
         ensures stands { (stand : InHand)
             → (result ≡ Told.Stands stand) ↔ (self ≡ Place.Stands stand) }

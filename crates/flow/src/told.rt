@@ -1,6 +1,6 @@
-//! What a proxy tells of itself.
+//! The state of a proxy, as it reports it.
 
-/// A batch in the hand of a proxy whose share is used up.
+/// The next batch of a proxy whose share is used up.
 #[derive(Clone, Copy, Debug, PartialEq, Eq)]
 pub struct Stand {
     /// The batch's previous version.
@@ -9,12 +9,12 @@ pub struct Stand {
     pub answered: u64,
 }
 
-/// What a proxy tells of itself.
+/// The state of a proxy, as it reports it.
 #[derive(Clone, Copy, Debug, PartialEq, Eq)]
 pub enum Told {
     /// It reads, sends or takes answers.
     Goes,
-    /// It has a batch in hand, and its share is used up.
+    /// It has a batch to send, and its share is used up.
     Stands(Stand),
     /// It sends no more.
     Closed,

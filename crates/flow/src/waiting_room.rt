@@ -1,4 +1,4 @@
-//! Where proxies tell that they stand, and are let through.
+//! The room in which proxies say that they stand, and are admitted.
 
 ghost use Rattle.std.specs.Prelude.{◌≡◌, ◌≢◌, ◌≤◌, ◌⊎◌, length, slice_get};
 ghost use Rattle.std.specs.Prelude.{IfOk, IfSome, IsTrue, IsFalse, Some};
@@ -11,12 +11,12 @@ use crate::told::{Stand, Told};
 use std::alloc::{AllocError, Global};
 use std::marker::Model;
 
-/// What proxies tell of themselves, in threads of their own, to the thread that turns the resolver.
-/// No call waits. Contracts see a room as its cells, each at its proxy's number.
+/// The states of proxies, which report them from their threads to the thread that turns the
+/// resolver. No call waits. Contracts see a room as its cells, each at its proxy's number.
 ///
 /// A proxy's calls are [`stands`](Self::stands) and [`closes`](Self::closes), from one thread. The
 /// turning thread's are [`told`](Self::told) and [`let_through`](Self::let_through), this only for
-/// a proxy that is told to stand and has received all answers that were sent to it.
+/// a proxy that is seen to stand and has received all answers that were sent to it.
 #[derive(Drop)]
 pub struct WaitingRoom<C = AtomicPlace> {
     cells: Vec<C>,
@@ -31,7 +31,7 @@ impl<C> Model for WaitingRoom<C> {
 }
 
 impl WaitingRoom<AtomicPlace> {
-    /// Creates a room with a place for each of so many proxies, all of which go.
+    /// Creates a room with a place for each of `proxies` proxies, all of which go.
     pub fn new(alloc: Global, proxies: usize) -> Result<Self, AllocError>
         ensures places { IfOk result (λ room. length room ≡ proxies) }
     {
@@ -44,10 +44,10 @@ impl WaitingRoom<AtomicPlace> {
 }
 
 impl<C: PlaceCell> WaitingRoom<C> {
-    /// Tells that the proxy stands, and returns whether it was let through. The proxy asks again
-    /// and again, until it was, or has received an answer.
+    /// Says that the proxy stands, and returns whether it is admitted. The proxy repeats the call
+    /// until it is, or until it has received an answer.
     ///
-    /// A proxy without a place is let through.
+    /// A proxy without a place is admitted.
     pub fn stands(&self, proxy: usize, stand: Stand) -> bool
         ensures no_place { length self.now ≤ proxy → IsTrue result }
         ensures admitted { (cell : C) → slice_get self.now proxy ≡ Some cell → IsTrue result
@@ -64,7 +64,7 @@ impl<C: PlaceCell> WaitingRoom<C> {
         is_admitted
     }
 
-    /// Tells that the proxy sends no more.
+    /// Says that the proxy sends no more.
     pub fn closes(&self, proxy: usize)
         ensures closed { (cell : C) → slice_get self.now proxy ≡ Some cell
             → C.was_stored cell Place.Closed }
@@ -74,7 +74,7 @@ impl<C: PlaceCell> WaitingRoom<C> {
         }
     }
 
-    /// Returns what the proxy has told. A proxy without a place goes.
+    /// Returns the state that the proxy reported. A proxy without a place goes.
     pub fn told(&self, proxy: usize) -> Told
         ensures no_place { length self.now ≤ proxy → result ≡ Told.Goes }
         ensures stands { (cell : C) (stand : InHand) → slice_get self.now proxy ≡ Some cell
@@ -90,7 +90,7 @@ impl<C: PlaceCell> WaitingRoom<C> {
         told_by(place)
     }
 
-    /// Lets the proxy's batch through, if the proxy stands.
+    /// Admits the proxy's batch, if the proxy stands.
     pub fn let_through(&self, proxy: usize)
         ensures admitted { (cell : C) → slice_get self.now proxy ≡ Some cell
             → (place : PlaceValue) × C.has_given cell place
@@ -102,7 +102,7 @@ impl<C: PlaceCell> WaitingRoom<C> {
     }
 }
 
-// Returns what the cell's proxy has told.
+// Returns the state that the cell's proxy reported.
 fn told_by<C: PlaceCell>(cell: &C) -> Told
     ensures stands { (stand : InHand) → result ≡ Told.Stands stand
         → C.has_given cell.now (Place.Stands stand) }

@@ -34,7 +34,7 @@ use Rattle.keyspace.specs.declared.reply.Reply.{Reply}
 use Rattle.keys.specs.Range.{Meets}
 use Rattle.keyspace.specs.Writes.{Write, earlier}
 
--- the batch's version minus the window, or 0 where that is negative
+-- the batch's version minus the window, or 0 if that is negative
 abbrev pub edge : ℤ → Batch → ℤ
 edge window b = int_max (b.version -ℤ window) (pos 0)
 

@@ -8,7 +8,7 @@ use Rattle.lane.specs.Moves.{count, is_send, is_take, is_port_look, is_intake_lo
 abbrev pub IsBeginning : {T : Type 0} → List T → List T → Type 0
 IsBeginning {T} xs ys = (rest : List T) × (ys ≡ xs ++ rest)
 
--- The logs of the port and of the intake are beginnings of one log, and each has all moves of its own
+-- The logs of the port and of the intake are beginnings of one log, and each has all moves of that
 -- end. That log has as many sends, takes and looks as there were. So an end can't say of a look that
 -- it came before a move of the other end which it came after.
 pub record OneLog (port intake : List Move) (sends port_looks takes intake_looks : ℕ) : Type 0 where

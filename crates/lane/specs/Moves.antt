@@ -40,8 +40,8 @@ sent_by log = count is_send log
 abbrev pub taken_by : List Move → ℕ
 taken_by log = count is_take log
 
--- An end makes this move, and its log goes on with it: behind the moves that were made before it,
--- by both ends.
+-- An end makes this move, and its log continues with it, after the moves that both ends made before
+-- it.
 pub record GoesOnBy (move : Move) (old new : List Move) : Type 0 where
   pub between : List Move
   pub log : new ≡ (old ++ between) ++ move ∷ []

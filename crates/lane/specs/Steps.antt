@@ -19,7 +19,7 @@ module _ {T : Type 0} where
   pub record HeadLooked (slots : ℕ) (old : Me (Option T) (Known T)) (found : ℕ) (new : Me (Option T) (Known T))
       : Type 0 where
     pub looked : new ≡ (record old.0 { port = port_looked old.0.port found new.0.port.log }, old.1)
-    -- the look is a move, before which so many items were taken
+    -- the look is a move, before which this many items were taken
     pub goes_on : GoesOnBy PortLook old.0.port.log new.0.port.log
     pub moves : found ≡ taken_by new.0.port.log
     pub rises : old.0.port.seen_taken ≤ found
@@ -71,7 +71,7 @@ module _ {T : Type 0} where
       (new : Me (Option T) (Known T)) : Type 0 where
     pub few : sent ≤ 2 ^ 62
     pub looked : new ≡ (record old.0 { intake = intake_looked old.0.intake sent closed new.0.intake.log }, old.1)
-    -- the look is a move, before which so many items were sent
+    -- the look is a move, before which this many items were sent
     pub goes_on : GoesOnBy IntakeLook old.0.intake.log new.0.intake.log
     pub moves : sent ≡ sent_by new.0.intake.log
     pub rises : old.0.intake.seen_sent ≤ sent

@@ -110,9 +110,9 @@ impl Resolver {
     /// An error is final: this and every later turn take no more, send the answers that the reply
     /// lanes accept, and return the same one.
     ///
-    /// `GateFull` first comes only where more batches of some proxy than its
-    /// [`share`](crate::share) were taken for which no answer was made. So it never comes where
-    /// each client never has more than the share of batches sent for which it has no answer.
+    /// `GateFull` first comes only if some proxy has more batches taken and unanswered than its
+    /// [`share`](crate::share). So it never comes if no client has more than its share of batches
+    /// sent and unanswered.
     pub fn turn(&mut self) -> Result<Turn, Stop>
         // The log that the resolver represents afterwards, from whichever version it started.
         ensures step { IfOk result (λ turn. StepsBy turn self.old self.new) }

@@ -1,4 +1,4 @@
-//! A copy of boundaries in memory of its own.
+//! A copy of boundaries in new memory.
 
 ghost use Rattle.std.specs.Prelude.{◌≡◌, ◌+◌, ◌<◌, ◌≤◌, negsuc, [], length, vec_capacity, All};
 ghost use Rattle.std.specs.Prelude.{IfOk, OnOk};

@@ -136,8 +136,8 @@ impl StepMap {
     }
 
     /// Answers for each query, in order, what `exceeds` returns for its range and its version. The
-    /// answers replace those that there are, and nothing but these takes memory. Several are looked
-    /// up side by side. After an error the answers are unspecified.
+    /// new answers replace the old ones, and only they take memory. Several queries are looked up
+    /// side by side. After an error the answers are unspecified.
     pub fn exceeds_each<L: QueryList>(
         &self,
         queries: &L,

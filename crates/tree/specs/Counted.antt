@@ -14,7 +14,7 @@ abbrev pub last_version : ℤ → List Item → ℤ
 last_version before [] = before
 last_version before (x ∷ xs) = last_version x.version xs
 
--- These items were counted, too: those that stay behind an item of the version before.
+-- These items were counted, too: those that stay after an item of the previous version.
 pub record IsCounted (edge : ℤ) (before : Unexpired) (items : List Item) (now : Unexpired) : Type 0 where
   pub count : now.count ≡ before.count + length (unexpired edge before.last items)
   pub last : now.last ≡ last_version before.last items

@@ -1,6 +1,6 @@
-//! A write into the leaf of the write before it: the writes of a batch come in the order of their
-//! keys, those of one leaf one after the other, so that one walk leads to it, and those that
-//! continue there need no other.
+//! A write into the leaf of the previous write. The writes of a batch come in the order of their
+//! keys, so those of one leaf are adjacent: one walk leads to the leaf, and the writes that continue
+//! there need no other.
 
 ghost use Rattle.std.specs.Prelude.{◌≡◌, MatchOption, IfSome, map};
 ghost use Rattle.tree.specs.Item.{item_of};

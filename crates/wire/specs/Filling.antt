@@ -6,6 +6,6 @@ use Rattle.std.specs.Io.KnownBytes.{Consumes}
 abbrev pub MovesInto : Option (List ℕ) → Option (List ℕ) → List ℕ → List ℕ → Type 0
 MovesInto old new held all = (bytes : List ℕ) × (all ≡ held ++ bytes) × Consumes old new bytes
 
--- fewer than so many bytes were taken, if the reader still reports its bytes
+-- fewer than this many bytes were taken, if the reader still reports its bytes
 abbrev pub TakesFewer : ℕ → Option (List ℕ) → Option (List ℕ) → Type 0
 TakesFewer most old new = IfSome new (λ _. (bytes : List ℕ) × (length bytes < most) × Consumes old new bytes)

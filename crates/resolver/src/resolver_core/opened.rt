@@ -1,5 +1,5 @@
-//! What a core that starts at a version keeps: the reply to the batch that stands for what was
-//! written before.
+//! What a core that starts at a version keeps: the reply to the batch that represents all earlier
+//! writes.
 
 ghost use Rattle.std.specs.Prelude.{◌≡◌, ◌≤ℤ◌, ℕ, ℤ, pos, negsuc, [], ◌∷◌, IfOk, IfErr};
 ghost use Rattle.keyspace.specs.declared.reply.Verdict.TheVariants.{Committed};
@@ -14,7 +14,7 @@ use chain::Replies;
 use keyspace::{Entry, Places, Reply, Sequence, Verdict};
 use std::alloc::{AllocError, Global};
 
-/// Returns the replies that a resolver with so many proxies keeps when it starts at the version:
+/// Returns the replies that a resolver with this many proxies keeps when it starts at the version:
 /// that to the opening batch, which no proxy can ask for, or none at -1.
 pub(super) fn replies_at(alloc: Global, proxies: usize, version: i64) -> Result<Replies, Stop>
     requires least_version { negsuc 0 ≤ℤ version }
