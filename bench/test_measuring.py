@@ -9,7 +9,7 @@ import unittest
 from collections import Counter
 
 import shapes
-from measuring import resolvers, results, rounds, workloads
+from measuring import processors, resolvers, results, rounds, workloads
 from measuring.programs import Program
 from measuring.rounds import Different, Rounds, Run
 from measuring.summary import Spread, percentile, ratios, spread
@@ -176,7 +176,19 @@ class SeveralResolvers(unittest.TestCase):
         cells = list(csv.DictReader(line for line in lines if not line.startswith('#')))
         self.assertEqual([(row['resolvers'], row['ratio_to_art_median'], row['extra_conflicts'], row['peak_mib']) for row in cells],
                          [('', '1.00', '0', '4.0'), ('1', '1.50', '0', '4.0'), ('2', '0.75', '2', '6.0')])
+        self.assertEqual([row['ratio_to_one_median'] for row in cells], ['0.75', '1.00', '0.50'])
         self.assertEqual(resolvers.table(rows).splitlines()[-1], 'replay-2  1.000 (1.000-1.000)  0.75 (0.50-1.00)  5          2')
+
+
+class Processors(unittest.TestCase):
+    def test_each_core_is_used_once_before_any_is_used_twice(self) -> None:
+        beside = {0: '0-1', 1: '0-1', 2: '2-3', 3: '2-3'}
+        apart = {0: '0,2', 1: '1,3', 2: '0,2', 3: '1,3'}
+        for cores, count, expected in (
+                (beside, 1, [0]), (beside, 2, [0, 2]), (beside, 3, [0, 1, 2]), (beside, 4, [0, 1, 2, 3]),
+                (apart, 2, [0, 1]), (apart, 3, [0, 1, 2]),
+                ({4: '4', 7: '7'}, 2, [4, 7]), ({3: '3', 1: '1'}, 1, [1])):
+            self.assertEqual(processors.chosen(cores, count), expected, (cores, count))
 
 
 if __name__ == '__main__':

@@ -20,12 +20,13 @@ WORDS = ('conflict', 'tooold', 'committed', 'empty')
 RANKS = {word: rank for rank, word in enumerate(WORDS)}
 ONE = 'replay-1'
 COLUMNS = ('workload', 'program', 'resolvers', 'batches', 'transactions', 'ranges', 'rounds',
-           *(f'{measure}_{part}' for measure in ('seconds', 'ratio_to_art', 'transactions_per_second')
+           *(f'{measure}_{part}' for measure in ('seconds', 'ratio_to_art', 'ratio_to_one', 'transactions_per_second')
              for part in ('median', 'least', 'greatest')),
            'peak_mib', 'committed', 'conflict', 'tooold', 'extra_conflicts')
 EXPLANATION = (
     'seconds: complete processes, standard output to a file; each measure has its median, least and greatest over the rounds',
     'ratio_to_art: seconds divided by those of the radix tree in the same round; below 1, replay is faster',
+    'ratio_to_one: seconds divided by those of one resolver in the same round',
     'extra_conflicts: conflicts beyond those of one resolver, which several resolvers report since each keeps the writes of '
     'transactions that others reject',
 )
@@ -103,6 +104,7 @@ class Row:
     ranges: int
     seconds: Spread
     ratio: Spread | None
+    to_one: Spread
     rounds: int
     peak_mib: float
     verdicts: Counter[str]
@@ -111,7 +113,8 @@ class Row:
     def cells(self) -> list[str]:
         """Returns the cells of its line."""
         rate = self.seconds.inverted(self.size[1])
-        parts = [*three(self.seconds, 3), *(three(self.ratio, 2) if self.ratio else ['', '', '']), *three(rate, 0)]
+        ratio = three(self.ratio, 2) if self.ratio else ['', '', '']
+        parts = [*three(self.seconds, 3), *ratio, *three(self.to_one, 2), *three(rate, 0)]
         counts = (str(self.verdicts[word]) for word in ('committed', 'conflict', 'tooold'))
         return [self.workload, self.program, '' if self.resolvers is None else str(self.resolvers), *map(str, self.size), str(self.ranges),
                 str(self.rounds), *parts, f'{self.peak_mib:.1f}', *counts, str(self.extra)]
@@ -145,7 +148,8 @@ def rows_of(workload: Workload, size: tuple[int, int], built: dict[str, Program]
     """Summarizes the rounds of each program."""
     seconds = {name: [run.seconds for run in own] for name, own in runs.items()}
     return [Row(workload.shape, name, getattr(program, 'resolvers', None), size, workload.ranges, spread(seconds[name]),
-                ratios(seconds[name], seconds['art']) if 'art' in seconds else None, len(runs[name]),
+                ratios(seconds[name], seconds['art']) if 'art' in seconds else None, ratios(seconds[name], seconds[ONE]),
+                len(runs[name]),
                 max(run.peak_mib for run in runs[name]), found[name], found[name]['conflict'] - found[ONE]['conflict'])
             for name, program in built.items()]
 
