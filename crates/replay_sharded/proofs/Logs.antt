@@ -24,7 +24,7 @@ use Rattle.replay_shards.specs.declared.note.Note.{Note}
 use Rattle.replay_sharded.specs.declared.shard_run.ShardRun.{ShardRun}
 use Rattle.replay_sharded.specs.Files.{IsFileOf, IsKnown, unread}
 use Rattle.replay_sharded.specs.Runs.{IsRunOfShard, lines_by}
-use Rattle.replay_sharded.specs.Sharded.{HasRead, HasReadFiles, HaveAllRead, IsLogOfShard, ShardLog}
+use Rattle.replay_sharded.specs.Sharded.{HasRead, HasReadFiles, HaveAllRead, ShardLog}
 use Rattle.replay_sharded.proofs.SameFile.{HasOneSpelling, same_batches}
 use Rattle.replay_sharded.proofs.Sizes.{some_shard}
 use Rattle.replay_sharded.proofs.Taking.{zip_length}
@@ -96,7 +96,7 @@ file_read options files shard run ran whole proxy file at =
       record { left = served.left.bytes; frames = batches.1; at_end = served.all_read all clean.0 },
       subst (λ (l : List Batch). AllZip (IsBatchClip shard) batches.0 l) all batches.2,
       subst (λ (l : List Note). IsSomeAnd (slice_get run.answered.items proxy) (λ answered. notes_by answered ≡ l)) batches.3
-      served.kept,
+          served.kept,
     )
 
 -- the log of a run, and its notes
