@@ -54,7 +54,8 @@ pub record HasRead (window : ℤ) (sent : List (List Batch)) (shard : Shard) (ow
 abbrev pub HasReadFiles : ℤ → List (Option (List ℕ)) → Shard → ShardLog → Type 0
 HasReadFiles window files shard own = (read : List (List Batch)) × AllZip IsFileOf files read × HasRead window read shard own
 
--- all shards have read the same batches of each file: these, each once, in order, and nothing else
+-- All shards have read the same batches of each file: these, each once, in order, and nothing else. It is so if nobody changes the files while
+-- they are read.
 pub record HaveAllRead (window : ℤ) (points : List (List ℕ)) (files : List (Option (List ℕ))) (logs : List ShardLog)
     (sent : List (List Batch)) : Type 0 where
   pub each_file : AllZip IsFileOf files sent
