@@ -18,7 +18,6 @@ pub fn metadata<F: Files>(_files: &F, name: &str) -> io::Result<Metadata> {
 pub struct OpenOptions(fs::OpenOptions);
 
 impl OpenOptions {
-    #[allow(clippy::new_without_default)]
     pub fn new() -> Self {
         OpenOptions(fs::OpenOptions::new())
     }
