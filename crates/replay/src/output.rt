@@ -1,5 +1,7 @@
 //! A file that is written.
 
+ghost use Rattle.std.specs.Prelude.{◌≡◌};
+
 use replay_program::{Recorder, RunReport, Status};
 use std::fs::File;
 use std::io;
