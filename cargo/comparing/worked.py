@@ -69,6 +69,24 @@ def shell_cases() -> list[Case]:
     return [Case(f"command line {number}", "worked rows", files, (run,)) for number, run in enumerate(answered + refused + shown)]
 
 
+def run_of(row: shell_rows.ShellRow) -> Run:
+    return Run("replay", row.args, expected=Outcome(row.status, row.out.encode(), row.err.encode()))
+
+
+def kept_cases() -> list[Case]:
+    """Files that are written: those that are read too are kept, and the others truncated."""
+    files = shelf() | shell_rows.POINTS
+    as_before = tuple(map(run_of, shell_rows.AS_BEFORE))
+    cases = []
+    for number, row in enumerate(shell_rows.KEPT):
+        run = Run("replay", row.args, stdin_file=row.stdin, expected=Outcome(1, b"", row.err.encode()))
+        links = (shell_rows.HARD_LINKS, shell_rows.SYMBOLIC_LINKS)
+        cases.append(Case(f"kept file {number}", "worked rows", files, (run, *as_before), *links))
+    for number, rows_in_turn in enumerate(shell_rows.TRUNCATED):
+        cases.append(Case(f"truncated file {number}", "worked rows", files, tuple(map(run_of, rows_in_turn))))
+    return cases
+
+
 def wire_cases() -> list[Case]:
     """The tables of docs/WIRE.md, after a right frame too."""
     cases = []
@@ -261,4 +279,4 @@ def full_cases() -> list[Case]:
 
 def fixed_cases() -> list[Case]:
     """All cases that aren't drawn."""
-    return row_cases() + shell_cases() + wire_cases() + json_cases() + subcommand_cases() + workload_cases() + short_cases() + full_cases() + example_cases()
+    return row_cases() + shell_cases() + kept_cases() + wire_cases() + json_cases() + subcommand_cases() + workload_cases() + short_cases() + full_cases() + example_cases()
