@@ -94,9 +94,11 @@ file_read options files shard run ran whole proxy file at =
     let batches = originals_of shard (unread file) served.left served.read served.frames_read in (
       batches.0,
       record { left = served.left.bytes; frames = batches.1; at_end = served.all_read all clean.0 },
-      subst (λ (l : List Batch). AllZip (IsBatchClip shard) batches.0 l) all batches.2,
-      subst (λ (l : List Note). IsSomeAnd (slice_get run.answered.items proxy) (λ answered. notes_by answered ≡ l)) batches.3
-          served.kept,
+      (
+        subst (λ (l : List Batch). AllZip (IsBatchClip shard) batches.0 l) all batches.2,
+        subst (λ (l : List Note). IsSomeAnd (slice_get run.answered.items proxy) (λ answered. notes_by answered ≡ l)) batches.3
+            served.kept,
+      ),
     )
 
 -- the log of a run, and its notes
