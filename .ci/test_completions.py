@@ -23,7 +23,7 @@ TOOL = Command(
     (
         Option(("--most",), NUMBER, False, "Things, from 1 to 9 [default: 5]"),
         Option(("-o", "--output"), PAGE, False, "It's the [page]: written"),
-        Option(("--order",), ORDER, True, "The order, once a FILE: rising, falling or as-given"),
+        Option(("--order",), ORDER, True, "The order, once per FILE: rising, falling or as-given"),
         Option(("--all",), None, False, "Sorts all"),
         Option(("-h", "--help"), None, False, "Print help"),
     ),
@@ -48,7 +48,7 @@ Options:
           It's the [page]: written
 
       --order <ORDER>
-          The order, once a FILE: rising, falling or as-given
+          The order, once per FILE: rising, falling or as-given
 
       --all
           Sorts all
@@ -70,7 +70,7 @@ Arguments:
 Options:
       --most <N>       Things, from 1 to 9 [default: 5]
   -o, --output <PAGE>  It's the [page]: written
-      --order <ORDER>  The order, once a FILE: rising, falling or as-given
+      --order <ORDER>  The order, once per FILE: rising, falling or as-given
       --all            Sorts all
   -h, --help           Print help (see more with '--help')
 """
@@ -81,7 +81,7 @@ Usage: tool [OPTIONS] <FILE>...
 
   --most <N>             Things, from 1 to 9 [default: 5]
   -o, --output <PAGE>    It's the [page]: written
-  --order <ORDER>        The order, once a FILE: rising, falling or as-given
+  --order <ORDER>        The order, once per FILE: rising, falling or as-given
   --all                  Sorts all
   <FILE>...              The files
   -h, --help             Print help

@@ -25,12 +25,12 @@ function __batches_place --description 'The command, and how many arguments of i
 end
 
 complete --command batches --condition "string match --quiet ' 0' (__batches_place)" --no-files
-complete --command batches --condition "string match --quiet ' 0' (__batches_place)" --arguments encode --description 'Reads JSON, one batch a line, and writes frames'
-complete --command batches --condition "string match --quiet ' 0' (__batches_place)" --arguments decode --description 'Reads frames and writes JSON, one batch a line'
+complete --command batches --condition "string match --quiet ' 0' (__batches_place)" --arguments encode --description 'Reads JSON, one batch per line, and writes frames'
+complete --command batches --condition "string match --quiet ' 0' (__batches_place)" --arguments decode --description 'Reads frames and writes JSON, one batch per line'
 complete --command batches --condition "string match --quiet ' 0' (__batches_place)" --arguments show --description 'Reads frames and prints them as a table for people'
 complete --command batches --condition "string match --quiet ' 0' (__batches_place)" --arguments opening --description 'Writes the frame of the batch that starts a chain at a version'
 complete --command batches --condition "string match --quiet ' 0' (__batches_place)" --arguments stats --description 'Reads frames of batches and prints what they add up to'
-complete --command batches --condition "string match --quiet ' 0' (__batches_place)" --arguments split-points --description 'Reads frames of batches and prints keys that split their ranges evenly, one a line'
+complete --command batches --condition "string match --quiet ' 0' (__batches_place)" --arguments split-points --description 'Reads frames of batches, prints keys that split their ranges evenly, one per line'
 complete --command batches --condition "string match --quiet ' 0' (__batches_place)" --arguments clip --description 'Reads frames of batches and writes those of one resolver\'s shard'
 complete --command batches --condition "string match --quiet ' 0' (__batches_place)" --arguments report --description 'Reads frames of batches and of their replies and writes a page of HTML'
 complete --command batches --condition "string match --quiet ' 0' (__batches_place)" --arguments help --description 'Print help, or that of a command'
@@ -57,7 +57,7 @@ complete --command batches --condition "string match --quiet 'stats *' (__batche
 complete --command batches --condition "string match --quiet 'stats *' (__batches_place)" --short-option h --long-option help --description 'Print help'
 complete --command batches --condition "string match --quiet 'split-points *' (__batches_place)" --long-option resolvers --exclusive --description 'How many resolvers share the keys, from 1 to 64'
 complete --command batches --condition "string match --quiet 'split-points *' (__batches_place)" --short-option h --long-option help --description 'Print help'
-complete --command batches --condition "string match --quiet 'clip *' (__batches_place)" --long-option split-points --require-parameter --force-files --description 'The file of the split points, one key a line'
+complete --command batches --condition "string match --quiet 'clip *' (__batches_place)" --long-option split-points --require-parameter --force-files --description 'The file of the split points, one key per line'
 complete --command batches --condition "string match --quiet 'clip *' (__batches_place)" --long-option shard --exclusive --description 'The number of the shard, from 0'
 complete --command batches --condition "string match --quiet 'clip *' (__batches_place)" --short-option h --long-option help --description 'Print help'
 complete --command batches --condition "string match --quiet 'clip *' (__batches_place)" --no-files

@@ -20,7 +20,7 @@ FORMS = (OPTION, ARGUMENT, COMMAND)
 CHOICE = re.compile(r"(?:.*: )?((?:[a-z][\w-]*, )*[a-z][\w-]* or [a-z][\w-]*)")
 POSSIBLE = re.compile(r" *\[possible values: ([^\]]*)\]")
 DEFAULT = re.compile(r" *\[default: [^\]]*\]")
-# The help of an option that may be repeated: `once a FILE`, `once for each`.
+# The help of an option that may be repeated: `once per FILE`, `once for each`.
 REPEATED = re.compile(r"\bonce (?:a|per|for)\b")
 # A name of one letter, or of two as in A..B, is that of a number.
 NUMBER = re.compile(r"[A-Z](?:\.\.[A-Z])?")

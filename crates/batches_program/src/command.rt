@@ -31,14 +31,14 @@ pub fn command<'a>(alloc: Global) -> Result<Command<'a>, AllocError> {
 
 fn encode<'a>(alloc: Global) -> Result<Command<'a>, AllocError> {
     Command::new(alloc, "encode")
-        .about("Reads JSON, one batch a line, and writes frames")
+        .about("Reads JSON, one batch per line, and writes frames")
         .arg(replies(alloc))?
         .arg(file(alloc))
 }
 
 fn decode<'a>(alloc: Global) -> Result<Command<'a>, AllocError> {
     Command::new(alloc, "decode")
-        .about("Reads frames and writes JSON, one batch a line")
+        .about("Reads frames and writes JSON, one batch per line")
         .arg(replies(alloc))?
         .arg(file(alloc))
 }
@@ -77,7 +77,7 @@ fn split_points<'a>(alloc: Global) -> Result<Command<'a>, AllocError> {
         "How many resolvers share the keys, from 1 to 64",
     );
     Command::new(alloc, "split-points")
-        .about("Reads frames of batches and prints keys that split their ranges evenly, one a line")
+        .about("Reads frames of batches, prints keys that split their ranges evenly, one per line")
         .arg(resolvers)?
         .arg(files(alloc))
 }
@@ -87,7 +87,7 @@ fn clip<'a>(alloc: Global) -> Result<Command<'a>, AllocError> {
         .long("split-points")
         .value_name("POINTS")
         .required(true)
-        .help("The file of the split points, one key a line");
+        .help("The file of the split points, one key per line");
     let parser = ValueParser::unsigned(0, MAX_SPLIT_POINTS as u64);
     let shard = number(alloc, "shard", "I", parser).help("The number of the shard, from 0");
     Command::new(alloc, "clip")

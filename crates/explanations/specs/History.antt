@@ -27,7 +27,7 @@ pub record DropsUpTo (edge : ℤ) (ps kept : List Processed) : Type 0 where
 abbrev pub Keeps : List Processed → HistoryState → Type 0
 Keeps ps h = DropsUpTo h.edge ps h.kept
 
--- the history is that of these batches, and at no later edge than the last of them
+-- the history is of these batches, and its edge is not above that of the last one
 pub record FollowsChain (h : HistoryState) (ps : List Processed) : Type 0 where
   pub keeps : Keeps ps h
   pub edge : IfSome (newest_of ps) (λ b. h.edge ≤ℤ edge h.window b)

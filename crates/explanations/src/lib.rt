@@ -6,8 +6,8 @@
 //! conflicts with, its origin, and the number of further ones. The [`laws`] say that it has an
 //! explanation exactly if the reference resolver finds the read range in conflict.
 //!
-//! `specs/` says, in reading order, what the writes of a chain are (`Written`), which of them
-//! explain a conflict (`Explains`), and what a history keeps (`History`).
+//! In reading order, `specs/` has the writes of a chain (`Written`), which of them explain a
+//! conflict (`Explains`), and what a history keeps (`History`).
 #![tactic(auto)]
 
 mod explanation;

@@ -10,9 +10,13 @@ ghost use Rattle.std.specs.Io.KnownBytes.{Appends, Keeps};
 ghost use Rattle.replay_output.specs.Start.{start_line};
 
 mod disk;
+mod known_files;
+mod output;
 mod progress;
 
 use disk::Disk;
+use known_files::KnownFiles;
+use output::finish;
 use replay_program::{StartError, Status, fail_to_start, run_in};
 use std::cell::Cell;
 use std::fs::{File, Files};
@@ -69,7 +73,8 @@ fn start<
         rt,
         input,
         terminal: Cell::new(terminal),
+        known: KnownFiles::new(rt.alloc()),
     };
     let report = run_in(rt, rt.alloc(), rt, &files, &mut StdSink::new(out), error);
-    report.status
+    finish(report)
 }

@@ -29,7 +29,7 @@ use Rattle.replay_arguments.specs.declared.arguments.CommandLine.{CommandLine}
 use Rattle.replay_arguments.specs.declared.arguments.task.Task.{Task}
 use Rattle.replay_arguments.specs.declared.arguments.task.Task.TheVariants.{Print, Explain, Summarize, Stream, Check}
 
--- The answers are to be printed once all batches were resolved, and nothing else.
+-- The command line asks to print the answers once all batches are resolved, and for nothing else.
 pub record AsksToPrint (rows : List Row) (form : Form) : Type 0 where
   pub printed : form ≢ Kept
   pub at_end : HoldsStream rows false

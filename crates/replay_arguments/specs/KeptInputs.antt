@@ -22,13 +22,12 @@ abbrev pub is_name : List ℕ → Option (List ℕ) → Bool
 is_name name None = false
 is_name name (Some other) = bytes_eq other name
 
--- whether a file of this name is read, as one of these files of batches or of replies, or as that of split points. That of standard input
--- names no file there.
+-- whether a file of this name is read: it is one of these files of batches or of replies, or that of split points, and `-` is none
 abbrev pub is_read : List (List ℕ) → List (List ℕ) → Option (List ℕ) → List ℕ → Bool
 is_read files replies points name =
     not (bytes_eq name standard_input) && (is_among name files || (is_among name replies || is_name name points))
 
--- the same of a name that may not be given
+-- the same for an optional name
 abbrev pub is_read_if_any : List (List ℕ) → List (List ℕ) → Option (List ℕ) → Option (List ℕ) → Bool
 is_read_if_any files replies points None = false
 is_read_if_any files replies points (Some name) = is_read files replies points name
@@ -39,12 +38,12 @@ writes_input files replies points output summary records =
     is_read_if_any files replies points output
     || (is_read_if_any files replies points summary || list_any (is_read files replies points) records)
 
--- whether the same is found
+-- the same for the names that are found
 abbrev pub has_written_input : List Row → Bool
 has_written_input rows =
     writes_input (named (all_of (codes "FILE") rows)) (named (all_of (codes "check") rows)) (first_of (codes "split-points") rows)
     (first_of (codes "output") rows) (first_of (codes "summary-to") rows) (named (all_of (codes "replies") rows))
 
--- no file that is found to be written is one that is read
+-- no file that is written is one that is read
 abbrev pub KeepsInputs : List Row → Type 0
 KeepsInputs rows = has_written_input rows ≡ false

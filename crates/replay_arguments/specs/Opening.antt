@@ -11,7 +11,7 @@ use Rattle.replay_arguments.specs.declared.opening.written.WrittenFile.TheVarian
 use Rattle.replay_output.specs.declared.start.StartError.TheVariants as start
 use Rattle.replay_output.specs.Start.{start_line}
 
--- the bytes of the files of these names, in their order, one file a name
+-- the bytes of the files of these names, in order, one per name
 abbrev pub contents_each : (List ℕ → Option (List ℕ)) → List (List ℕ) → List (Option (List ℕ))
 contents_each contents names = map contents names
 
@@ -22,7 +22,7 @@ pub record IsFirstRefused (has_opened cannot_open : List ℕ → Type 0) (names 
   pub before : All has_opened (take proxy names)
   pub refused : IfSome (slice_get names proxy) cannot_open
 
--- the line of standard error where the files were not opened
+-- the line of standard error if the files were not opened
 abbrev pub opening_line : OpeningError → List ℕ
 opening_line (opening.CannotOpen proxy) = codes "replay: proxy " ++ decimal proxy ++ codes ": cannot open\n"
 opening_line opening.Memory = start_line start.Memory
@@ -31,7 +31,7 @@ opening_line opening.Memory = start_line start.Memory
 abbrev pub replies_of : ℕ → List ℕ
 replies_of proxy = codes "replay: replies " ++ decimal proxy
 
--- the line of standard error where the files for records were not opened
+-- the line of standard error if the files for records were not opened
 abbrev pub creating_line : OpeningError → List ℕ
 creating_line (opening.CannotOpen proxy) = replies_of proxy ++ codes ": cannot open\n"
 creating_line opening.Memory = start_line start.Memory

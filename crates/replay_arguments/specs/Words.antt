@@ -1,4 +1,4 @@
--- What the words of a command line ask for: what the matches of the command hold.
+-- What the arguments ask for, by the matches that `clap` finds.
 use Rattle.std.specs.Prelude.{◌≡◌, ◌≢◌, ◌⊎◌, ℕ, ◌+◌, ◌≤◌, ℤ, pos, FitsSigned, Bool, true, if◌then◌else◌, List, [], ◌∷◌, ◌++◌, codes, false, length, IfSome, Option, None, Some, is_some, option_map, unwrap_or, ⊤}
 use Rattle.std.specs.Str.{bytes_eq}
 use Rattle.std.specs.Int.{w64}
@@ -171,7 +171,7 @@ pub record AsksForAll (rows : List Row) : Type 0 where
   pub only : first_of (codes "only") rows ≡ None
   pub versions : first_of (codes "versions") rows ≡ None
 
--- some filter is found, and no option asks for some lines only where answers are to be compared
+-- a filter is found, and if answers are to be compared, no option selects lines
 abbrev pub HasFilter : List Row → Type 0
 HasFilter rows = ((filter : Filter) × HoldsFilter rows filter)
     × (is_some (all_of (codes "check") rows) ≡ true → AsksForAll rows)
@@ -189,22 +189,22 @@ pub record HasReplies (files : ℕ) (rows : List Row) : Type 0 where
   pub found : all_of (codes "check") rows ≡ Some names
   pub as_many : length names ≡ files
 
--- where replies are to be checked, as many files of them are found as there are files
+-- if replies are to be checked, as many files of them are found as there are files
 abbrev pub HasRepliesEach : List Row → Type 0
 HasRepliesEach rows = is_some (all_of (codes "check") rows) ≡ true
     → IfSome (all_of (codes "FILE") rows) (λ names. HasReplies (length names) rows)
 
--- how many of these names are that of standard input
+-- the number of these names that are that of standard input
 abbrev pub count_inputs : List (List ℕ) → ℕ
 count_inputs [] = 0
 count_inputs (name ∷ names) = (if bytes_eq name standard_input then 1 else 0) + count_inputs names
 
--- the same of names that may not be given
+-- the same for optional names
 abbrev pub inputs_of : Option (List (List ℕ)) → ℕ
 inputs_of None = 0
 inputs_of (Some names) = count_inputs names
 
--- the same of one name that may not be given
+-- the same for an optional name
 abbrev pub inputs_in : Option (List ℕ) → ℕ
 inputs_in None = 0
 inputs_in (Some name) = count_inputs (name ∷ [])
@@ -233,13 +233,13 @@ pub record HasRecords (files : ℕ) (rows : List Row) : Type 0 where
   pub streamed : HoldsStream rows true
   pub as_many : length names ≡ files
 
--- the same where some are found
+-- the same if some are found
 abbrev pub HasRecordsEach : List Row → Type 0
 HasRecordsEach rows = is_some (all_of (codes "replies") rows) ≡ true
     → IfSome (all_of (codes "FILE") rows) (λ names. HasRecords (length names) rows)
 
--- The summary that is found to be asked for: its form is that of the lines in whose place it is printed. Lines of frames, and
--- replies that are kept, have no summary.
+-- The summary that is found to be asked for: its form is that of the lines that it replaces. Lines of frames, and replies
+-- that are kept, have no summary.
 abbrev pub summary_form : Form → Option SummaryForm
 summary_form Words = Some summaries.Words
 summary_form Json = Some summaries.Json
@@ -250,7 +250,7 @@ abbrev pub HoldsSummary : List Row → Form → Option SummaryForm → Type 0
 HoldsSummary rows form None = one_of (codes "summary") rows ≡ Some (bool_text false)
 HoldsSummary rows form (Some summary) = (one_of (codes "summary") rows ≡ Some (bool_text true)) × (summary_form form ≡ Some summary)
 
--- nothing is found beside a summary that says what to print in place of it
+-- beside a summary, nothing else is found that says what to print
 pub record IsAlone (rows : List Row) : Type 0 where
   pub frames : one_of (codes "frames") rows ≡ Some (bool_text false)
   pub check : is_some (all_of (codes "check") rows) ≡ false
@@ -353,9 +353,8 @@ pub record HoldsSharding (rows : List Row) (sharding : Sharding) : Type 0 where
 abbrev pub HasSharding : List Row → Type 0
 HasSharding rows = HasResolvers rows × ((sharding : Sharding) × HoldsSharding rows sharding)
 
--- What the options that are found ask to print is of no use: two forms, a filter that is none or beside a comparison, answers that are
--- to be compared as they come, a summary beside another option that says what to print, or explanations without lines of words or of
--- JSON.
+-- The options that say what to print contradict each other: two forms; a filter that isn't one, or beside a comparison; a comparison of
+-- streamed answers; a summary beside another form of output; or explanations without lines of words or JSON.
 pub data PrintsNothing (rows : List Row) : Type 0 where
   no_form : ¬ (HasForm rows) → PrintsNothing rows
   no_filter : ¬ (HasFilter rows) → PrintsNothing rows
@@ -363,9 +362,8 @@ pub data PrintsNothing (rows : List Row) : Type 0 where
   no_summary : ¬ (HasSummary rows) → PrintsNothing rows
   no_explanations : ¬ (HasExplain rows) → PrintsNothing rows
 
--- The names that are found are of no use: no files or too many, standard input twice, a file to be written that is also read,
--- other than one file of replies per file, or other than one file for records per file, or a file for the summary without answers alone,
--- as words or JSON, at the end.
+-- The names can't be used: no files or too many; standard input twice; a file that is both read and written; a number of files of replies
+-- or of records other than the number of files; or a file for the summary beside anything but answers in words or JSON at the end.
 pub data NamesNothing (rows : List Row) : Type 0 where
   no_files : ¬ (HasFiles rows) → NamesNothing rows
   no_input : ¬ (HasInputOnce rows) → NamesNothing rows
@@ -374,14 +372,13 @@ pub data NamesNothing (rows : List Row) : Type 0 where
   no_records : ¬ (HasRecordsEach rows) → NamesNothing rows
   no_summary_file : ¬ (HasSummaryFile rows) → NamesNothing rows
 
--- The details that are found are of no use: ranges without a summary that is printed, or neither that a failure is to be explained nor
--- that it isn't.
+-- The details can't be used: `--top` without `--summary`, or no value of `--verbose`.
 pub data DetailsNothing (rows : List Row) : Type 0 where
   no_top : ¬ (HasTop rows) → DetailsNothing rows
   no_verbose : ¬ (HasVerbose rows) → DetailsNothing rows
 
--- the arguments that are found are of no use: what to print, its details, the reports, the names, a number out of its range, or what several
--- resolvers can't have, or one
+-- the arguments can't be used: what to print, its details, the reports, the names, a number out of its range, or an option that several
+-- resolvers, or a single one, can't have
 pub data IsOfNoUse (rows : List Row) : Type 0 where
   no_printing : PrintsNothing rows → IsOfNoUse rows
   no_details : DetailsNothing rows → IsOfNoUse rows
@@ -390,6 +387,6 @@ pub data IsOfNoUse (rows : List Row) : Type 0 where
   no_names : NamesNothing rows → IsOfNoUse rows
   no_sharding : ¬ (HasSharding rows) → IsOfNoUse rows
 
--- The words are mistaken: `clap` finds a mistake, or else the arguments that it finds are of no use.
+-- The words are mistaken: `clap` finds a mistake, or else the arguments that it finds can't be used.
 abbrev pub IsMistaken : List (List ℕ) → Type 0
 IsMistaken words = ((kind : ErrorKind) × IsAmong kind (faults_of words) × IsMistake kind) ⊎ IsOfNoUse (rows_of_words words)

@@ -1,5 +1,4 @@
--- What a file contains, as far as it can be read: frames of batches, and what is at the position after them if it is no
--- frame of a batch. This project's own.
+-- What a file contains, as far as it can be read: frames of batches, and after them the end or something else. This project's own.
 use Rattle.std.specs.Prelude.{◌≡◌, ℕ, ◌+◌, ◌<◌, ◌≤◌, List, ◌∷◌, ◌++◌, length, Option, IfSome}
 use Rattle.std.specs.Io.KnownBytes.{Consumes}
 use Rattle.keyspace.specs.declared.batch.Batch.{Batch}
@@ -21,7 +20,7 @@ use Rattle.replay_diagnosis.specs.Following.{HasLeast}
 abbrev pub position_after : List ℕ → List Batch → Position
 position_after bytes batches = record { frame = length batches + 1; offset = length bytes }
 
--- something is left, and no frame of a batch is at the front
+-- bytes remain, and they don't begin with the frame of a batch
 abbrev pub HasNoBatch : List ℕ → Type 0
 HasNoBatch bytes = (fault : WireError) × IsFaultOf fault bytes
 
@@ -29,7 +28,7 @@ HasNoBatch bytes = (fault : WireError) × IsFaultOf fault bytes
 abbrev pub BeginsAsJson : List ℕ → Type 0
 BeginsAsJson bytes = (rest : List ℕ) × (bytes ≡ 123 ∷ rest)
 
--- the file of which these bytes are left at this position doesn't begin as JSON does
+-- at the start of the file, these bytes don't begin as JSON does
 abbrev pub IsNoJson : Position → List ℕ → Type 0
 IsNoJson position bytes = position.offset ≡ 0 → ¬ BeginsAsJson bytes
 
@@ -37,7 +36,8 @@ IsNoJson position bytes = position.offset ≡ 0 → ¬ BeginsAsJson bytes
 abbrev pub BeginsWithReply : List ℕ → Type 0
 BeginsWithReply bytes = (reply : Reply) × (first rest : List ℕ) × (bytes ≡ first ++ rest) × SpellsReply first reply
 
--- The bytes end inside a frame, of which this many are missing. If its length is incomplete, they are those of the length.
+-- The bytes end inside a frame, and this many of its bytes are missing. If the length itself is incomplete, the missing bytes are those of
+-- the length.
 pub record EndsInFrame (missing : ℕ) (bytes : List ℕ) : Type 0 where
   pub fault : IsFaultOf Short bytes
   pub some : 0 < missing
@@ -49,7 +49,7 @@ pub record IsNoFrame (fault : WireError) (bytes : List ℕ) : Type 0 where
   pub complete : frame_length bytes ≤ length bytes
   pub no_reply : (other : WireError) × IsReplyFaultOf other bytes
 
--- what a finding says of the bytes left at this position, where no frame of a batch is
+-- what a finding says about the bytes at this position, which don't begin with the frame of a batch
 abbrev pub IsFindingAt : Position → Option (List ℕ) → Finding → Type 0
 IsFindingAt position left found.Memory = Unit {0}
 IsFindingAt position left (found.Unreadable at) = at ≡ position

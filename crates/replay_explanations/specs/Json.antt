@@ -18,7 +18,7 @@ byte_json byte = flat_map escaped (byte_form byte)
 abbrev pub key_json : List ℕ → List ℕ
 key_json key = codes "\"" ++ flat_map byte_json key ++ codes "\""
 
--- a range: its begin and its end, which isn't in it
+-- a range: its begin, and its end, which is not included
 abbrev pub range_json : Range → List ℕ
 range_json range = codes "[" ++ key_json range.begin ++ codes "," ++ key_json range.end ++ codes "]"
 
@@ -37,7 +37,7 @@ abbrev pub origin_json : ℤ → Written → List ℕ
 origin_json version w = if int_eq w.version version then codes ",\"same_batch\":true}" else codes ",\"same_batch\":false}"
 
 -- the object of read range i of the transaction at index j of the batch of this version, given the newest write that explains it and the
--- number of the others
+-- number of other writes
 abbrev pub conflict_json : ℤ → ℕ → ℕ → Range → Option Written → ℕ → List ℕ
 conflict_json version j i range None others = []
 conflict_json version j i range (Some w) others =

@@ -45,7 +45,7 @@ newest [] = None
 newest (w ∷ []) = Some w
 newest (w ∷ x ∷ ws) = newest (x ∷ ws)
 
--- the line of read range i of the transaction at index j, given the newest write that explains it and the number of the others
+-- the line of read range i of the transaction at index j, given the newest write that explains it and the number of other writes
 abbrev pub conflict_line : ℤ → ℕ → ℕ → Range → Option Written → ℕ → List ℕ
 conflict_line version j i range None others = []
 conflict_line version j i range (Some w) others =
@@ -62,7 +62,7 @@ abbrev pub read_line : ExplanationForm → ℤ → ℕ → ℕ → Option Range 
 read_line form version j i None ws = []
 read_line form version j i (Some range) ws = conflict_text form version j i range (newest ws) (min (length ws - 1) (2 ^ 64 - 1))
 
--- the indices from one number on, so many
+-- the n indices from `first` on
 abbrev pub indices_from : ℕ → ℕ → List ℕ
 indices_from first zero = []
 indices_from first (suc n) = first ∷ indices_from (first + 1) n
@@ -72,7 +72,7 @@ abbrev pub asked_about : List ℕ → ℕ → List ℕ
 asked_about [] reads = indices_from 0 reads
 asked_about (place ∷ places) reads = place ∷ places
 
--- the lines of a conflicting transaction, which is the one at index j of this batch, the one processed last of these
+-- the lines of the conflicting transaction at index j of the batch that was processed last
 abbrev pub conflict_lines : ExplanationForm → List Processed → Batch → ℕ → Txn → List ℕ → List ℕ
 conflict_lines form ps b j t places =
     flat_map (λ i. read_line form b.version j i (slice_get t.reads i) (explaining ps b j i)) (asked_about places (length t.reads))

@@ -26,7 +26,7 @@ abbrev pub in_conflict : Range → Option Written → List InConflict
 in_conflict range None = []
 in_conflict range (Some w) = record { read = range; written = w.range } ∷ []
 
--- the same of a read range of the transaction at index j of this batch, the one processed last of these
+-- the same for a read range of the transaction at index j of the batch that was processed last
 abbrev pub conflict_of : List Processed → Batch → ℕ → Txn → Range → List InConflict
 conflict_of ps b j t range = in_conflict range (newest (explaining_range (all_written ps) b.version j t.snapshot (Some range)))
 
@@ -46,11 +46,11 @@ rejected_from ps b j (t ∷ ts) (e ∷ es) = rejected_by e.verdict (conflicts_of
 rejected_from ps b j [] es = []
 rejected_from ps b j (t ∷ ts) [] = []
 
--- those of the batch processed last of these
+-- those of the batch that was processed last
 abbrev pub rejected_last : List Processed → Processed → List (List InConflict)
 rejected_last ps p = rejected_from ps p.batch 0 p.batch.txns p.reply.entries
 
--- those of batches that were processed after others; each conflicts with writes of the batches up to it
+-- the conflicts of the later batches; each batch conflicts with writes of batches up to itself
 abbrev pub rejected_after : List Processed → List Processed → List (List InConflict)
 rejected_after before [] = []
 rejected_after before (p ∷ ps) = rejected_last (before ++ p ∷ []) p ++ rejected_after (before ++ p ∷ []) ps

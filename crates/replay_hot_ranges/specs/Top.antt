@@ -31,7 +31,7 @@ pub record IsTop (count : Ends → ℕ) (most : ℕ) (hot : List HotRange) : Typ
   pub counts : All (λ h. (h.conflicts ≡ count (ends_of h)) × (0 < h.conflicts)) hot
   -- so none is listed twice
   pub order : IsStrictlySortedBy row_cmp (map row_of hot)
-  -- each other range has the count 0, or comes after each of these, which then are as many as may be
+  -- any other range has the count 0, or comes after all of these; then as many as allowed are listed
   pub others : (ends : Ends) → Contains (map ends_of hot) ends
       ⊎ ((count ends ≡ 0) ⊎ ((length hot ≡ most) × All (λ h. row_cmp (row_of h) (ends, count ends) ≡ Less) hot))
 

@@ -5,8 +5,8 @@
 //! earlier transaction wrote it. [`HotRanges::top`] returns the ranges with the greatest counts,
 //! and [`hot_lines`] and [`hot_members`] print them. The [`laws`] say what the list promises.
 //!
-//! `specs/` says, in reading order, what the conflicts of a transaction are (`Conflicts`), how
-//! ranges are counted (`Counts`), which of them are listed (`Top`) and what is printed (`Text`).
+//! In reading order, `specs/` has the conflicts of a transaction (`Conflicts`), how ranges are
+//! counted (`Counts`), which of them are listed (`Top`) and the printed text (`Text`).
 //! `Tally` and `HotRanges` say what is kept.
 #![tactic(auto)]
 

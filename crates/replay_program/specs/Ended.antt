@@ -47,7 +47,7 @@ HasDifferences state_of files words report standard =
     × EndsAs line (LineFindsDifferences state_of files line report standard)
     (LineFindsDifferencesByShards state_of files line report standard)
 
--- The program has failed: memory was refused for the words, it has not shown help or the version, or what the words ask for has failed.
+-- The program failed: an allocation for the arguments failed, help or the version was not shown, or what the arguments ask for failed.
 abbrev pub IsFailed : {W : Type 0} → (W → SinkState) → RegularFiles → NamedFiles → List (List ℕ) → RunReport W → Written → Written → Type 0
 IsFailed state_of regular files words report standard error =
     HasNoMemory standard error

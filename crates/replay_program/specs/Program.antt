@@ -30,8 +30,8 @@ use Rattle.replay_program.specs.Verbose.{IsExplained}
 use Rattle.replay_stream.specs.declared.recorder.Recorder.{Recorder}
 use Rattle.replay_stream.specs.Sinks.{SinkState}
 
--- What files report, by their names: of one that is read, its bytes, and whether it was opened or can't be; of one that is written, what
--- its new writer was given, and whether it was created or can't be.
+-- What files report, by name. A file that is read: its bytes, and whether it was opened or can't be opened. A file that is written: the
+-- bytes that its new writer was given, and whether it was created or can't be created.
 pub record NamedFiles : Type 1 where
   pub contents : List ℕ → Option (List ℕ)
   pub has_opened : List ℕ → Type 0
@@ -78,7 +78,7 @@ pub record DidNotCreateFile (cannot_create : List ℕ → Type 0) (name : List �
   pub nothing_printed : out.after ≡ out.before
   pub told : Told error (written_line file file_error.CannotOpen)
 
--- this is what was written to a file: its new writer, which was given `begun`, has become this one
+-- `to` is what was written to a file: its new writer, which was given `begun`, has become `writer`
 pub record IsGiven {W : Type 0} (state_of : W → SinkState) (begun : Option (List ℕ)) (writer : Option W) (to : Written) :
     Type 0 where
   pub opened : W
@@ -146,7 +146,7 @@ FailsToCheck files options bytes replies out error =
     DidNotReadReplies files.has_opened files.cannot_open files.contents replies out error
     ⊎ (DidNotStart out error ⊎ FailsBeside files.contents options bytes replies out error)
 
--- Each of these files for records has its writer, at the number of its proxy, and no other proxy has one. Of each writer, the bytes
+-- Each of these files for records has its writer, at the number of its proxy, and no other proxy has one. A writer is seen as the bytes
 -- that it was given.
 pub record HaveWriters (begun : List ℕ → Option (List ℕ)) (names : List (List ℕ)) (writers : List (Option (Option (List ℕ))))
     : Type 0 where
@@ -161,8 +161,8 @@ pub record AreWriters {W : Type 0} (state_of : W → SinkState) (begun : List �
   pub count : length writers ≡ proxies
   pub of_files : HaveWriters begun records (map (option_map (λ (w : W). (state_of w).given)) writers)
 
--- These files were read and resolved. The lines are those of all answers that are shown. The records that the writers of the files of
--- these names were given, if there are any, are those of all answers: the recorders that have ended have these writers.
+-- These files were read and resolved. The lines are those of all answers that are shown. If files for records are named,
+-- their writers were given the records of all answers: the recorders that have ended have these writers.
 pub record StreamsFiles {W : Type 0} (state_of : W → SinkState) (begun : List ℕ → Option (List ℕ)) (options : Options)
     (bytes : List (Option (List ℕ))) (records : List (List ℕ)) (recorders : List (Option (Recorder W)))
     (before after : Option (List ℕ)) : Type 0 where
@@ -178,8 +178,8 @@ pub record DidNotCreate (has_created cannot_create : List ℕ → Type 0) (names
   pub nothing_printed : out.after ≡ out.before
   pub told : Told error (creating_line (opening.CannotOpen proxy))
 
--- These files were read and resolved, and something failed. The lines are those of the first answers to each proxy, each if it is
--- shown. The records that the writers of the files of these names were given, if there are any, are those of the first answers too.
+-- These files were read and resolved, and something failed. The lines are those of a prefix of the answers to each proxy,
+-- without those that a filter hides. So are the records, if files for them are named.
 pub record StreamsAndFails {W : Type 0} (state_of : W → SinkState) (begun : List ℕ → Option (List ℕ)) (options : Options)
     (bytes : List (Option (List ℕ))) (records : List (List ℕ)) (recorders : List (Option (Recorder W)))
     (out error : Written) : Type 0 where
@@ -250,8 +250,8 @@ DidNotCreateOutput files line standard error =
     All files.has_opened (texts line.files.items)
     × IsSomeAnd line.output (λ name. DidNotCreateFile files.cannot_create name.now Output standard error)
 
--- What a command line asks for has failed: a file of batches was not opened or that for the output not created, the run did not start, or
--- its task has failed.
+-- The command line failed in one of four ways: a file of batches was not opened, the file for the output was not created, the run did not
+-- start, or its task failed.
 abbrev pub LineFails : {W : Type 0} → (W → SinkState) → NamedFiles → CommandLine → RunReport W → Written → Written → Type 0
 LineFails state_of files line report standard error =
     DidNotOpen files.has_opened files.cannot_open (texts line.files.items) standard error
@@ -273,8 +273,8 @@ pub record LineFailsAndSays {W : Type 0} (state_of : W → SinkState) (files : N
   pub given : Option (List ℕ)
   pub failures : ℕ
   pub failed : LineFails state_of files line report standard (written error.before given error.failures_before failures)
-  -- what the run met: its stop and the version are those of a replay of these files, and the last of the fixed lines names the stop; if the
-  -- output has failed, so has its writer
+  -- The stop and the version are those that a replay of these files met, and the last of the fixed lines names the stop. If the output
+  -- failed, its writer failed.
   pub met :
       HasMet line.options (bytes_of files line) report.met
       (written error.before given error.failures_before failures)

@@ -77,7 +77,7 @@ ArePointsOf contents line points =
 abbrev pub irregular_line : ℕ → List ℕ
 irregular_line proxy = codes "replay: proxy " ++ (decimal proxy ++ codes ": not a regular file\n")
 
--- the first file that isn't a regular one, or that can't be opened; of split points and of memory nothing is said
+-- the first file that isn't a regular one, or that can't be opened; nothing is said about split points and memory
 abbrev pub IsWhyNotSharded : (List ℕ → Type 0) → (List ℕ → Type 0) → (List ℕ → Type 0) → (List ℕ → Type 0) → List (List ℕ)
     → ShardingError → Type 0
 IsWhyNotSharded is_regular is_irregular has_opened cannot_open names (why.Irregular proxy) =
@@ -196,8 +196,8 @@ LineFindsDifferencesByShards state_of files line report standard =
     OfPoints state_of files line report standard
     (λ points. FindsDifferencesByShards files points (bytes_of files line) line line.task)
 
--- What a command line asks for has failed: the files were not opened, that for the output was not created, the runs did not start, or the
--- task has failed.
+-- The command line failed in one of four ways: the files were not opened, the file for the output was not created, the runs did not start,
+-- or its task failed.
 abbrev pub LineFailsByShards : {W : Type 0} → (W → SinkState) → RegularFiles → NamedFiles → CommandLine → RunReport W → Written → Written
     → Type 0
 LineFailsByShards state_of regular files line report standard error =
@@ -212,8 +212,7 @@ pub record LineFailsAndSaysByShards {W : Type 0} (state_of : W → SinkState) (r
   pub given : Option (List ℕ)
   pub failures : ℕ
   pub failed : LineFailsByShards state_of regular files line report standard (written error.before given error.failures_before failures)
-  -- the stop, if there is one, was met by the runs of all shards, and the last of the fixed lines name it; if the output has failed, so has
-  -- its writer
+  -- The runs of all shards met the stop, if there is one, and the last of the fixed lines name it. If the output failed, its writer failed.
   pub met :
       IfSome report.met.stop
       (λ stop. (points : List (List ℕ)) × ArePointsOf files.contents line points

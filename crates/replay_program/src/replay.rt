@@ -20,8 +20,8 @@ mod beside;
 
 pub use beside::replay_and_summarize_over;
 
-/// Replays the files of these readers, of which each is that of the proxy at its place. Prints one
-/// line per answer to `out`, sorted, and one line a failure to `error`. After a fault of a file, a
+/// Replays the files of these readers, each of the proxy at its index. Prints one line per answer
+/// to `out`, sorted, and one line per failure to `error`. After a fault of a file, a
 /// failed read included, the lines of the frames before it remain, and the other files continue.
 ///
 /// A batch that is still held when all files have ended is answered `Held`. After a stop it isn't

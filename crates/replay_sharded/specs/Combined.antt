@@ -46,7 +46,7 @@ pub record AreTogether (runs : List ShardRun) (proxy : ℕ) (lines : List Line) 
   pub fault : failure.fault ≡ own.fault
   pub lost : own.lost ≡ true → failure.lost ≡ true
 
--- what the runs of all shards are together
+-- the runs of all shards, combined
 pub record AreCombined (style : Style) (runs : List ShardRun) (combined : Combined) : Type 0 where
   pub lines_count : (proxies : ℕ) → All (HasProxies proxies) runs → vec_len combined.lines ≡ proxies
   pub failures_count : (proxies : ℕ) → All (HasProxies proxies) runs → vec_len combined.failures ≡ proxies
@@ -77,7 +77,7 @@ pub record HasRoom (shards proxies : ℕ) (room : Room) : Type 0 where
   pub by_shard : shards ≤ vec_capacity room.failures_by_shard
   pub stops : shards ≤ vec_capacity room.stops
 
--- what was answered to the proxy was taken, and all else stays
+-- the answers to the proxy were taken, and the others stay
 pub record TakesOf (proxy : ℕ) (old new : ShardRun) : Type 0 where
   pub others : (other : ℕ) → other ≢ proxy → slice_get new.answered.items other ≡ slice_get old.answered.items other
   pub count : vec_len new.answered ≡ vec_len old.answered

@@ -51,6 +51,6 @@ module _ {S : Type 0} where
     pub failures : vec_len run.failures ≡ length clips
     pub kept : options.style.form ≡ Kept → All AreKept run.answered.items
 
-  -- what the thread of a shard was given
+  -- the arguments of the thread of a shard
   abbrev pub given_to : Started S → Options × List (Clips S)
   given_to shard = (shard.handle.promise.options, shard.handle.promise.clips.value.items)

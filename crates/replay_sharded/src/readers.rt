@@ -15,7 +15,7 @@ use std::sync::Arc;
 use wire::Source;
 
 /// The readers of all files once per shard, the split points between the shards, and a gatekeeper
-/// per shard. Each shard reads all files by itself.
+/// per shard. Each shard reads all files itself.
 #[derive(Drop)]
 pub struct ShardedReaders<S, G> {
     /// The readers of each shard, each at the number of its proxy.

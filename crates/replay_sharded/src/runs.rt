@@ -39,9 +39,9 @@ pub struct Started<S: Source> {
     handle: PromisedHandle<Result<ShardRun, StartError>, Promised<S>>,
 }
 
-/// Runs every shard in a thread of its own, and returns what became of them, in the order of the
-/// shards. Each has the clips of all files, and a gatekeeper. The answers are kept, whatever style
-/// the options have.
+/// Runs each shard in a new thread, and returns the results in the order of the shards. Each shard
+/// has the clips of all files, and a gatekeeper. The answers are kept, whatever style the options
+/// have.
 ///
 /// If the run of a shard can't start, the error is returned once the other runs have ended. If a
 /// thread can't be started, those before are not joined.

@@ -16,7 +16,7 @@ use std::alloc::{AllocError, Global};
 
 /// Combines the answers of all shards to one proxy. An answer is combined with the answers of the
 /// other shards of the same version: the first of a version with the first, the second with the
-/// second. One that another shard lacks, as after a stop, is left out. The answers and the notes of
+/// second. One that another shard lacks, as after a stop, is omitted. The answers and the notes of
 /// each shard are in the order of their versions.
 ///
 /// An error is that memory was refused.

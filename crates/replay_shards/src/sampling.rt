@@ -13,7 +13,7 @@ use shards::{BalanceError, SplitPoints, balanced};
 use std::alloc::{AllocError, Global};
 use wire::{Source, read_frames};
 
-/// At most this many ranges are sampled, but for the last batch of each file.
+/// At most this many ranges are sampled, not counting the last batch of each file.
 pub const SAMPLE: usize = 4_096;
 
 /// Computes split points that spread the first batches of these readers evenly over this many

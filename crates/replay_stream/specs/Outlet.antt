@@ -30,7 +30,7 @@ IsClosed None = Unit {0}
 IsClosed (Some records) = records.closed ≡ true
 
 -- The same outlet later. These answers to its proxy were printed, those after them were dropped, and all were passed on. None is
--- dropped while the outlet is whole, and none is printed once it isn't.
+-- dropped while the outlet works, and none is printed once it has failed.
 pub record OutletGoesOn (printed dropped : List Answer) (was is : Bool) (old new : Outlet) : Type 0 where
   pub replies : IntakeGoesOn old.replies new.replies
   pub proxy : new.proxy ≡ old.proxy

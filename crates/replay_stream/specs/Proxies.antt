@@ -18,7 +18,7 @@ use Rattle.replay_stream.specs.Recorder.{WritesRecords, is_refused, is_unwritten
 use Rattle.replay_stream.specs.Sender.{HasSent}
 use Rattle.replay_stream.specs.Sinks.{SinkState}
 
--- what a proxy is given: its client, the reader of its file, which of its transactions report, and the writer of its records, if there is
+-- the parts of a proxy: its client, the reader of its file, which of its transactions report, and the writer of its records, if there is
 -- one
 pub record GivenProxy (S W : Type 0) : Type 0 where
   pub proxy : ℕ

@@ -1,8 +1,8 @@
 //! A run whose answers are printed as they come.
 //!
-//! Each proxy has a sender, which reads its file and sends its batches in a thread of its own. If
-//! its answers are to be recorded, it has a recorder, which writes their records in another one.
-//! The thread that turns the resolver takes all answers, prints them and passes them on.
+//! Each proxy has a sender, a thread that reads its file and sends its batches. If its answers are
+//! to be recorded, it has a recorder, another thread that writes their records. The thread that
+//! turns the resolver takes all answers, prints them and passes them on.
 //!
 //! In reading order: `progress`, `sender`, `recorder`, `outlet`, `threads`, `streamed`, `proxies`,
 //! `running`. What a sender has done is `HasSent`, in `specs/Sender.antt`, and what a recorder has

@@ -24,17 +24,17 @@ impl Progress {
         self.answered.store(answered, Ordering::SeqCst);
     }
 
-    /// Tells that the proxy sends no more: its answers have ended, or its records can't be written.
+    /// Says that the proxy sends no more: its answers have ended, or its records can't be written.
     pub fn end(&self) {
         self.ended.store(true, Ordering::SeqCst);
     }
 
-    /// Returns how many answers were taken, by what was told last.
+    /// Returns the last reported number of answers taken.
     pub fn answered(&self) -> u64 {
         self.answered.load(Ordering::SeqCst)
     }
 
-    /// Returns whether it was told that the proxy sends no more.
+    /// Returns whether [`end`](Self::end) said that the proxy sends no more.
     pub fn has_ended(&self) -> bool {
         self.ended.load(Ordering::SeqCst)
     }

@@ -24,7 +24,7 @@ pub struct Recorder<W> {
 }
 
 /// Writes the records of answers to their end. After a record that can't be written it takes the
-/// answers that come, and drops them. If the writer has failed, the sender is told to send no more.
+/// answers that come, and drops them. If the writer has failed, the sender stops.
 pub fn record_all<W: Sink + Drop, R: Wait>(
     rt: &R,
     alloc: Global,

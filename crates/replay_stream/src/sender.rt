@@ -28,7 +28,7 @@ pub struct Sent {
     pub requests: Port<Batch>,
     /// The fault of the file, which ended it.
     pub fault: Option<WireError>,
-    /// The batch that was read last, if it was told to send no more, or the lane takes no more.
+    /// The batch that was read last, if the proxy was ended or the lane takes no more.
     pub unsent: Option<Batch>,
 }
 
@@ -43,11 +43,11 @@ struct Sender {
 }
 
 /// Sends the batches of the frames of a file, in order, up to the file's end or its fault, and
-/// closes the lane. Once it is told to, it sends no more. Their transactions ask for their reports
+/// closes the lane. Once the proxy is ended, it sends no more. Transactions ask for their reports
 /// as in the file, or all of them do.
 ///
-/// If as many of its batches are unanswered as its share, it stands: it sends the next one only if
-/// the gatekeeper lets it through, or once an answer was taken.
+/// If its share is used up, it stands: it sends the next batch only if the gatekeeper admits it, or
+/// once an answer was taken.
 pub fn send_all<S: Source + Drop, G: Gatekeeper + ShareKeeper, R: Wait>(
     rt: &R,
     alloc: Global,
@@ -158,7 +158,7 @@ impl Sender {
         unreachable!()
     }
 
-    // Tries once, after so many answers. A batch that the gatekeeper or the share holds back is
+    // Tries once, after `answered` answers. A batch that the gatekeeper or the share holds back is
     // refused as by a full lane.
     fn try_send<G: Gatekeeper + ShareKeeper>(
         &mut self,
@@ -183,8 +183,8 @@ impl Sender {
         Ok(())
     }
 
-    // Returns whether the batch may be sent now, after so many answers: it may where the share
-    // isn't used up, and else where the gatekeeper lets it through.
+    // Returns whether the batch may be sent now, after `answered` answers: it may if the share
+    // isn't used up, or else if the gatekeeper admits it.
     fn may_send<G: Gatekeeper + ShareKeeper>(
         &self,
         gatekeeper: &G,

@@ -20,7 +20,7 @@ pub struct Streamed<W> {
     pub recorders: Vec<Option<Recorder<W>>>,
     /// Whether a record could not be written.
     pub unwritten: Vec<bool>,
-    /// Every batch that was read was sent, but for those of proxies whose records could not be
+    /// Every batch that was read was sent, except those of proxies whose records could not be
     /// written.
     pub all_sent: bool,
     /// Standard output has failed: some lines were not printed.

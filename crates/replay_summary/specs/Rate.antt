@@ -10,15 +10,15 @@ use Rattle.replay_summary.specs.declared.summary.Summary.{Summary}
 abbrev pub tenths : ℕ → ℕ → ℕ
 tenths part whole = (1000 * part + whole / 2) / whole
 
--- so many tenths of a percent, in percent with one decimal
+-- tenths of a percent, in percent with one decimal
 abbrev pub percent : ℕ → List ℕ
 percent count = decimal (count / 10) ++ codes "." ++ decimal (count % 10)
 
--- how many percent of the transactions are in conflict
+-- the percentage of transactions that are in conflict
 abbrev pub conflict_percent : Summary → List ℕ
 conflict_percent s = percent (tenths s.conflict s.transactions)
 
--- the name of the rate and its unit behind it, or what is said if there is no transaction
+-- the name of the rate and then its unit, or the text if there is no transaction
 abbrev pub rate_between : List ℕ → List ℕ → List ℕ → Summary → List ℕ
 rate_between name unit none s = name ++ (if s.transactions == 0 then none else conflict_percent s ++ unit)
 
@@ -26,6 +26,6 @@ rate_between name unit none s = name ++ (if s.transactions == 0 then none else c
 abbrev pub rate_words : Summary → List ℕ
 rate_words = rate_between (codes ", conflict rate ") (codes " %") (codes "none")
 
--- the same as a member of an object
+-- the rate as a member of an object
 abbrev pub rate_member : Summary → List ℕ
 rate_member = rate_between (codes ",\"conflict_percent\":") [] (codes "null")

@@ -50,11 +50,11 @@ reply_versions cs = map (λ (c : Counted). c.version) (filter is_reply cs)
 abbrev pub has_reply : ℤ → List Counted → Bool
 has_reply version cs = list_any (int_eq version) (reply_versions cs)
 
--- a reply whose version no reply before it has
+-- a reply with another version than all earlier replies
 abbrev pub is_first : List Counted → Counted → Bool
 is_first before c = is_reply c && not (has_reply c.version before)
 
--- a reply whose version a reply before it has
+-- a reply with the version of an earlier reply
 abbrev pub is_repeat : List Counted → Counted → Bool
 is_repeat before c = is_reply c && has_reply c.version before
 

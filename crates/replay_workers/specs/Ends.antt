@@ -20,7 +20,7 @@ pub record SendsNothing (old new : Ends) : Type 0 where
   pub requests : new.requests ≡ old.requests
   pub most : new.most ≡ old.most
 
--- so many batches that these ends have sent are unanswered
+-- the number of batches that these ends have sent and that aren't answered yet
 abbrev pub unanswered_of : Ends → ℕ
 unanswered_of ends = unanswered (length ends.requests.sent) (length ends.replies.taken)
 

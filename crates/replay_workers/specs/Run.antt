@@ -89,7 +89,7 @@ module _ {X : Type 0} (Gives : X → X → Batch → Type 0) (IsEnd : X → Type
     pub lines_told : All (IsLineOf style proxy) lines
 
   -- What became of all streams, beside one log of the reference resolver. `received` and `failures` are of each proxy, at its number, and
-  -- what is true of the state that is left.
+  -- `Kept` holds of its state at the end.
   pub record IsRunOver (Kept : ℕ → X → Type 0) (options : Options) (streams : List X) (received : List (List Line))
       (failures : List ProxyFailure) (complete : Bool) (stop : Option Stop) : Type 0 where
     pub log : List Step

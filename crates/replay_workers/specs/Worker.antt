@@ -103,8 +103,8 @@ module _ {X : Type 0} (Gives : X → X → Batch → Type 0) (IsEnd : X → Type
 abbrev pub HasWorked : Style → ℕ → Option (List ℕ) → Client → Finished → Type 0
 HasWorked = HasWorkedOver TakesFrame IsAtEnd IsFaultAt (λ _. Unit {0})
 
--- From the client that was given to the one that is returned, no batch that nobody admitted was sent while the share was used
--- up: right after each other batch, so many batches at most were unanswered.
+-- From the client that was given to the one that is returned, no batch was sent without admission while the share was used
+-- up: right after each other batch, at most that many batches were unanswered.
 pub record IsWithinShare (assignment : Assignment) (given : Client) (finished : Finished) : Type 0 where
   pub from : finished.most_unanswered.given.value ≡ given
   pub to : finished.most_unanswered.left.value ≡ finished.client

@@ -16,10 +16,10 @@ pub trait Gatekeeper {
     fn answered(&self, proxy: usize, place: u64);
 }
 
-/// Keeps shares: says whose batch is let through where all have used up their share. The program's
-/// is a [`WaitingRoom`]. [`Unshared`] keeps none, for any [`Gatekeeper`].
+/// Keeps shares: says whose batch is admitted when all proxies have used up their share. The
+/// program's is a [`WaitingRoom`]. [`Unshared`] keeps none, for any [`Gatekeeper`].
 pub trait ShareKeeper {
-    // A proxy whose share is used up may send this batch all the same.
+    // A proxy whose share is used up may send this batch nevertheless.
     ghost lets_through: { Self → ℕ → InHand → Type 0 };
 
     /// Reports that the proxy stands with a batch ready, since its share is used up. Returns

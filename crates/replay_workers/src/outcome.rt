@@ -1,4 +1,4 @@
-//! What a run hands back.
+//! The result of a run.
 
 ghost use Rattle.std.specs.Prelude.{◌≡◌, ◌≤◌, ◌<◌, [], ◌∷◌, ◌++◌, true, vec_len, vec_capacity};
 ghost use Rattle.std.specs.Prelude.{IfOk};
@@ -9,7 +9,7 @@ use replay_summary::Occupancy;
 use resolver::Client;
 use std::alloc::{AllocError, Global};
 
-/// What the workers have handed back, each at its proxy's number, and how full the resolver was.
+/// What the workers have returned, each at its proxy's number, and how full the resolver was.
 #[derive(Drop)]
 pub struct Outcome {
     pub clients: Vec<Client>,

@@ -80,7 +80,7 @@ pub record IsBuilt (shard : Shard) (m : ℕ) (txns : List Txn) (tables : ShardTa
   pub indices : AreIndices tables.indices.items tables.ends.items
   pub reads : parts_from 0 tables.indices.items tables.ends.items ≡ map (read_indices shard) txns
 
--- From an index of the spans on, the rows tell these transactions.
+-- From an index of the spans on, the rows are those of these transactions.
 pub record AreLeft (buffer : List ℕ) (spans : List Span) (from : ℕ) (rows : List Row) (txns : List Txn) : Type 0 where
   pub told : txns_from buffer spans from rows ≡ map txn_fields txns
   pub fit : AreRows from rows (length spans)

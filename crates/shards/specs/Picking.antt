@@ -3,7 +3,7 @@ use Rattle.std.specs.Prelude.{◌≡◌, ℕ, List, ◌++◌, map, All}
 use denote.Ref.{Bor}
 use Rattle.keys.specs.Key.{IsBefore, IsAtMost}
 
--- the key behind each reference
+-- the key of each reference
 abbrev pub keys_of : List (Bor (List ℕ)) → List (List ℕ)
 keys_of refs = map (λ key. key.now) refs
 

@@ -7,8 +7,8 @@
 //! what that gives a database: the transactions that all shards commit are serializable. The crate
 //! has no threads and no state.
 //!
-//! `specs/` says, in reading order, what split points are and which ones are balanced, what a shard
-//! gets of a batch (`Clips`), and what the combined reply is (`Combined`).
+//! In reading order, `specs/` has split points and which ones are balanced, the part of a batch
+//! that a shard gets (`Clips`), and the combined reply (`Combined`).
 #![tactic(auto)]
 
 mod balancing;

@@ -128,8 +128,8 @@ impl ShardTables {
     }
 
     /// Appends the clip of the transaction of a row, whose spans begin at an index, and whose keys
-    /// lie in the buffer. After an error, which says that memory was refused, the tables are
-    /// unspecified, but for their buffer.
+    /// lie in the buffer. An error says that memory was refused. Then the tables are unspecified,
+    /// except for their buffer.
     pub fn keep(
         &mut self,
         shard: &ShardEnds<'_>,

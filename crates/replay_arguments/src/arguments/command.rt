@@ -139,7 +139,7 @@ fn split_points<'a>(alloc: Global) -> Arg<'a>
     Arg::new(alloc, "split-points")
         .long("split-points")
         .value_name("POINTS")
-        .help("With --resolvers, a file of the keys between their shards, one a line")
+        .help("With --resolvers, a file of the keys between their shards, one per line")
 }
 
 // An option `--name N`.
@@ -161,7 +161,7 @@ fn frames<'a>(alloc: Global) -> Arg<'a>
     Arg::new(alloc, "frames")
         .long("frames")
         .action(ArgAction::SetTrue)
-        .help("Prints each reply as its frame in hexadecimal, in place of words")
+        .help("Prints each reply as its frame in hexadecimal, instead of words")
 }
 
 fn json<'a>(alloc: Global) -> Arg<'a>
@@ -221,7 +221,7 @@ fn summary<'a>(alloc: Global) -> Arg<'a>
     Arg::new(alloc, "summary")
         .long("summary")
         .action(ArgAction::SetTrue)
-        .help("Prints a summary instead of the answers: one line per proxy and one for all")
+        .help("Prints a summary instead of the answers: per proxy, of all, and of the resolver")
 }
 
 fn check<'a>(alloc: Global) -> Arg<'a>
@@ -232,7 +232,7 @@ fn check<'a>(alloc: Global) -> Arg<'a>
         .long("check")
         .value_name("REPLIES")
         .action(ArgAction::Append)
-        .help("Compares with the reply frames of another resolver; once a FILE, in order")
+        .help("Compares with the reply frames of another resolver; once per FILE, in order")
 }
 
 fn stream<'a>(alloc: Global) -> Arg<'a>
@@ -253,7 +253,7 @@ fn replies<'a>(alloc: Global) -> Arg<'a>
         .long("replies")
         .value_name("OUT")
         .action(ArgAction::Append)
-        .help("With --stream, writes the records of answers to a file; once a FILE, in order")
+        .help("With --stream, writes the records of answers to a file; once per FILE, in order")
 }
 
 fn output<'a>(alloc: Global) -> Arg<'a>
@@ -305,7 +305,5 @@ fn file<'a>(alloc: Global) -> Arg<'a>
     Arg::new(alloc, "FILE")
         .action(ArgAction::Append)
         .required(true)
-        .help(
-            "Files of batch frames, from 1 to 64; the file at place p is proxy p, - is standard input",
-        )
+        .help("Files of batch frames, from 1 to 64; file p is that of proxy p, - is standard input")
 }

@@ -96,8 +96,8 @@ fn is_within(resolvers: usize) -> bool
     (1..=MAX_RESOLVERS).contains(&resolvers)
 }
 
-// Returns whether several resolvers can do what is asked for: their answers are combined once all
-// have answered, and no one of them knows all writes. Their clips report as the batches ask.
+// Returns whether several resolvers can do this task: their answers are combined once all have
+// answered, and no one of them knows all writes. Their clips report as the batches ask.
 fn are_shared(printing: Printing, details: Details, reports: Reports) -> bool
     ensures shared { IsTrue result ↔ ((printing.is_streamed ≡ false) × (printing.explains ≡ false)
         × (details.top ≡ None) × (reports ≡ Asked)) }
