@@ -52,7 +52,6 @@ weaker_found (Some finding) weaker holds = weaker finding holds
 pub found_as : (contents : List ℕ → Option (List ℕ)) (cannot_open : List ℕ → Type 0) (name : List ℕ) (finding : Finding)
     → FoundIn (contents name) finding → IsFoundIn contents cannot_open name finding
 found_as contents cannot_open name found.CannotOpen is = absurd is.next
-found_as contents cannot_open name found.Directory is = absurd is.next
 found_as contents cannot_open name found.StandardInput is = absurd is.next
 found_as contents cannot_open name found.Memory is = tt
 found_as contents cannot_open name (found.Unreadable at) is = is

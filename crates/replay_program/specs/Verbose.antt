@@ -32,7 +32,6 @@ AreExamined contents names least = (batches : List Batch) × HaveBatches content
 -- A finding is true of the file of this name. If memory was refused, nothing is said of its bytes.
 abbrev pub IsFoundIn : (List ℕ → Option (List ℕ)) → (List ℕ → Type 0) → List ℕ → Finding → Type 0
 IsFoundIn contents cannot_open name found.CannotOpen = cannot_open name
-IsFoundIn contents cannot_open name found.Directory = ⊥
 IsFoundIn contents cannot_open name found.StandardInput = name ≡ standard_input
 IsFoundIn contents cannot_open name found.Memory = Unit {0}
 IsFoundIn contents cannot_open name finding = FoundIn (contents name) finding
