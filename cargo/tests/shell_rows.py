@@ -479,10 +479,20 @@ TOPS = (
     ShellRow(("-o", "/dev/full", "--summary", "--top", "9", "first"), "", "", 1),
 )
 
-# Failures with one more line.
+FROM_100 = "  no batch follows version -1, so all are held: begin the chain with `batches opening --version 100`\n"
+FROM_200 = FROM_100.replace("100", "200")
+
+# Failures with one more line, and runs whose batches are all held.
 VERBOSE = (
     ShellRow(("--verbose", "first"), FIRST),
-    ShellRow(("--verbose", "second", "third"), "0 200 held\n1 300 held\n"),
+    ShellRow(("--verbose", "second", "third"), "0 200 held\n1 300 held\n", FROM_100),
+    ShellRow(("third", "--verbose", "--stream"), "0 300 held\n", FROM_200),
+    ShellRow(("--verbose", "--explain", "third", "second"), "0 300 held\n1 200 held\n", FROM_100),
+    ShellRow(("--verbose", "--check", "conflicts", "second"), "0 200 missing\nchecked 1 batches, 1 differences\n", FROM_100, 3),
+    ShellRow(("second", "first", "--verbose"), "0 200 conflict\n1 0 empty\n1 100 committed\n"),
+    ShellRow(("--verbose", "empty"), ""),
+    # Standard input can't be read again.
+    ShellRow(("--verbose", "second", "-"), "0 200 held\n1 300 held\n", stdin="third"),
     ShellRow(
         ("cut", "--verbose"),
         "0 0 empty\n",
