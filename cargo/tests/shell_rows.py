@@ -488,7 +488,7 @@ VERBOSE = (
     ShellRow(("--verbose", "second", "third"), "0 200 held\n1 300 held\n", FROM_100),
     ShellRow(("third", "--verbose", "--stream"), "0 300 held\n", FROM_200),
     ShellRow(("--verbose", "--explain", "third", "second"), "0 300 held\n1 200 held\n", FROM_100),
-    ShellRow(("--verbose", "--check", "conflicts", "second"), "0 200 missing\nchecked 1 batches, 1 differences\n", FROM_100, 3),
+    ShellRow(("--verbose", "--check", "conflicts", "second"), "0 200 unexpected\nchecked 1 batches, 1 differences\n", FROM_100, 3),
     ShellRow(("second", "first", "--verbose"), "0 200 conflict\n1 0 empty\n1 100 committed\n"),
     ShellRow(("--verbose", "empty"), ""),
     # Standard input can't be read again.
