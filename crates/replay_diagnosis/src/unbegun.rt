@@ -29,13 +29,15 @@ pub fn examine_unbegun<R: Source>(alloc: Global, reader: &mut R, most: usize) ->
         let Ok(next) = next_batch(alloc, SOMEWHERE, reader, &mut frame) else {
             return None;
         };
-        let Some(batch) = next else {
-            return Some(batches);
-        };
-        if batch.previous == BEGINNING {
-            return None;
+        match next {
+            Some(batch) => {
+                if batch.previous == BEGINNING {
+                    return None;
+                }
+                batches.add(&batch);
+            }
+            None => return Some(batches),
         }
-        batches.add(&batch);
     }
     None
 }

@@ -19,8 +19,8 @@ loop-preserved g c =
     frames_more (g.R.Source.remaining c.args.reader.now) now next c.loop.batches c.add.new.self frame c.in-Some.batch c.loop.invariant
     taken.0 taken.1 c.add.ensures.added
 
-pub returns-in_default-2 : goal.returns-in_default-2
-returns-in_default-2 g c =
+pub returns-in-None : goal.returns-in-None
+returns-in-None g c =
     let left = g.R.Source.remaining c.args.reader.now in
     let now = g.R.Source.remaining c.loop.reader in
     let next = g.R.Source.remaining c.next_batch.new.reader in
