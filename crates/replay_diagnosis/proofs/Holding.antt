@@ -1,5 +1,5 @@
 -- Over a log in which no batch follows version -1, the reference resolver holds every batch.
-use Rattle.std.proofs.Common.{◌≡◌, ◌≢◌, ℕ, zero, suc, Bool, true, false, cond, List, [], ◌∷◌, ◌++◌, length, Option, None, Some, refl, sym, ap, subst, ◌∙◌, arith}
+use Rattle.std.proofs.Common.{◌≡◌, ◌≢◌, ℕ, zero, suc, Bool, true, false, cond, List, [], ◌∷◌, length, Option, None, Some, refl, sym, ap, subst, ◌∙◌, arith}
 use Rattle.std.specs.Prelude.{ℤ, pos, negsuc, ◌≤ℤ◌, int_lt, int_le, ◌==◌, IfSome}
 use Rattle.std.specs.List.{AllByRecursion}
 use Rattle.std.proofs.lemmas.Bool.{eq-eqb, false≢true}
@@ -7,7 +7,7 @@ use Rattle.std.proofs.lemmas.Int.{ints}
 use Rattle.keyspace.specs.declared.batch.Batch.{Batch}
 use Rattle.keyspace.specs.Leaving.{Held, first_or, if_due, least_first, next_due}
 use Rattle.keyspace.specs.Processed.{Processed, version_of}
-use Rattle.keyspace.specs.Run.{State, Step, Take, Finish, admit, hold, leave, leave_all, leave_then, part, run_from, step}
+use Rattle.keyspace.specs.Run.{State, Step, Take, Finish, admit, hold, leave, leave_then, part, run_from, step}
 use Rattle.replay_diagnosis.specs.Following.{NoneBegins}
 use Rattle.replay_diagnosis.proofs.Following.{all_both}
 
@@ -30,16 +30,19 @@ isnt_below b later =
     let is = natural b.previous b.previous_from later in
     ap (λ (v : ℤ). int_le v (negsuc 0)) is.1
 
-first_is : (h : Held) (hs : List Held) (o : Option (Held × List Held)) → IsLater h → IfSome o (λ l. IsLater l.0)
-    → IfSome (first_or h hs o) (λ l. IsLater l.0)
+-- the batch that leaves first begins no chain, if there is one
+abbrev LeavesLater : Option (Held × List Held) → Type 0
+LeavesLater o = IfSome {T = Held × List Held} o (λ l. IsLater l.0)
+
+first_is : (h : Held) (hs : List Held) (o : Option (Held × List Held)) → IsLater h → LeavesLater o → LeavesLater (first_or h hs o)
 first_is h hs None here rest = here
 first_is h hs (Some l) here rest = go (int_lt l.0.1.previous h.1.previous)
   where
-    go : (b : Bool) → IfSome (cond b (Some (l.0, h ∷ l.1)) (Some (h, hs))) (λ l. IsLater l.0)
+    go : (b : Bool) → LeavesLater (cond b (Some (l.0, h ∷ l.1)) (Some (h, hs)))
     go true = rest
     go false = here
 
-least_is : (hs : List Held) → AllByRecursion IsLater hs → IfSome (least_first hs) (λ l. IsLater l.0)
+least_is : (hs : List Held) → AllByRecursion IsLater hs → LeavesLater (least_first hs)
 least_is [] all = tt
 least_is (h ∷ hs) all = first_is h hs (least_first hs) all.0 (least_is hs all.1)
 
@@ -47,7 +50,7 @@ least_is (h ∷ hs) all = first_is h hs (least_first hs) all.0 (least_is hs all.
 none_due : (hs : List Held) → AllByRecursion IsLater hs → next_due (negsuc 0) hs ≡ None
 none_due hs all = go (least_first hs) (least_is hs all)
   where
-    go : (o : Option (Held × List Held)) → IfSome o (λ l. IsLater l.0) → if_due (negsuc 0) o ≡ None
+    go : (o : Option (Held × List Held)) → LeavesLater o → if_due (negsuc 0) o ≡ None
     go None later = refl
     go (Some l) later = ap (λ b. cond b (Some l) None) (isnt_below l.0.1 later)
 
