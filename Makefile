@@ -43,11 +43,13 @@ rust-package: rust
 library-unproved:
 	cargo/library
 
-# Tests the Cargo edition in two minutes, without the Rattle toolchain: the eraser, the programs beside what the documents say, the crates.
+# Tests the Cargo edition in two minutes, without the Rattle toolchain: the eraser, the programs beside what the documents say, the crates,
+# and the crate archcaraway beside `replay --resolvers`.
 quick-test: quick
 	cd cargo && python3 -m unittest discover --quiet --pattern 'test_*.py'
 	cargo/compare --alone
 	cargo/test
+	.ci/resolvers-test out/quick/tests/release/examples/resolvers
 
 # After `make quick` and `make test`, compares the Cargo edition with the proved programs: the worked rows, the examples and 2,000 drawn
 # cases. If the proved programs are not there, it says so, and compares with what the documents say alone.

@@ -97,6 +97,7 @@ class Report(unittest.TestCase):
         files = self.encode("batches", batches), "--replies", self.encode("replies", replies, "--replies")
         run = subprocess.run([BATCHES, "report", *files], stdout=subprocess.PIPE, check=True, timeout=60)
         page = self.folder / "page.html"
+        page.write_bytes(run.stdout + b"bytes from before")
         subprocess.run([BATCHES, "report", *files, "-o", page], check=True, timeout=60)
         self.assertEqual(page.read_bytes(), run.stdout)
         return run.stdout.decode()

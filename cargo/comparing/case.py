@@ -39,6 +39,8 @@ class Run:
     program: str
     args: tuple[str | bytes, ...]
     stdin: bytes = b""
+    # The file that is standard input, instead of a pipe.
+    stdin_file: str | None = None
     text: Text = Text.EXACT
     # Whether standard output takes no bytes.
     is_full: bool = False
@@ -59,3 +61,6 @@ class Case:
     feature: str
     files: dict[str, bytes]
     runs: tuple[Run, ...] = field(default=())
+    # Further names of files, as hard links and as symbolic ones.
+    hard_links: dict[str, str] = field(default_factory=dict)
+    symbolic_links: dict[str, str] = field(default_factory=dict)

@@ -8,7 +8,7 @@ import subprocess
 import tempfile
 from dataclasses import dataclass
 from pathlib import Path
-from typing import BinaryIO
+from typing import Any, BinaryIO
 
 from .case import Case, Outcome, Run, Text, hidden
 
@@ -40,11 +40,12 @@ def time_limit() -> float:
 def played(programs: Programs, run: Run, folder: Path) -> Outcome:
     """Runs a command line."""
     limit = time_limit()
-    with open("/dev/full", "wb") as full:
+    with open("/dev/full", "wb") as full, open(folder / run.stdin_file if run.stdin_file else os.devnull, "rb") as file:
         out: BinaryIO | int = full if run.is_full else subprocess.PIPE
         command = [str(programs[run.program]), *run.args]
+        given: dict[str, Any] = {"stdin": file} if run.stdin_file else {"input": run.stdin}
         try:
-            done = subprocess.run(command, input=run.stdin, stdout=out, stderr=subprocess.PIPE, cwd=folder, timeout=limit)
+            done = subprocess.run(command, **given, stdout=out, stderr=subprocess.PIPE, cwd=folder, timeout=limit)
         except subprocess.TimeoutExpired:
             return Outcome(ENDLESS, b"", f"no end after {limit:.0f} seconds".encode())
     return Outcome(done.returncode, done.stdout or b"", done.stderr)
@@ -90,6 +91,10 @@ def write_files(case: Case, folder: Path) -> None:
             path.mkdir()
         else:
             path.write_bytes(content)
+    for name, target in case.hard_links.items():
+        (folder / name).hardlink_to(folder / target)
+    for name, target in case.symbolic_links.items():
+        (folder / name).symlink_to(target)
 
 
 def compared(case: Case, sides: dict[str, Programs], room: Path) -> list[Difference]:
@@ -113,7 +118,8 @@ def compared(case: Case, sides: dict[str, Programs], room: Path) -> list[Differe
 
 def command_line(run: Run) -> str:
     words = [arg if isinstance(arg, str) else arg.decode("utf-8", "backslashreplace") for arg in run.args]
-    return shlex.join([run.program, *words]) + (" < stdin" if run.stdin else "") + (" > /dev/full" if run.is_full else "")
+    stdin = f" < {run.stdin_file}" if run.stdin_file else " < stdin" if run.stdin else ""
+    return shlex.join([run.program, *words]) + stdin + (" > /dev/full" if run.is_full else "")
 
 
 def shortened(text: bytes) -> str:

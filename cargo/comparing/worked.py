@@ -69,6 +69,24 @@ def shell_cases() -> list[Case]:
     return [Case(f"command line {number}", "worked rows", files, (run,)) for number, run in enumerate(answered + refused + shown)]
 
 
+def run_of(row: shell_rows.ShellRow) -> Run:
+    return Run("replay", row.args, expected=Outcome(row.status, row.out.encode(), row.err.encode()))
+
+
+def kept_cases() -> list[Case]:
+    """Files that are written: those that are read too are kept, and the others truncated."""
+    files = shelf() | shell_rows.POINTS
+    as_before = tuple(map(run_of, shell_rows.AS_BEFORE))
+    cases = []
+    for number, row in enumerate(shell_rows.KEPT):
+        run = Run("replay", row.args, stdin_file=row.stdin, expected=Outcome(1, b"", row.err.encode()))
+        links = (shell_rows.HARD_LINKS, shell_rows.SYMBOLIC_LINKS)
+        cases.append(Case(f"kept file {number}", "worked rows", files, (run, *as_before), *links))
+    for number, rows_in_turn in enumerate(shell_rows.TRUNCATED):
+        cases.append(Case(f"truncated file {number}", "worked rows", files, tuple(map(run_of, rows_in_turn))))
+    return cases
+
+
 def wire_cases() -> list[Case]:
     """The tables of docs/WIRE.md, after a right frame too."""
     cases = []
@@ -177,6 +195,22 @@ def subcommand_cases() -> list[Case]:
     return [Case(f"subcommand {number}", "worked rows", files, (run,)) for number, run in enumerate(runs)]
 
 
+def kept_page_cases() -> list[Case]:
+    """Pages of `report` in files: those that are read too are kept, and a device is written."""
+    files = {name: file_of(map(batch_of, some), 2) for name, some in batches_rows.FILES.items()}
+    links = (batches_rows.HARD_LINKS, batches_rows.SYMBOLIC_LINKS)
+    as_before = Run("batches", ("stats", "soft", "hard_replies"), expected=Outcome(0, batches_rows.STATS_FIRST.encode(), b""))
+    cases = []
+    for number, row in enumerate(batches_rows.KEPT):
+        err = f"batches: {row.page}: {batches_rows.FILE_KEPT}\n".encode()
+        args = ("report", *row.args, "--replies", "empty", "-o", row.page)
+        run = Run("batches", args, stdin_file=row.stdin, expected=Outcome(1, b"", err))
+        cases.append(Case(f"kept input {number}", "worked rows", files, (run, as_before), *links))
+    done = Outcome(0, b"", b"")
+    cases.append(Case("page in a device", "worked rows", files, (Run("batches", batches_rows.DEVICE, expected=done),)))
+    return cases
+
+
 def files_of_example(path: Path) -> list[Path]:
     """The files of a run of an example: `NAME.args` names the further ones."""
     more = path.with_suffix(".args")
@@ -261,4 +295,4 @@ def full_cases() -> list[Case]:
 
 def fixed_cases() -> list[Case]:
     """All cases that aren't drawn."""
-    return row_cases() + shell_cases() + wire_cases() + json_cases() + subcommand_cases() + workload_cases() + short_cases() + full_cases() + example_cases()
+    return row_cases() + shell_cases() + kept_cases() + wire_cases() + json_cases() + subcommand_cases() + kept_page_cases() + workload_cases() + short_cases() + full_cases() + example_cases()

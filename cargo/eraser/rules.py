@@ -47,7 +47,7 @@ MACROS = "assert|assert_eq|assert_ne|debug_assert|matches|unreachable|write|writ
 KEYWORDS = "if|while|match|return|in|else|break"
 STD = (
     "alloc|array|cell|cmp|collections|convert|env|error|fmt|fs|hash|io|iter|marker|mem|num|ops"
-    "|process|rt|slice|snapshot|str|sync|thread|time"
+    "|os|process|rt|slice|snapshot|str|sync|thread|time"
 )
 
 # What is refused: the groups of these patterns, once the rules above are applied.

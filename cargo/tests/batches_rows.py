@@ -157,6 +157,42 @@ ROWS = (
 )
 FILES["alone"] = ("-1>0",)
 
+@dataclass(frozen=True)
+class KeptRow:
+    """A command line of `report` whose page would overwrite a file that is read: it fails, and the files are as before."""
+
+    args: tuple[str, ...]
+    # The file of the page.
+    page: str
+    # The name of the file that is standard input.
+    stdin: str | None = None
+
+
+# Further names of `first` and of `empty`, a file of no replies.
+HARD_LINKS = {"hard": "first", "hard_replies": "empty"}
+SYMBOLIC_LINKS = {"soft": "first"}
+
+KEPT = (
+    KeptRow(("first",), "first"),
+    KeptRow(("first",), "./first"),
+    KeptRow(("./first",), "first"),
+    KeptRow(("first",), "hard"),
+    KeptRow(("first",), "soft"),
+    KeptRow(("soft",), "hard"),
+    KeptRow(("second", "first"), "first"),
+    KeptRow(("first",), "empty"),
+    KeptRow(("first",), "./empty"),
+    KeptRow(("first",), "hard_replies"),
+    KeptRow((), "first", "first"),
+    KeptRow(("-",), "hard", "first"),
+    KeptRow(("second", "/dev/stdin"), "first", "first"),
+    KeptRow((), "/dev/stdin", "first"),
+)
+FILE_KEPT = "the file is read too, and isn't overwritten"
+
+# A device is written, although it is read.
+DEVICE = ("report", "/dev/null", "--replies", "/dev/null", "-o", "/dev/null")
+
 # Refused with status 2.
 REFUSED: tuple[tuple[str, ...], ...] = (
     ("opening",),

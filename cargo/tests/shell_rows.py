@@ -576,9 +576,77 @@ BESIDES = (
     ShellRow(("--summary-to", "no/such/out", "none"), "", "replay: proxy 0: cannot open\n", 1),
 )
 
+# A device can be written twice, and read too.
+DEVICES = (
+    ShellRow(("-o", "/dev/null", "--summary-to", "/dev/null", "first"), ""),
+    ShellRow(("-o", "/dev/null", "--stream", "--replies", "/dev/null", "--replies", "/dev/null", "first", "second"), ""),
+    ShellRow(("-o", "/dev/../dev/null", "/dev/null"), ""),
+)
+
 ROWS = (
     ANSWERS + FAILURES + CHECKS + STREAMS + RECORDS + FILTERS + ARGUMENTS + SUMMARIES + EXPLAINS
-    + REPORTS + OUTPUTS + TOPS + BESIDES + VERBOSE
+    + REPORTS + OUTPUTS + TOPS + BESIDES + VERBOSE + DEVICES
+)
+
+@dataclass(frozen=True)
+class KeptRow:
+    """A command line by which a file would be read and overwritten, or written twice: it fails, and the files are as before."""
+
+    args: tuple[str, ...]
+    err: str
+    # The name of the file that is standard input.
+    stdin: str | None = None
+
+
+# Further names of `first`.
+HARD_LINKS = {"hard": "first"}
+SYMBOLIC_LINKS = {"soft": "first"}
+# A file of split points.
+POINTS = {"point": b"b\n"}
+
+OUTPUT_KEPT = "replay: create output\n"
+SUMMARY_KEPT = "replay: create summary\n"
+REPLIES_KEPT = "replay: replies 0: cannot open\n"
+
+KEPT = (
+    KeptRow(("-o", "./first", "first"), OUTPUT_KEPT),
+    KeptRow(("-o", "first", "second", "./first"), OUTPUT_KEPT),
+    KeptRow(("-o", "hard", "first"), OUTPUT_KEPT),
+    KeptRow(("-o", "soft", "first"), OUTPUT_KEPT),
+    KeptRow(("-o", "first", "soft"), OUTPUT_KEPT),
+    KeptRow(("-o", "hard", "soft"), OUTPUT_KEPT),
+    KeptRow(("-o", "./first", "--stream", "first"), OUTPUT_KEPT),
+    KeptRow(("-o", "./first", "--summary", "first"), OUTPUT_KEPT),
+    KeptRow(("-o", "./first", "--resolvers", "2", "--split-points", "point", "first"), OUTPUT_KEPT),
+    KeptRow(("-o", "./point", "--resolvers", "2", "--split-points", "point", "first"), OUTPUT_KEPT),
+    KeptRow(("-o", "first", "-"), OUTPUT_KEPT, "first"),
+    KeptRow(("--summary-to", "./first", "first"), SUMMARY_KEPT),
+    KeptRow(("--summary-to", "hard", "first"), SUMMARY_KEPT),
+    KeptRow(("--summary-to", "third", "-o", "./third", "first"), SUMMARY_KEPT),
+    KeptRow(("--stream", "--replies", "./first", "first"), REPLIES_KEPT),
+    KeptRow(("--stream", "--replies", "third", "-o", "./third", "first"), REPLIES_KEPT),
+    KeptRow(("--stream", "--replies", "third", "--replies", "./third", "first", "second"), "replay: replies 1: cannot open\n"),
+    # The replies are opened once the output was created.
+    KeptRow(("-o", "./same", "--check", "same", "first"), REPLIES_KEPT),
+    KeptRow(("-o", "./same", "--check", "same", "--resolvers", "2", "--split-points", "point", "first"), REPLIES_KEPT),
+)
+
+# Command lines that show that all those files are as before.
+AS_BEFORE = (
+    ShellRow(("third", "hard", "second"), "0 300 empty\n1 0 empty\n1 100 committed\n2 200 conflict\n"),
+    ShellRow(("--check", "same", "soft", "--resolvers", "2", "--split-points", "point"), "checked 2 batches, 0 differences\n"),
+)
+
+# A file that is written has no bytes from before, even if it is given none.
+TRUNCATED = (
+    # The line of an answer is read as a split point.
+    (ShellRow(("-o", "late", "third"), ""), ShellRow(("--resolvers", "2", "--split-points", "late", "first"), FIRST)),
+    (ShellRow(("-o", "third", "empty"), ""), ShellRow(("third",), "")),
+    (ShellRow(("-o", "third", "--stream", "empty"), ""), ShellRow(("third",), "")),
+    (ShellRow(("--stream", "--replies", "third", "empty"), ""), ShellRow(("third",), "")),
+    (ShellRow(("--stream", "--quiet", "-o", "third", "first"), ""), ShellRow(("third",), "")),
+    # A run that fails before it prints anything keeps them.
+    (ShellRow(("-o", "third", "--stream", "json"), "", "replay: proxy 0: wire 2 Long\n", 1), ShellRow(("third",), "0 300 held\n")),
 )
 
 # Refused with status 2 and a text of `clap` on standard error. Nothing is on standard output.

@@ -30,8 +30,8 @@ pub mod thread;
 pub mod vec;
 
 pub use std::{
-    array, cell, cmp, convert, error, fmt, hash, iter, marker, mem, num, ops, process, slice, str,
-    time,
+    array, cell, cmp, convert, error, fmt, hash, iter, marker, mem, num, ops, os, process, slice,
+    str, time,
 };
 
 /// The names that each erased file has in scope.

@@ -38,6 +38,7 @@ frame_fails kind number left now frame (failure.NoShard n) taken some end fails 
 frame_fails kind number left now frame failure.Resolvers taken some end fails = absurd fails
 frame_fails kind number left now frame failure.Open taken some end fails = absurd fails
 frame_fails kind number left now frame failure.Create taken some end fails = absurd fails
+frame_fails kind number left now frame failure.AlsoRead taken some end fails = absurd fails
 frame_fails kind number left now frame (failure.Report e) taken some end fails = absurd fails
 frame_fails kind number left now frame failure.NotText taken some end fails = absurd fails
 frame_fails kind number left now frame failure.Memory taken some end fails = tt
@@ -83,6 +84,8 @@ clip_fails points shard number left now frame failure.Open taken some end fails 
     frame_fails Batches number left now frame failure.Open taken some end fails
 clip_fails points shard number left now frame failure.Create taken some end fails =
     frame_fails Batches number left now frame failure.Create taken some end fails
+clip_fails points shard number left now frame failure.AlsoRead taken some end fails =
+    frame_fails Batches number left now frame failure.AlsoRead taken some end fails
 clip_fails points shard number left now frame (failure.Report e) taken some end fails =
     frame_fails Batches number left now frame (failure.Report e) taken some end fails
 clip_fails points shard number left now frame failure.NotText taken some end fails =
@@ -115,6 +118,7 @@ line_fails kind number left line (failure.NoShard n) read some fails = absurd fa
 line_fails kind number left line failure.Resolvers read some fails = absurd fails
 line_fails kind number left line failure.Open read some fails = absurd fails
 line_fails kind number left line failure.Create read some fails = absurd fails
+line_fails kind number left line failure.AlsoRead read some fails = absurd fails
 line_fails kind number left line (failure.Report e) read some fails = absurd fails
 line_fails kind number left line failure.NotText read some fails = absurd fails
 line_fails kind number left line failure.Memory read some fails = tt

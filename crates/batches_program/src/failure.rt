@@ -47,6 +47,9 @@ pub enum Failure {
     /// The page can't be written to this file.
     #[error("the file can't be created")]
     Create,
+    /// The page would overwrite this file, which is read.
+    #[error("the file is read too, and isn't overwritten")]
+    AlsoRead,
     /// A word of the command line isn't text.
     #[error("a word of the command line isn't UTF-8")]
     NotText,

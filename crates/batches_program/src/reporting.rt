@@ -9,11 +9,17 @@ use crate::jobs::{open, print, shown};
 use crate::status::Status;
 use crate::tallying::{tally_batches, tally_replies};
 use batches_report::{Inputs, Tally, page_of};
-use std::fs::{File, Files};
+use std::fs;
+use std::fs::{File, Files, Metadata, OpenOptions};
+use std::os::unix::fs::MetadataExt;
 use wire::{Sink, StdSink, StdSource, write_and_flush};
 
+// A name of the file that is standard input.
+const STANDARD_INPUT_FILE: &str = "/dev/stdin";
+
 /// Writes a page of what the batches of the files and the replies to them add up to. Writes nothing
-/// if a file has a fault.
+/// if a file has a fault, or if the page would overwrite a regular file that was read, by whatever
+/// name.
 pub fn write_report<R: Files<File = File> + Input + AllocGlobal, O: Sink, E: Sink>(
     rt: &R,
     files: &[&str],
@@ -36,7 +42,7 @@ pub fn write_report<R: Files<File = File> + Input + AllocGlobal, O: Sink, E: Sin
     };
     let text = text_of_page(rt, &tally, inputs);
     match page {
-        Some(name) => save(rt, name, text, error),
+        Some(name) => save(rt, name, files, replies, text, error),
         None => print(rt, text, out, error),
     }
 }
@@ -45,6 +51,8 @@ pub fn write_report<R: Files<File = File> + Input + AllocGlobal, O: Sink, E: Sin
 fn save<R: Files<File = File> + AllocGlobal, E: Sink>(
     rt: &R,
     name: &str,
+    files: &[&str],
+    replies: &[&str],
     text: Result<Vec<u8>, Failure>,
     error: &mut E,
 ) -> Status
@@ -53,7 +61,7 @@ fn save<R: Files<File = File> + AllocGlobal, E: Sink>(
         → TellsLine (E.given error.old) (E.given error.new) (E.failures error.old)
         (E.failures error.new) }
 {
-    match write_file(rt, name, text) {
+    match write_file(rt, name, files, replies, text) {
         Ok(()) => Status::Done,
         Err(failure) => fail_in(error, rt.alloc(), name, &failure),
     }
@@ -62,13 +70,67 @@ fn save<R: Files<File = File> + AllocGlobal, E: Sink>(
 fn write_file<R: Files<File = File>>(
     rt: &R,
     name: &str,
+    files: &[&str],
+    replies: &[&str],
     text: Result<Vec<u8>, Failure>,
 ) -> Result<(), Failure> {
     let text = text?;
-    let Ok(file) = File::create(rt, name) else {
+    let file = open_page(rt, name, files, replies)?;
+    Ok(write_and_flush(&mut StdSink::new(file), &text)?)
+}
+
+// Opens the file of the page, without its bytes from before. It is truncated once it is known not
+// to be a file that was read. The metadata are those of the open file, so it is the one that is
+// truncated, even if the name is given to another.
+fn open_page<R: Files<File = File>>(
+    rt: &R,
+    name: &str,
+    files: &[&str],
+    replies: &[&str],
+) -> Result<File, Failure> {
+    let opened = OpenOptions::new()
+        .write(true)
+        .create(true)
+        .truncate(false)
+        .open(rt, name);
+    let Ok(file) = opened else {
         return Err(Failure::Create);
     };
-    Ok(write_and_flush(&mut StdSink::new(file), &text)?)
+    let Ok(page) = file.metadata() else {
+        return Err(Failure::Create);
+    };
+    if page.is_file() {
+        if is_read(rt, &page, files) || is_read(rt, &page, replies) {
+            return Err(Failure::AlsoRead);
+        }
+        if file.set_len(0).is_err() {
+            return Err(Failure::Write);
+        }
+    }
+    Ok(file)
+}
+
+// Returns whether the file of the page has one of these names, or is standard input under its own.
+fn is_read<R: Files>(rt: &R, page: &Metadata, names: &[&str]) -> bool {
+    for name in names {
+        if is_file_of(rt, page, name) {
+            return true;
+        }
+    }
+    false
+}
+
+// A file has one device and inode, whatever its names are.
+fn is_file_of<R: Files>(rt: &R, page: &Metadata, name: &str) -> bool {
+    let path = if name == STANDARD_INPUT {
+        STANDARD_INPUT_FILE
+    } else {
+        name
+    };
+    match fs::metadata(rt, path) {
+        Ok(read) => read.dev() == page.dev() && read.ino() == page.ino(),
+        Err(_) => false,
+    }
 }
 
 fn text_of_page<R: AllocGlobal>(rt: &R, tally: &Tally, inputs: Inputs) -> Result<Vec<u8>, Failure> {

@@ -12,9 +12,13 @@ ghost use Rattle.replay_program.specs.Ended.{IsQuiet};
 ghost use Rattle.replay_program.specs.Replayed.{written};
 
 mod disk;
+mod known_files;
+mod output;
 mod progress;
 
 use disk::Disk;
+use known_files::KnownFiles;
+use output::finish;
 use replay_program::{StartError, Status, fail_to_start, run_in};
 use std::cell::Cell;
 use std::fs::{File, Files};
@@ -73,7 +77,8 @@ fn start<
         rt,
         input,
         terminal: Cell::new(terminal),
+        known: KnownFiles::new(rt.alloc()),
     };
     let report = run_in(rt, rt.alloc(), rt, &files, &mut StdSink::new(out), error);
-    report.status
+    finish(report)
 }

@@ -23,7 +23,6 @@ use Rattle.replay_shards.specs.declared.failures.ShardStop.{ShardStop}
 use Rattle.replay_shards.specs.Failures.{IsFirstStop}
 use Rattle.replay_sharded.specs.declared.combined.Combined.{Combined}
 use Rattle.replay_sharded.specs.Combined.{HasAllAnswers, stop_of}
-use Rattle.replay_sharded.specs.Files.{IsKnown}
 use Rattle.replay_sharded.specs.Sharded.{AreRunsTogether, CommitsSerializably, IsResolvedByShards}
 use Rattle.replay_program.specs.declared.met.Met.{Met}
 use Rattle.replay_program.specs.Met.{TellsStop}
@@ -130,7 +129,7 @@ module _ (points : List (List ℕ)) (options : Options) (files : List (Option (L
 
         -- nothing failed, so every combined answer is there, and was printed
         pub is_replayed_by_shards : (Printed : List (List Answer) → Type 0)
-            → (All IsKnown files → HasAllAnswers combined → IsResolvedByShards points options.window files (together_of combined))
+            → (HasAllAnswers combined → IsResolvedByShards points options.window files (together_of combined))
             → NothingFailed failures (ending_of combined.complete (stop_met combined)) → Printed (map answers_of received)
             → IsReplayedByShardsBy Printed points options files
         is_replayed_by_shards Printed resolved nothing printed =
@@ -139,9 +138,8 @@ module _ (points : List (List ℕ)) (options : Options) (files : List (Option (L
               combined = combined;
               runs = runs;
               all = all;
-              resolved = λ known. resolved known all;
-              words = λ known once.
-                  words_serializable options.style.form (resolved known all).sent (together_of combined)
-                  ((resolved known all).serializable once);
+              resolved = resolved all;
+              words = λ sent read once.
+                  words_serializable options.style.form sent (together_of combined) ((resolved all).serializable sent read once);
               printed = subst (λ (lines : List (List Line)). Printed (map answers_of lines)) lines_are printed;
             }

@@ -19,9 +19,8 @@ use Rattle.replay_sharded.specs.declared.combined.Combined.{Combined}
 use Rattle.replay_shards.specs.declared.failures.ShardStop.{ShardStop}
 use Rattle.replay_sharded.specs.declared.shard_run.ShardRun.{ShardRun}
 use Rattle.replay_sharded.specs.Combined.{HasAllAnswers, stop_of}
-use Rattle.replay_sharded.specs.Files.{IsKnown}
 use Rattle.replay_sharded.specs.Runs.{AreRunsOfShards}
-use Rattle.replay_sharded.specs.Sharded.{AreRunsTogether, CommitsSerializably, IsResolvedByShards, SendsOnce}
+use Rattle.replay_sharded.specs.Sharded.{AreRunsTogether, CommitsSerializably, HaveAllRead, IsResolvedByShards, SendsOnce}
 use Rattle.replay_shards.specs.Failures.{IsFirstStop}
 use Rattle.replay_program.specs.declared.met.Met.{Met}
 use Rattle.replay_program.specs.Checked.{TakesToCompare, check_lines, differences_of}
@@ -57,12 +56,11 @@ pub record IsReplayedByShardsBy (Printed : List (List Answer) → Type 0) (point
   pub combined : Combined
   pub runs : AreRunsTogether points options files combined
   pub all : HasAllAnswers combined
-  -- if the bytes of all files are known
-  pub resolved : All IsKnown files → IsResolvedByShards points options.window files (together_of combined)
-  -- and if no proxy sends two different batches of one version
+  pub resolved : IsResolvedByShards points options.window files (together_of combined)
+  -- if all shards have read these batches of the files, and no proxy sends two different batches of one version
   pub words :
-      (known : All IsKnown files) → SendsOnce (resolved known).sent
-      → WordsAreSerializable options.style.form (resolved known).sent (together_of combined)
+      (sent : List (List Batch)) → HaveAllRead options.window points files resolved.logs sent → SendsOnce sent
+      → WordsAreSerializable options.style.form sent (together_of combined)
   pub printed : Printed (together_of combined)
 
 -- the text printed is the lines of the combined answers that are shown

@@ -17,7 +17,7 @@ use Rattle.serial.specs.Shards.{Shard, shards}
 use Rattle.shards.specs.Clips.{IsBatchClip}
 use Rattle.replay_workers.proofs.callers.Lists.{found}
 use Rattle.replay_shards.specs.Notes.{notes_of}
-use Rattle.replay_sharded.specs.Sharded.{IsLogOfShard, SendsOnce, notes_by_shard}
+use Rattle.replay_sharded.specs.Sharded.{IsLogOfShard, SendsOnce}
 use Rattle.replay_sharded.proofs.CommittedLists.{
   HasVersionOf,
   IsIn,
@@ -37,7 +37,7 @@ use Rattle.replay_sharded.proofs.CommittedLists.{
 }
 use Rattle.replay_sharded.proofs.CommittedReplies.{IsOfAll, IsReplied, entry_of, of_all, taken}
 use Rattle.replay_sharded.proofs.Logs.{choose}
-use Rattle.replay_sharded.proofs.Resolved.{AreMergedOf}
+use Rattle.replay_sharded.proofs.Resolved.{AreMergedOf, notes_by_shard}
 use Rattle.replay_sharded.proofs.Taking.{zip_length}
 
 -- the answer is a reply of this version

@@ -4,7 +4,7 @@ ghost use Rattle.std.specs.Prelude.{◌≡◌, ℕ, IfOk, List, Option, map, vec
 ghost use Rattle.std.specs.List.{All};
 ghost use Rattle.replay_output.specs.Line.{AreLines, answers_of};
 ghost use Rattle.replay_sharded.specs.Combined.{HasAllAnswers};
-ghost use Rattle.replay_sharded.specs.Files.{IsKnown, ReadTheFiles};
+ghost use Rattle.replay_sharded.specs.Files.{ReadTheFiles};
 ghost use Rattle.replay_sharded.specs.Sharded.{AreRunsTogether, IsResolvedByShards};
 
 use crate::combined::{Combined, combine_runs};
@@ -37,12 +37,12 @@ pub fn run_sharded<
         → All (ReadTheFiles S.remaining files) (map vec_items sharded.readers.items)
         → IfOk result (AreRunsTogether sharded.points options files) }
 
-    // If nothing has failed and the bytes of all files are known, every batch of every file has its
-    // combined answer, and what these report as committed is serializable. Of a file whose bytes
-    // aren't known, two shards may read different batches.
+    // If nothing has failed, the combined answers are those of one log per shard. If all shards have
+    // read the same batches of each file, every batch has its combined answer, and what these report
+    // as committed is serializable. Of a file whose bytes aren't known, two shards may read different
+    // batches.
     ensures resolved { (files : List (Option (List ℕ)))
         → All (ReadTheFiles S.remaining files) (map vec_items sharded.readers.items)
-        → All IsKnown files
         → IfOk result (λ combined. HasAllAnswers combined
         → IsResolvedByShards sharded.points options.window files
         (map answers_of (map vec_items combined.lines.items))) }

@@ -102,9 +102,11 @@ returns-in-Ok-text_of_top-clause-done g c = λ is.
     c.answers_tell_verdicts.ensures.tell nothing (
       occupancy,
       occupied_over options files received failures complete occupancy account.stop Seen measured no_stop,
-      top,
-      subst (λ (ps : List Processed). IsTopOf ps most top) all of_top.is_top,
-      held_ok printed _ lines parts.0,
+      (
+        top,
+        subst (λ (ps : List Processed). IsTopOf ps most top) all of_top.is_top,
+        held_ok printed _ lines parts.0,
+      ),
     )
 
 pub returns-in-Ok-text_of_top-clause-failed : goal.returns-in-Ok-text_of_top-clause-failed

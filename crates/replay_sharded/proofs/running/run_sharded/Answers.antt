@@ -85,13 +85,13 @@ returns-clause-together g c = λ files read.
     }
 
 pub returns-clause-resolved : goal.returns-clause-resolved
-returns-clause-resolved g c = λ files read known all.
+returns-clause-resolved g c = λ files read all.
     let sharded = c.args.sharded in
     let window = c.args.options.window in
     let rising = c.shard_count.ensures.points.rising in
     let together = map answers_of (map vec_items c.combine_runs.result.lines.items) in
     resolved_but c.one_spelling.ensures.batches sharded.points c.args.options files c.combine_runs.result rising
-    (returns-clause-together g c files read) all known
+    (returns-clause-together g c files read) all
     (λ sent logs of merged count. (
       all_answered sharded.points window sent logs together of merged,
       serializable c.answers_tell_verdicts.ensures.tell c.serializable_among_others.ensures.all sharded.points window sent logs together

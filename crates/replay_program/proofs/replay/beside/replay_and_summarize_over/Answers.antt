@@ -93,7 +93,7 @@ returns g c =
           is_replayed_over options files received failures complete account.stop run
           (λ log answers. Took out (lines_of options.style answers)
           × ((o : Occupancy) × IsOccupancyOver options.limit options.window log o × Took beside (run_summary form (Some o) answers)))
-          c.answers_tell_verdicts.ensures.tell nothing (texts.0, occupancy, over nothing, texts.1);
+          c.answers_tell_verdicts.ensures.tell nothing (texts.0, (occupancy, over nothing, texts.1));
       quiet = report.quiet;
       failed = λ is.
           inr (record {
