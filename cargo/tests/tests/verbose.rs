@@ -82,7 +82,7 @@ impl Files for Named {
 }
 
 /// Runs the program on these words, and returns how it ends and what is on standard error.
-fn told(words: &[&str]) -> String {
+fn reported_state(words: &[&str]) -> String {
     let words: Vec<_> = ["replay"].iter().chain(words).copied().collect();
     let (mut out, mut error) = (StdSink::new(Vec::new()), StdSink::new(Vec::new()));
     let report = shell_over(&Named, &words, &mut out, &mut error);
@@ -151,9 +151,9 @@ fn findings_in_files() {
         ),
     ];
     for (words, fixed, further) in rows {
-        assert_eq!(told(words), fixed, "{words:?}");
+        assert_eq!(reported(words), fixed, "{words:?}");
         let verbose: Vec<_> = words.iter().chain(&["--verbose"]).copied().collect();
-        assert_eq!(told(&verbose), format!("{fixed}{further}"), "{words:?}");
+        assert_eq!(reported(&verbose), format!("{fixed}{further}"), "{words:?}");
     }
 }
 
@@ -179,16 +179,16 @@ fn findings_of_runs() {
         (&["--limit", "3", "--check", "replies", "writes"], "failed: replay: stop 3 ArenaFull\n", ARENA_FULL),
     ];
     for (words, fixed, further) in rows {
-        assert_eq!(told(words), fixed, "{words:?}");
+        assert_eq!(reported(words), fixed, "{words:?}");
         let verbose: Vec<_> = words.iter().chain(&["--verbose"]).copied().collect();
-        assert_eq!(told(&verbose), format!("{fixed}{further}"), "{words:?}");
+        assert_eq!(reported(&verbose), format!("{fixed}{further}"), "{words:?}");
     }
 }
 
 /// A stream doesn't note the version that it has reached, so nothing is said of it.
 #[test]
 fn stream_says_no_version() {
-    assert_eq!(told(&["--verbose", "--stream", "--limit", "3", "writes"]), "failed: replay: stop 3 ArenaFull\n");
+    assert_eq!(reported(&["--verbose", "--stream", "--limit", "3", "writes"]), "failed: replay: stop 3 ArenaFull\n");
 }
 
 const CUT: &str = "  cut ends inside frame 2 at byte 31, 3 bytes too early: \
@@ -214,11 +214,11 @@ fn several_resolvers() {
     ];
     for (words, fixed, further) in rows {
         let words: Vec<_> = ["--resolvers", "2"].iter().chain(words).copied().collect();
-        assert_eq!(told(&words), fixed, "{words:?}");
+        assert_eq!(reported(&words), fixed, "{words:?}");
         let verbose: Vec<_> = words.iter().chain(&["--verbose"]).copied().collect();
-        assert_eq!(told(&verbose), format!("{fixed}{further}"), "{words:?}");
+        assert_eq!(reported(&verbose), format!("{fixed}{further}"), "{words:?}");
     }
-    assert_eq!(told(&["--resolvers", "2", "--verbose", "first", "second"]), "done: ");
+    assert_eq!(reported(&["--resolvers", "2", "--verbose", "first", "second"]), "done: ");
 }
 
 const OUTPUT: &str = "  the output can't be written: free its disk, or read it to its end\n";
@@ -248,7 +248,7 @@ fn output_that_fails() {
             assert_eq!(ended(report.status, b"", &error.into_inner()), expected, "{words:?}");
         }
         let words: Vec<_> = words.iter().chain(&["-o", "full", "--verbose"]).copied().collect();
-        assert_eq!(told(&words), format!("failed: {OUTPUT}"), "{words:?}");
+        assert_eq!(reported(&words), format!("failed: {OUTPUT}"), "{words:?}");
     }
 }
 
@@ -257,11 +257,11 @@ fn output_that_fails() {
 fn nothing_further() {
     for words in [&["first", "second"][..], &["held"], &["held", "--stream"], &["--summary", "second"]] {
         let verbose: Vec<_> = words.iter().chain(&["--verbose"]).copied().collect();
-        assert_eq!(told(&verbose), "done: ", "{words:?}");
+        assert_eq!(reported(&verbose), "done: ", "{words:?}");
     }
-    assert_eq!(told(&["--verbose", "--check", "replies", "first"]), "differs: ");
-    assert_eq!(told(&["--verbose", "--check", "none", "first"]), "failed: replay: replies 0: cannot open\n");
-    assert!(told(&["--verbose", "--top", "5", "first"]).starts_with("usage: error: --top is wanted with --summary\n"));
+    assert_eq!(reported(&["--verbose", "--check", "replies", "first"]), "differs: ");
+    assert_eq!(reported(&["--verbose", "--check", "none", "first"]), "failed: replay: replies 0: cannot open\n");
+    assert!(reported(&["--verbose", "--top", "5", "first"]).starts_with("usage: error: --top is wanted with --summary\n"));
 }
 
 /// If standard error fails, it was given a prefix of the text, and the status stays.
