@@ -4,10 +4,10 @@ use Rattle.std.specs.List.{list_any}
 use Rattle.std.specs.Int.{w64}
 use Rattle.std.specs.Int.RustNames.{FitsSigned}
 use Rattle.replay_diagnosis.specs.declared.position.Position.{Position}
-use Rattle.replay_diagnosis.specs.declared.finding.Finding.{Finding}
-use Rattle.replay_diagnosis.specs.declared.finding.Finding.TheVariants as found
-use Rattle.replay_diagnosis.specs.declared.finding.RunFinding.{RunFinding}
-use Rattle.replay_diagnosis.specs.declared.finding.RunFinding.TheVariants as run
+use Rattle.replay_diagnosis.specs.declared.run_findings.Finding.{Finding}
+use Rattle.replay_diagnosis.specs.declared.run_findings.Finding.TheVariants as found
+use Rattle.replay_diagnosis.specs.declared.run_findings.RunFinding.{RunFinding}
+use Rattle.replay_diagnosis.specs.declared.run_findings.RunFinding.TheVariants as run
 use Rattle.replay_diagnosis.specs.Remedy.{remedy_line, run_remedy_line}
 
 abbrev pub has_line_feed : List ℕ → Bool
