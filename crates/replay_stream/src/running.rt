@@ -15,11 +15,12 @@ ghost use Rattle.replay_stream.specs.Sinks.{state_by};
 ghost use Rattle.replay_workers.specs.Stops.{IsAccountedFor};
 
 use crate::outlet::{Passed, Printer};
-use crate::proxies::{Proxy, connect_all, join_all, start_all};
+use crate::proxies::{Proxy, join_all};
+use crate::starting::start_stream;
 use crate::streamed::Streamed;
 use replay_output::{Options, StartError};
 use replay_workers::{Gatekeeper, ShareKeeper, Watch, let_through};
-use resolver::{Account, Resolver, Turn, open};
+use resolver::{Account, Resolver, Turn};
 use std::alloc::Global;
 use std::sync::{Arc, Wait};
 use std::thread;
@@ -63,19 +64,11 @@ pub fn run_stream<
     ensures nothing { OnErr result (state_by O.given O.failures out.new
         ≡ state_by O.given O.failures out.old) }
 {
-    let count = readers.len();
-    let mut streamed = Streamed::with_room(alloc, count)?;
-    let mut watch = Watch::new(alloc, count)?;
-    let Options {
-        capacity,
-        window,
-        limit,
-        style,
-        ..
-    } = options;
-    let (mut resolver, clients) = open(alloc, count, capacity, window, limit)?;
-    let tasks = connect_all(alloc, options, readers, records, clients, gatekeeper)?;
-    let mut proxies = start_all(rt, alloc, tasks)?;
+    let mut watch = Watch::new(alloc, readers.len())?;
+    let style = options.style;
+    let (mut resolver, mut proxies, mut streamed) = start_stream(
+        rt, alloc, readers, records, options, gatekeeper,
+    )?;
     let mut printer = Printer::new(alloc, style);
     turn_to_end(
         rt,
