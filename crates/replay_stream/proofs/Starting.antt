@@ -54,18 +54,6 @@ pub same_count : {S W : Type 0} (ended slice proxies : List (Proxy S W)) → sli
 same_count ended slice proxies is threads =
     sym (length-map ended threads_of) ∙ ap length threads ∙ length-map slice threads_of ∙ ap length is
 
--- the flag isn't one of what was joined
-pub flag_set : {W : Type 0} (joined : List (Joined W)) (streamed : Streamed W) (failed : Bool) → IsStreamedOf joined streamed
-    → IsStreamedOf joined (record streamed { failed = failed })
-flag_set joined streamed failed of = record {
-  clients = of.clients;
-  failures = of.failures;
-  recorders = of.recorders;
-  unwritten = of.unwritten;
-  all_sent = of.all_sent;
-  unsent = of.unsent;
-}
-
 module _ {S W G : Type 0} (options : Options) (readers : List S) (outs : List (Option W)) (resolver : ResolverState)
     (proxies : List (Proxy S W)) (streamed : Streamed W) (started : IsStarted G options readers outs resolver proxies streamed) where
   -- the slice of the proxies, by which they are turned

@@ -2,7 +2,7 @@
 //! resolver and prints the answers.
 
 ghost use Rattle.std.specs.Prelude.{◌≡◌, ◌≤◌, ◌&&◌, ℕ, true, Some, is_some, map, slice_get};
-ghost use Rattle.std.specs.Prelude.{vec_len, IfOk, IsTrue, OnErr};
+ghost use Rattle.std.specs.Prelude.{vec_len, IfErr, IfOk, IsTrue, Ok, OnErr};
 ghost use Rattle.resolver.specs.declared.resolver_core.TheConstants.{MAX_PROXIES};
 ghost use Rattle.replay_stream.specs.Recorder.{is_unwritten, unwritten_cause};
 ghost use Rattle.replay_stream.specs.Streaming.{HaveRecords, IsStreamed, recorded_each};
@@ -20,7 +20,7 @@ use crate::starting::start_stream;
 use crate::streamed::Streamed;
 use replay_output::{Options, StartError};
 use replay_workers::{Gatekeeper, ShareKeeper, Watch, let_through};
-use resolver::{Account, Resolver, Turn};
+use resolver::{Account, Resolver, Stop, Turn};
 use std::alloc::Global;
 use std::sync::{Arc, Wait};
 use std::thread;
@@ -113,27 +113,45 @@ fn turn_to_end<S: Source, W: Sink, G: Gatekeeper + ShareKeeper, R: Wait, O: Sink
 {
     for _ in rt.forever() {
         let ended = pass_each(proxies, printer, out, gatekeeper);
-        match resolver.turn() {
-            Ok(Turn::Took(_)) => watch.forget(),
-            Ok(Turn::Idle) => {
-                let_through(resolver, gatekeeper, watch);
-                thread::yield_now();
-            }
-            Ok(Turn::Done) => {
-                if ended {
-                    return;
-                }
-                thread::yield_now();
-            }
-            Err(_) => {
-                if ended && resolver.owed() == 0 {
-                    return;
-                }
-                thread::yield_now();
-            }
+        let turn = resolver.turn();
+        let through = is_through(turn, resolver);
+        if ended && through {
+            return;
         }
+        give_way(turn, resolver, gatekeeper, watch);
     }
     unreachable!()
+}
+
+// Returns whether no answer comes after this turn.
+fn is_through(turn: Result<Turn, Stop>, resolver: &Resolver) -> bool
+    requires done { turn ≡ Ok Turn.Done → IsThrough resolver.now }
+    requires stopped { IfErr turn (λ stop. resolver.now.core.stop ≡ Some stop) }
+    ensures through { IsTrue result → IsThrough resolver.now }
+{
+    match turn {
+        Ok(Turn::Done) => true,
+        Ok(Turn::Took(_) | Turn::Idle) => false,
+        Err(_) => resolver.owed() == 0,
+    }
+}
+
+// Lets other threads run, unless the turn took a batch. If all proxies wait for each other, a batch
+// is admitted.
+fn give_way<G: ShareKeeper>(
+    turn: Result<Turn, Stop>,
+    resolver: &Resolver,
+    gatekeeper: &G,
+    watch: &mut Watch,
+) {
+    match turn {
+        Ok(Turn::Took(_)) => watch.forget(),
+        Ok(Turn::Idle) => {
+            let_through(resolver, gatekeeper, watch);
+            thread::yield_now();
+        }
+        Ok(Turn::Done) | Err(_) => thread::yield_now(),
+    }
 }
 
 // Passes on at most one answer of each proxy. Returns whether all outlets have ended.

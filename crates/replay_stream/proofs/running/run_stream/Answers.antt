@@ -1,5 +1,4 @@
 use Rattle.std.proofs.Common.{◌≡◌, ℕ, List, ap, sym, subst, ◌∙◌, arith, ℤ, length}
-use Rattle.std.proofs.lemmas.List.{length-map}
 use Rattle.std.proofs.lemmas.Simd.{map-map}
 use Rattle.std.proofs.lemmas.List.Elements.{All-same}
 use Rattle.std.specs.Prelude.{negsuc, ◌&&◌, Bool, true, is_some, map, Option, None, IfSome, slice_get}
@@ -18,7 +17,7 @@ use Rattle.replay_stream.specs.Sinks.{state_by}
 use Rattle.replay_stream.specs.Streaming.{IsStreamed, recorded_each}
 use Rattle.replay_workers.specs.Stops.{IsStopOf}
 use Rattle.replay_workers.proofs.callers.Stopping.{accounted_new}
-use Rattle.replay_stream.proofs.Starting.{are_numbered_in, clients_now, ended_now, ends_now, flag_set, goes_on, recorders_now, same_count, streamed_now, threads_stay}
+use Rattle.replay_stream.proofs.Starting.{are_numbered_in, clients_now, ended_now, ends_now, goes_on, recorders_now, same_count, streamed_now, threads_stay}
 use Rattle.replay_stream.proofs.running.run_stream.Goals as goal
 
 pub turn_to_end-requires : goal.turn_to_end-requires
@@ -28,7 +27,16 @@ turn_to_end-requires g c = record {
 }
 
 pub join_all-streamed-requires-clause-empty : goal.join_all-streamed-requires-clause-empty
-join_all-streamed-requires-clause-empty g c = flag_set _ _ _ c.in_ok-resolver.ensures.started.empty
+join_all-streamed-requires-clause-empty g c =
+    let empty = c.in_ok-resolver.ensures.started.empty in
+    record {
+      clients = empty.clients;
+      failures = empty.failures;
+      recorders = empty.recorders;
+      unwritten = empty.unwritten;
+      all_sent = empty.all_sent;
+      unsent = empty.unsent;
+    }
 
 pub join_all-streamed-requires-clause-room : goal.join_all-streamed-requires-clause-room
 join_all-streamed-requires-clause-room g c =

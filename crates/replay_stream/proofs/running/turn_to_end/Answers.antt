@@ -1,5 +1,5 @@
 use Rattle.std.specs.Prelude.{negsuc}
-use Rattle.std.proofs.Common.{◌∙◌, rules}
+use Rattle.std.proofs.Common.{◌∙◌, inl, rules}
 use Rattle.replay_stream.specs.Proxies.{outlets_of}
 use Rattle.replay_stream.specs.Sinks.{state_by}
 use Rattle.replay_stream.proofs.Outlets.{streams_then}
@@ -7,81 +7,26 @@ use Rattle.replay_workers.proofs.callers.SameLanes.{lanes_go_on}
 use Rattle.replay_workers.proofs.callers.Stopping.{accounted_turn, core_goes_on}
 use Rattle.replay_stream.proofs.running.turn_to_end.Goals as goal
 
-pub loop-preserved-in-Ok-Took : goal.loop-preserved-in-Ok-Took
-loop-preserved-in-Ok-Took g c =
-    let round = c.pass_each-ended.ensures in
-    let state = state_by g.O.Sink.given g.O.Sink.failures in
-    record {
-      resolving = λ first. c.turn.ensures.resolving (negsuc 0) (c.loop.invariant.resolving first);
-      accounted = λ first.
-          accounted_turn c.loop.resolver c.turn.new.self c.turn.ensures.goes_on c.turn.result c.turn.ensures.step
-          c.turn.ensures.stop_met c.turn.ensures.stopped c.turn.ensures.stop c.turn.ensures.stop_stays c.turn.ensures.no_stop
-          c.turn.ensures.gate_full c.turn.ensures.arena_full (c.loop.invariant.accounted first);
-      goes_on = core_goes_on _ c.loop.resolver.core _ c.loop.invariant.goes_on c.turn.ensures.goes_on;
-      lanes = lanes_go_on _ c.loop.resolver.lanes _ c.loop.invariant.lanes c.turn.ensures.lanes;
-      style = round.style ∙ c.loop.invariant.style;
-      numbered = round.numbered;
-      threads = round.threads ∙ c.loop.invariant.threads;
-      streams = streams_then c.args.printer.now.style c.loop.printer.style c.args.printer.now.failed c.loop.printer.failed
-          c.pass_each-ended.new.printer.failed (state c.args.out.now) (state c.loop.out) (state c.pass_each-ended.new.out)
-          (outlets_of c.args.proxies.now) (outlets_of c.loop.proxies) (outlets_of c.pass_each-ended.new.proxies)
-          c.loop.invariant.style c.loop.invariant.streams round.streams;
-    }
-
-pub loop-preserved-in-Ok-Idle : goal.loop-preserved-in-Ok-Idle
-loop-preserved-in-Ok-Idle g c =
-    let round = c.pass_each-ended.ensures in
-    let state = state_by g.O.Sink.given g.O.Sink.failures in
-    record {
-      resolving = λ first. c.turn.ensures.resolving (negsuc 0) (c.loop.invariant.resolving first);
-      accounted = λ first.
-          accounted_turn c.loop.resolver c.turn.new.self c.turn.ensures.goes_on c.turn.result c.turn.ensures.step
-          c.turn.ensures.stop_met c.turn.ensures.stopped c.turn.ensures.stop c.turn.ensures.stop_stays c.turn.ensures.no_stop
-          c.turn.ensures.gate_full c.turn.ensures.arena_full (c.loop.invariant.accounted first);
-      goes_on = core_goes_on _ c.loop.resolver.core _ c.loop.invariant.goes_on c.turn.ensures.goes_on;
-      lanes = lanes_go_on _ c.loop.resolver.lanes _ c.loop.invariant.lanes c.turn.ensures.lanes;
-      style = round.style ∙ c.loop.invariant.style;
-      numbered = round.numbered;
-      threads = round.threads ∙ c.loop.invariant.threads;
-      streams = streams_then c.args.printer.now.style c.loop.printer.style c.args.printer.now.failed c.loop.printer.failed
-          c.pass_each-ended.new.printer.failed (state c.args.out.now) (state c.loop.out) (state c.pass_each-ended.new.out)
-          (outlets_of c.args.proxies.now) (outlets_of c.loop.proxies) (outlets_of c.pass_each-ended.new.proxies)
-          c.loop.invariant.style c.loop.invariant.streams round.streams;
-    }
-
-pub loop-preserved-in-Ok-Done : goal.loop-preserved-in-Ok-Done
-loop-preserved-in-Ok-Done g c =
-    let round = c.pass_each-ended.ensures in
-    let state = state_by g.O.Sink.given g.O.Sink.failures in
-    record {
-      resolving = λ first. c.turn.ensures.resolving (negsuc 0) (c.loop.invariant.resolving first);
-      accounted = λ first.
-          accounted_turn c.loop.resolver c.turn.new.self c.turn.ensures.goes_on c.turn.result c.turn.ensures.step
-          c.turn.ensures.stop_met c.turn.ensures.stopped c.turn.ensures.stop c.turn.ensures.stop_stays c.turn.ensures.no_stop
-          c.turn.ensures.gate_full c.turn.ensures.arena_full (c.loop.invariant.accounted first);
-      goes_on = core_goes_on _ c.loop.resolver.core _ c.loop.invariant.goes_on c.turn.ensures.goes_on;
-      lanes = lanes_go_on _ c.loop.resolver.lanes _ c.loop.invariant.lanes c.turn.ensures.lanes;
-      style = round.style ∙ c.loop.invariant.style;
-      numbered = round.numbered;
-      threads = round.threads ∙ c.loop.invariant.threads;
-      streams = streams_then c.args.printer.now.style c.loop.printer.style c.args.printer.now.failed c.loop.printer.failed
-          c.pass_each-ended.new.printer.failed (state c.args.out.now) (state c.loop.out) (state c.pass_each-ended.new.out)
-          (outlets_of c.args.proxies.now) (outlets_of c.loop.proxies) (outlets_of c.pass_each-ended.new.proxies)
-          c.loop.invariant.style c.loop.invariant.streams round.streams;
-    }
+pub is_through-through-requires : goal.is_through-through-requires
+is_through-through-requires g c = record {
+  done = λ is.
+      let now = c.turn-turn.ensures.done.0 is in
+      record { nothing_owed = now.2; no_more = inl now.1 };
+  stopped = c.turn-turn.ensures.stop;
+}
 
 pub loop-preserved : goal.loop-preserved
 loop-preserved g c =
     let round = c.pass_each-ended.ensures in
+    let turn = c.turn-turn.ensures in
     let state = state_by g.O.Sink.given g.O.Sink.failures in
     record {
-      resolving = λ first. c.turn.ensures.resolving (negsuc 0) (c.loop.invariant.resolving first);
+      resolving = λ first. turn.resolving (negsuc 0) (c.loop.invariant.resolving first);
       accounted = λ first.
-          accounted_turn c.loop.resolver c.turn.new.self c.turn.ensures.goes_on c.turn.result c.turn.ensures.step
-          c.turn.ensures.stop_met c.turn.ensures.stopped c.turn.ensures.stop c.turn.ensures.stop_stays c.turn.ensures.no_stop
-          c.turn.ensures.gate_full c.turn.ensures.arena_full (c.loop.invariant.accounted first);
-      goes_on = core_goes_on _ c.loop.resolver.core _ c.loop.invariant.goes_on c.turn.ensures.goes_on;
-      lanes = lanes_go_on _ c.loop.resolver.lanes _ c.loop.invariant.lanes c.turn.ensures.lanes;
+          accounted_turn c.loop.resolver c.turn-turn.new.self turn.goes_on c.turn-turn.result turn.step turn.stop_met turn.stopped turn.stop
+          turn.stop_stays turn.no_stop turn.gate_full turn.arena_full (c.loop.invariant.accounted first);
+      goes_on = core_goes_on _ c.loop.resolver.core _ c.loop.invariant.goes_on turn.goes_on;
+      lanes = lanes_go_on _ c.loop.resolver.lanes _ c.loop.invariant.lanes turn.lanes;
       style = round.style ∙ c.loop.invariant.style;
       numbered = round.numbered;
       threads = round.threads ∙ c.loop.invariant.threads;
@@ -91,22 +36,25 @@ loop-preserved g c =
           c.loop.invariant.style c.loop.invariant.streams round.streams;
     }
 
-pub returns-then-ended-clause-lanes : goal.returns-then-ended-clause-lanes
-returns-then-ended-clause-lanes g c =
-    lanes_go_on _ c.loop.resolver.lanes _ c.loop.invariant.lanes c.turn.ensures.lanes
-
-pub returns-then-ended-clause-passed : goal.returns-then-ended-clause-passed
-returns-then-ended-clause-passed g c = c.pass_each-ended.ensures.passed (search rules)
-
-pub returns-then-owed-eq0-clause-accounted : goal.returns-then-owed-eq0-clause-accounted
-returns-then-owed-eq0-clause-accounted g c = λ first.
-    accounted_turn c.loop.resolver c.turn.new.self c.turn.ensures.goes_on c.turn.result c.turn.ensures.step
-    c.turn.ensures.stop_met c.turn.ensures.stopped c.turn.ensures.stop c.turn.ensures.stop_stays c.turn.ensures.no_stop
-    c.turn.ensures.gate_full c.turn.ensures.arena_full (c.loop.invariant.accounted first)
-
-pub returns-then-owed-eq0-clause-lanes : goal.returns-then-owed-eq0-clause-lanes
-returns-then-owed-eq0-clause-lanes g c =
-    lanes_go_on _ c.loop.resolver.lanes _ c.loop.invariant.lanes c.turn.ensures.lanes
-
-pub returns-then-owed-eq0-clause-passed : goal.returns-then-owed-eq0-clause-passed
-returns-then-owed-eq0-clause-passed g c = c.pass_each-ended.ensures.passed (search rules)
+pub returns-then-through : goal.returns-then-through
+returns-then-through g c =
+    let round = c.pass_each-ended.ensures in
+    let turn = c.turn-turn.ensures in
+    let state = state_by g.O.Sink.given g.O.Sink.failures in
+    let through = c.is_through-through.ensures.through (search rules) in
+    record {
+      through = through;
+      closed = λ proxy l at. (turn.closed proxy l at).1 through;
+      accounted = λ first.
+          accounted_turn c.loop.resolver c.turn-turn.new.self turn.goes_on c.turn-turn.result turn.step turn.stop_met turn.stopped turn.stop
+          turn.stop_stays turn.no_stop turn.gate_full turn.arena_full (c.loop.invariant.accounted first);
+      resolving = λ first. turn.resolving (negsuc 0) (c.loop.invariant.resolving first);
+      goes_on = core_goes_on _ c.loop.resolver.core _ c.loop.invariant.goes_on turn.goes_on;
+      lanes = lanes_go_on _ c.loop.resolver.lanes _ c.loop.invariant.lanes turn.lanes;
+      streams = streams_then c.args.printer.now.style c.loop.printer.style c.args.printer.now.failed c.loop.printer.failed
+          c.pass_each-ended.new.printer.failed (state c.args.out.now) (state c.loop.out) (state c.pass_each-ended.new.out)
+          (outlets_of c.args.proxies.now) (outlets_of c.loop.proxies) (outlets_of c.pass_each-ended.new.proxies)
+          c.loop.invariant.style c.loop.invariant.streams round.streams;
+      threads = round.threads ∙ c.loop.invariant.threads;
+      passed = round.passed (search rules);
+    }
