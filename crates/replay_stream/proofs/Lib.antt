@@ -7,4 +7,4 @@ pub mod Streams
 pub mod Places
 pub mod Joining
 pub mod StreamRuns
-pub mod Starting
+pub mod Started

@@ -17,7 +17,7 @@ use Rattle.replay_stream.specs.Sinks.{state_by}
 use Rattle.replay_stream.specs.Streaming.{IsStreamed, recorded_each}
 use Rattle.replay_workers.specs.Stops.{IsStopOf}
 use Rattle.replay_workers.proofs.callers.Stopping.{accounted_new}
-use Rattle.replay_stream.proofs.Starting.{are_numbered_in, clients_now, ended_now, ends_now, goes_on, recorders_now, same_count, streamed_now, threads_stay}
+use Rattle.replay_stream.proofs.Started.{are_numbered_in, clients_now, ended_now, ends_now, goes_on, recorders_now, same_count, streamed_now, threads_stay}
 use Rattle.replay_stream.proofs.running.run_stream.Goals as goal
 
 pub turn_to_end-requires : goal.turn_to_end-requires

@@ -2,7 +2,7 @@ use Rattle.std.proofs.Common.{◌≡◌, length, ◌∙◌, arith, rules, w64, t
 use Rattle.std.proofs.lemmas.Int.{ints, to_z-of_z}
 use Rattle.std.proofs.lemmas.List.{length-map}
 use Rattle.replay_stream.proofs.Joining.{nothing_joined}
-use Rattle.replay_stream.proofs.Starting.{started_count}
+use Rattle.replay_stream.proofs.Started.{started_count}
 use Rattle.replay_stream.proofs.starting.start_stream.Goals as goal
 
 pub returns : goal.returns
