@@ -5,13 +5,16 @@ use Rattle.std.proofs.Common.{refl, sym, ap, subst, ◌∙◌, arith}
 use Rattle.std.proofs.lemmas.List.{length-map}
 use Rattle.std.proofs.lemmas.Option.{same_Some}
 use Rattle.keyspace.specs.declared.batch.Batch.{Batch}
+use Rattle.keyspace.specs.Processed.{Processed}
 use Rattle.keyspace.specs.Run.{Step}
 use Rattle.wire.specs.declared.error.WireError.{WireError}
 use Rattle.resolver.specs.declared.client.Client.{Client}
 use Rattle.resolver.specs.declared.turn.Account.{Account}
 use Rattle.resolver.specs.Lanes.{Lanes, has_ended, sent_to}
+use Rattle.resolver.specs.Observed.{HasSeen}
 use Rattle.resolver.specs.Resolver.{TakesOnlyFrom, IsNewClient}
 use Rattle.resolver.specs.Settled.{Settled}
+use Rattle.replay_summary.specs.declared.occupancy.Occupancy.{Occupancy}
 use Rattle.replay_output.specs.declared.failures.ProxyFailure.{ProxyFailure}
 use Rattle.replay_output.specs.declared.line.Line.{Line}
 use Rattle.replay_output.specs.declared.options.Options.{Options}
@@ -21,7 +24,8 @@ use Rattle.replay_workers.specs.declared.worker.Finished.{Finished}
 use Rattle.replay_workers.specs.Batches.{EndsWith}
 use Rattle.replay_workers.specs.Worker.{HasWorkedOver}
 use Rattle.replay_workers.specs.Threads.{given_each, finished_of, streams_of, HasWorkedOn, IsOutcomeOf, failure_of}
-use Rattle.replay_workers.specs.Run.{EndsAt, IsServedOver, LeavesBatchOver, IsRunOver, is_complete}
+use Rattle.replay_workers.specs.Occupied.{IsOccupancyOf}
+use Rattle.replay_workers.specs.Run.{EndsAt, IsMeasuredRunOver, IsServedOver, LeavesBatchOver, IsRunOver, is_complete}
 use Rattle.replay_workers.specs.Stops.{IsStopOf}
 use Rattle.replay_workers.proofs.callers.Lists.{all_at, found, both, mapped_at}
 use Rattle.replay_workers.proofs.Serving.{kept_so, served, left_over}
@@ -152,3 +156,17 @@ module _ {B : Type 0} (Gives : B → B → Batch → Type 0) (IsEnd : B → Type
   pub is_run_log : is_run.log ≡ log
   unfolding is_run
   is_run_log = refl
+
+  -- what an observer has seen and how full the resolver was are over the same log
+  pub is_measured_run : (Seen : List Processed → Type 0) (occupancy : Occupancy) → HasSeen Seen account.stop options.window log
+      → IsOccupancyOf account.stop options.limit options.window log occupancy
+      → IsMeasuredRunOver Gives IsEnd IsFault (EndsAt Stays ended) Seen occupancy options streams (map vec_items outcome.lines.items)
+      outcome.failures.items (is_complete outcome account) account.stop
+  is_measured_run Seen occupancy seen occupied = record {
+    observed = record {
+      run = is_run;
+      seen = subst (λ (log : List Step). HasSeen Seen account.stop options.window log) (sym is_run_log) seen;
+    };
+    occupied =
+        subst (λ (log : List Step). IsOccupancyOf account.stop options.limit options.window log occupancy) (sym is_run_log) occupied;
+  }

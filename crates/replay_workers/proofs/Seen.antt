@@ -4,18 +4,22 @@ use Rattle.std.proofs.Common.{refl, sym, ap, subst, ◌∙◌}
 use Rattle.std.proofs.lemmas.List.{length-map}
 use Rattle.std.proofs.lemmas.Option.{same_Some}
 use Rattle.keyspace.specs.declared.batch.Batch.{Batch}
+use Rattle.keyspace.specs.Processed.{Processed}
 use Rattle.keyspace.specs.Run.{Step}
 use Rattle.resolver.specs.declared.client.Client.{Client}
 use Rattle.resolver.specs.declared.stop.Stop.{Stop}
+use Rattle.resolver.specs.Observed.{HasSeen}
 use Rattle.resolver.specs.Resolver.{TakesOnlyFrom}
 use Rattle.wire.specs.declared.error.WireError.{WireError}
+use Rattle.replay_summary.specs.declared.occupancy.Occupancy.{Occupancy}
 use Rattle.replay_output.specs.declared.failures.ProxyFailure.{ProxyFailure}
 use Rattle.replay_output.specs.declared.line.Line.{Line}
 use Rattle.replay_output.specs.declared.options.Options.{Options}
 use Rattle.replay_output.specs.declared.options.style.Style.{Style}
 use Rattle.replay_workers.specs.declared.worker.Finished.{Finished}
 use Rattle.replay_workers.specs.Worker.{HasWorkedOver}
-use Rattle.replay_workers.specs.Run.{IsServedOver, IsRunOver}
+use Rattle.replay_workers.specs.Occupied.{IsOccupancyOf}
+use Rattle.replay_workers.specs.Run.{IsMeasuredRunOver, IsRunOver, IsServedOver}
 use Rattle.replay_workers.proofs.callers.Lists.{found, mapped_at}
 use Rattle.replay_workers.proofs.callers.Reading.{gives_seen, sends_seen}
 
@@ -112,3 +116,30 @@ module _ {X Y : Type 0} (view : X → Y) (Gives : X → X → Batch → Type 0) 
         → (run_seen Kept options streams received failures complete stop run).log ≡ run.log
     unfolding run_seen
     run_seen_log Kept options streams received failures complete stop run = refl
+
+    -- and a run of these files, by which an observer and the occupancy are told
+    pub files_seen : (Kept : ℕ → X → Type 0) (options : Options) (streams : List X) (files : List Y) (received : List (List Line))
+        (failures : List ProxyFailure) (complete : Bool) (stop : Option Stop) → map view streams ≡ files
+        → IsRunOver Gives IsEndBehind IsFaultBehind Kept options streams received failures complete stop
+        → IsRunOver Viewed IsEnd IsFault (λ _ _. Unit {0}) options files received failures complete stop
+    files_seen Kept options streams files received failures complete stop are run =
+        subst (λ (files : List Y). IsRunOver Viewed IsEnd IsFault (λ _ _. Unit {0}) options files received failures complete stop) are
+        (run_seen Kept options streams received failures complete stop run)
+
+    pub measured_seen : (Kept : ℕ → X → Type 0) (Seen : List Processed → Type 0) (occupancy : Occupancy) (options : Options)
+        (streams : List X) (files : List Y) (received : List (List Line)) (failures : List ProxyFailure) (complete : Bool)
+        (stop : Option Stop) → map view streams ≡ files
+        → IsMeasuredRunOver Gives IsEndBehind IsFaultBehind Kept Seen occupancy options streams received failures complete stop
+        → IsMeasuredRunOver Viewed IsEnd IsFault (λ _ _. Unit {0}) Seen occupancy options files received failures complete stop
+    measured_seen Kept Seen occupancy options streams files received failures complete stop are measured =
+        let run = measured.observed.run in
+        let log_is = sym (run_seen_log Kept options streams received failures complete stop run) in
+        subst (λ (files : List Y). IsMeasuredRunOver Viewed IsEnd IsFault (λ _ _. Unit {0}) Seen occupancy options files received failures complete stop)
+        are
+        (record {
+          observed = record {
+            run = run_seen Kept options streams received failures complete stop run;
+            seen = subst (λ (log : List Step). HasSeen Seen stop options.window log) log_is measured.observed.seen;
+          };
+          occupied = subst (λ (log : List Step). IsOccupancyOf stop options.limit options.window log occupancy) log_is measured.occupied;
+        })

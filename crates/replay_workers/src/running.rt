@@ -1,7 +1,7 @@
 //! A run: the workers read, send and take, while this thread turns the resolver.
 
 ghost use Rattle.std.specs.Prelude.{◌≡◌, ℕ, ◌≤◌, true, length, map, vec_items, vec_len, Some};
-ghost use Rattle.std.specs.Prelude.{[], None, slice_get, IfOk};
+ghost use Rattle.std.specs.Prelude.{[], None, slice_get, IfErr, IfOk, IsTrue, Ok};
 ghost use Rattle.std.specs.List.{All};
 ghost use Rattle.flow.specs.Next.{AllWait, IsNext};
 ghost use Rattle.resolver.specs.declared.resolver_core.TheConstants.{MAX_PROXIES};
@@ -193,16 +193,11 @@ fn turn_to_end<G: ShareKeeper, R: Wait, O: Observer>(
 {
     let mut occupancy = Occupancy::new(resolver.boundaries());
     for _ in rt.forever() {
-        match turn_and_note(resolver, observer, &mut occupancy) {
-            Ok(Turn::Took(_)) => watch.forget(),
-            Ok(Turn::Idle) => {
-                let_through(resolver, gatekeeper, watch);
-                thread::yield_now();
-            }
-            Ok(Turn::Done) => return occupancy,
-            Err(_) if resolver.owed() == 0 => return occupancy,
-            Err(_) => thread::yield_now(),
+        let turn = turn_and_note(resolver, observer, &mut occupancy);
+        if is_through(turn, resolver) {
+            return occupancy;
         }
+        give_way(turn, resolver, gatekeeper, watch);
     }
     unreachable!()
 }
@@ -226,6 +221,37 @@ fn turn_and_note<O: Observer>(
     }
     occupancy.note(resolver.held(), resolver.boundaries());
     turn
+}
+
+/// Returns whether no answer comes after this turn of the resolver.
+pub fn is_through(turn: Result<Turn, Stop>, resolver: &Resolver) -> bool
+    requires done { turn ≡ Ok Turn.Done → IsThrough resolver.now }
+    requires stopped { IfErr turn (λ stop. resolver.now.core.stop ≡ Some stop) }
+    ensures through { IsTrue result → IsThrough resolver.now }
+{
+    match turn {
+        Ok(Turn::Done) => true,
+        Ok(Turn::Took(_) | Turn::Idle) => false,
+        Err(_) => resolver.owed() == 0,
+    }
+}
+
+/// Lets other threads run after this turn of the resolver, unless it took a batch. If all proxies
+/// wait for each other, a batch is admitted.
+pub fn give_way<G: ShareKeeper>(
+    turn: Result<Turn, Stop>,
+    resolver: &Resolver,
+    gatekeeper: &G,
+    watch: &mut Watch,
+) {
+    match turn {
+        Ok(Turn::Took(_)) => watch.forget(),
+        Ok(Turn::Idle) => {
+            let_through(resolver, gatekeeper, watch);
+            thread::yield_now();
+        }
+        Ok(Turn::Done) | Err(_) => thread::yield_now(),
+    }
 }
 
 /// Lets the batch of the proxy through that is next, after a turn that took nothing. What all

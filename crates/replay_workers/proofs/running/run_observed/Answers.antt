@@ -1,10 +1,8 @@
-use Rattle.std.proofs.Common.{◌≡◌, ℕ, List, length, sym, ap, subst, ◌∙◌, arith, refl}
+use Rattle.std.proofs.Common.{◌≡◌, ℕ, List, [], length, sym, ap, ◌∙◌, arith, refl}
 use Rattle.std.specs.Io.KnownBytes.{IsAtEnd}
 use Rattle.std.specs.Prelude.{Option, map, vec_items}
 use Rattle.std.proofs.lemmas.List.{length-map}
 use Rattle.keyspace.specs.declared.batch.Batch.{Batch}
-use Rattle.keyspace.specs.Run.{Step}
-use Rattle.resolver.specs.Observed.{HasSeen}
 use Rattle.wire.specs.declared.frames.Frames.{Frames}
 use Rattle.wire.specs.Frames.{frames_reader}
 use Rattle.wire.specs.NextFrame.{TakesFrame}
@@ -14,9 +12,8 @@ use Rattle.replay_workers.specs.declared.asking.AskingFrames.{AskingFrames}
 use Rattle.replay_workers.specs.Asking.{asking_reader}
 use Rattle.replay_workers.specs.Reporting.{TakesResolved, resolved_for}
 use Rattle.replay_workers.specs.Worker.{IsFaultAt}
-use Rattle.replay_workers.specs.Occupied.{IsOccupancyOf}
-use Rattle.replay_workers.specs.Run.{IsMeasuredRun, IsRun, IsObservedRun, is_complete}
-use Rattle.replay_workers.proofs.Seen.{map_twice, run_seen, run_seen_log}
+use Rattle.replay_workers.specs.Run.{IsMeasuredRun, is_complete}
+use Rattle.replay_workers.proofs.Seen.{files_seen, map_twice, measured_seen}
 use Rattle.replay_workers.proofs.running.run_observed.Goals as goal
 
 -- a batch of these reports is the one that is resolved under the same reports
@@ -74,32 +71,16 @@ returns-in_ok-outcome-in-Asked g c =
     let Seen = g.O.Observer.has_seen c.run_over.new.observer in
     let files : map view streams ≡ map g.S.Source.remaining c.args.readers.items =
     map_twice frames_reader g.S.Source.remaining streams ∙ ap (map g.S.Source.remaining) c.in_ok-streams-in-Asked.ensures.readers in
+    let measured : g.O.Observer.has_seen c.args.observer.now []
+    → IsMeasuredRun Seen outcome.occupancy options (map g.S.Source.remaining c.args.readers.items) (map vec_items outcome.lines.items)
+    outcome.failures.items (is_complete outcome account) account.stop =
+    λ first. measured_seen view Gives (TakesResolved reports) IsAtEnd IsFaultAt seen _ Seen outcome.occupancy options streams
+    (map g.S.Source.remaining c.args.readers.items) _ _ _ _ files (ended.measured first) in
     record {
-      run = subst (λ (files : List (Option (List ℕ))). IsRun options files (map vec_items outcome.lines.items) outcome.failures.items
-          (is_complete outcome account) account.stop) files
-          (run_seen view Gives (TakesResolved reports) IsAtEnd IsFaultAt seen _ options streams _ _ _ _ ended.run);
-      observed = λ first.
-          let saw = ended.observed first in
-          subst (λ (files : List (Option (List ℕ))). IsObservedRun Seen options files (map vec_items outcome.lines.items)
-          outcome.failures.items (is_complete outcome account) account.stop) files
-          (record {
-            run = run_seen view Gives (TakesResolved reports) IsAtEnd IsFaultAt seen _ options streams _ _ _ _ saw.run;
-            seen = subst (λ (log : List Step). HasSeen Seen account.stop options.window log)
-                (sym (run_seen_log view Gives (TakesResolved reports) IsAtEnd IsFaultAt seen _ options streams _ _ _ _ saw.run)) saw.seen;
-          });
-      measured = λ first.
-          let saw = ended.measured first in
-          let log_is = run_seen_log view Gives (TakesResolved reports) IsAtEnd IsFaultAt seen _ options streams _ _ _ _ saw.observed.run in
-          subst (λ (files : List (Option (List ℕ))). IsMeasuredRun Seen outcome.occupancy options files (map vec_items outcome.lines.items)
-          outcome.failures.items (is_complete outcome account) account.stop) files
-          (record {
-            observed = record {
-              run = run_seen view Gives (TakesResolved reports) IsAtEnd IsFaultAt seen _ options streams _ _ _ _ saw.observed.run;
-              seen = subst (λ (log : List Step). HasSeen Seen account.stop options.window log) (sym log_is) saw.observed.seen;
-            };
-            occupied = subst (λ (log : List Step). IsOccupancyOf account.stop options.limit options.window log outcome.occupancy)
-                (sym log_is) saw.occupied;
-          });
+      run = files_seen view Gives (TakesResolved reports) IsAtEnd IsFaultAt seen _ options streams
+          (map g.S.Source.remaining c.args.readers.items) _ _ _ _ files ended.run;
+      observed = λ first. (measured first).observed;
+      measured = measured;
       capacity = ended.capacity;
       setting = c.run_over.ensures.setting;
     }
@@ -118,32 +99,16 @@ returns-in_ok-outcome-in-All g c =
     let Seen = g.O.Observer.has_seen c.run_over-in-All.new.observer in
     let files : map view streams ≡ map g.S.Source.remaining c.args.readers.items =
     map_twice asking_reader g.S.Source.remaining streams ∙ ap (map g.S.Source.remaining) c.in_ok-streams-in-All.ensures.readers in
+    let measured : g.O.Observer.has_seen c.args.observer.now []
+    → IsMeasuredRun Seen outcome.occupancy options (map g.S.Source.remaining c.args.readers.items) (map vec_items outcome.lines.items)
+    outcome.failures.items (is_complete outcome account) account.stop =
+    λ first. measured_seen view Gives (TakesResolved reports) IsAtEnd IsFaultAt seen _ Seen outcome.occupancy options streams
+    (map g.S.Source.remaining c.args.readers.items) _ _ _ _ files (ended.measured first) in
     record {
-      run = subst (λ (files : List (Option (List ℕ))). IsRun options files (map vec_items outcome.lines.items) outcome.failures.items
-          (is_complete outcome account) account.stop) files
-          (run_seen view Gives (TakesResolved reports) IsAtEnd IsFaultAt seen _ options streams _ _ _ _ ended.run);
-      observed = λ first.
-          let saw = ended.observed first in
-          subst (λ (files : List (Option (List ℕ))). IsObservedRun Seen options files (map vec_items outcome.lines.items)
-          outcome.failures.items (is_complete outcome account) account.stop) files
-          (record {
-            run = run_seen view Gives (TakesResolved reports) IsAtEnd IsFaultAt seen _ options streams _ _ _ _ saw.run;
-            seen = subst (λ (log : List Step). HasSeen Seen account.stop options.window log)
-                (sym (run_seen_log view Gives (TakesResolved reports) IsAtEnd IsFaultAt seen _ options streams _ _ _ _ saw.run)) saw.seen;
-          });
-      measured = λ first.
-          let saw = ended.measured first in
-          let log_is = run_seen_log view Gives (TakesResolved reports) IsAtEnd IsFaultAt seen _ options streams _ _ _ _ saw.observed.run in
-          subst (λ (files : List (Option (List ℕ))). IsMeasuredRun Seen outcome.occupancy options files (map vec_items outcome.lines.items)
-          outcome.failures.items (is_complete outcome account) account.stop) files
-          (record {
-            observed = record {
-              run = run_seen view Gives (TakesResolved reports) IsAtEnd IsFaultAt seen _ options streams _ _ _ _ saw.observed.run;
-              seen = subst (λ (log : List Step). HasSeen Seen account.stop options.window log) (sym log_is) saw.observed.seen;
-            };
-            occupied = subst (λ (log : List Step). IsOccupancyOf account.stop options.limit options.window log outcome.occupancy)
-                (sym log_is) saw.occupied;
-          });
+      run = files_seen view Gives (TakesResolved reports) IsAtEnd IsFaultAt seen _ options streams
+          (map g.S.Source.remaining c.args.readers.items) _ _ _ _ files ended.run;
+      observed = λ first. (measured first).observed;
+      measured = measured;
       capacity = ended.capacity;
       setting = c.run_over-in-All.ensures.setting;
     }

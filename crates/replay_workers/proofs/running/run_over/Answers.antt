@@ -23,7 +23,7 @@ use Rattle.replay_workers.specs.Stops.{IsStopOf}
 use Rattle.replay_workers.proofs.callers.SameLanes.{clients_go_on}
 use Rattle.replay_workers.proofs.callers.Stopping.{accounted_new}
 use Rattle.replay_workers.proofs.Working.{capacities, capacities_stay, clients_back, clients_ended, started_count}
-use Rattle.replay_workers.proofs.Runs.{is_run, is_run_log}
+use Rattle.replay_workers.proofs.Runs.{is_measured_run, is_run}
 use Rattle.replay_workers.proofs.running.run_over.Goals as goal
 
 -- nothing was handed back yet
@@ -131,24 +131,15 @@ returns g c =
     (map (vec_items {X = Line} {Z = Global}) outcome.lines.items) outcome.failures.items (is_complete outcome account) account.stop =
     λ first.
     let saw = c.turn_to_end-occupancy.ensures.measured c.in_ok-resolver.ensures.stands c.in_ok-resolver.ensures.no_stop first in
-    let log_is = is_run_log g.B.Batches.gives g.B.Batches.is_at_end g.B.Batches.is_at_fault g.B.Batches.stays c.args.options share streams clients worked.0 outcome c.join_all-outcome.result.1.items saw.log resolver.lanes
-    account same c.in_ok-resolver.ensures.new_clients handed worked.2 worked.3 (settled saw.log saw.stands) whole (met saw.log saw.met) in
-    record {
-      observed = record {
-        run = is_run g.B.Batches.gives g.B.Batches.is_at_end g.B.Batches.is_at_fault g.B.Batches.stays c.args.options share streams clients worked.0 outcome c.join_all-outcome.result.1.items saw.log resolver.lanes
-            account same c.in_ok-resolver.ensures.new_clients handed worked.2 worked.3 (settled saw.log saw.stands) whole
-            (met saw.log saw.met);
-        seen = subst (λ (log : List Step). HasSeen Seen account.stop c.args.options.window log) (sym log_is)
-            (subst (λ (window : ℤ). HasSeen Seen account.stop window saw.log) window_is
-            (subst (λ (stop : Option Stop). HasSeen Seen stop resolver.core.set.window saw.log)
-            (sym c.settle-account.ensures.stop) saw.seen));
-      };
-      occupied = subst (λ (log : List Step). IsOccupancyOf account.stop c.args.options.limit c.args.options.window log occupancy) (sym log_is)
-          (subst (λ (limit : ℕ). IsOccupancyOf account.stop limit c.args.options.window saw.log occupancy) limit_is
-          (subst (λ (window : ℤ). IsOccupancyOf account.stop resolver.core.set.map.limit window saw.log occupancy) window_is
-          (subst (λ (stop : Option Stop). IsOccupancyOf stop resolver.core.set.map.limit resolver.core.set.window saw.log occupancy)
-          (sym c.settle-account.ensures.stop) saw.occupied)));
-    } in
+    is_measured_run g.B.Batches.gives g.B.Batches.is_at_end g.B.Batches.is_at_fault g.B.Batches.stays c.args.options share streams clients
+    worked.0 outcome c.join_all-outcome.result.1.items saw.log resolver.lanes account same c.in_ok-resolver.ensures.new_clients handed worked.2
+    worked.3 (settled saw.log saw.stands) whole (met saw.log saw.met) Seen occupancy
+    (subst (λ (window : ℤ). HasSeen Seen account.stop window saw.log) window_is
+    (subst (λ (stop : Option Stop). HasSeen Seen stop resolver.core.set.window saw.log) (sym c.settle-account.ensures.stop) saw.seen))
+    (subst (λ (limit : ℕ). IsOccupancyOf account.stop limit c.args.options.window saw.log occupancy) limit_is
+    (subst (λ (window : ℤ). IsOccupancyOf account.stop resolver.core.set.map.limit window saw.log occupancy) window_is
+    (subst (λ (stop : Option Stop). IsOccupancyOf stop resolver.core.set.map.limit resolver.core.set.window saw.log occupancy)
+    (sym c.settle-account.ensures.stop) saw.occupied))) in
     record {
       run = ran;
       observed = λ first. (measured first).observed;

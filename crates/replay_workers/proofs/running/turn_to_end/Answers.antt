@@ -1,5 +1,5 @@
 use Rattle.std.specs.Prelude.{negsuc}
-use Rattle.std.proofs.Common.{refl, subst, sym, ◌∙◌}
+use Rattle.std.proofs.Common.{refl, subst, sym, ◌∙◌, inl, rules}
 use Rattle.replay_summary.specs.declared.occupancy.Occupancy.{Occupancy}
 use Rattle.resolver.proofs.callers.Later.{lanes_same}
 use Rattle.replay_workers.specs.Occupied.{IsMeasured}
@@ -22,82 +22,43 @@ loop-init g c = record {
   lanes = lanes_same c.args.resolver.now.lanes;
 }
 
-pub loop-preserved-in-Ok-Took : goal.loop-preserved-in-Ok-Took
-loop-preserved-in-Ok-Took g c =
-    let turns = c.turn_and_note.ensures.turns in
-    record {
-      resolving = λ first. turns.resolving (negsuc 0) (c.loop.invariant.resolving first);
-      accounted = λ first.
-          accounted_turn c.loop.resolver c.turn_and_note.new.resolver turns.goes_on c.turn_and_note.result turns.step turns.stop_met
-          turns.stopped turns.stop turns.stop_stays turns.no_stop turns.gate_full turns.arena_full (c.loop.invariant.accounted first);
-      measured = λ stands none first. c.turn_and_note.ensures.measured (c.loop.invariant.measured stands none first);
-      setting = c.turn_and_note.ensures.setting ∙ c.loop.invariant.setting;
-      goes_on = core_goes_on _ c.loop.resolver.core _ c.loop.invariant.goes_on turns.goes_on;
-      lanes = lanes_go_on _ c.loop.resolver.lanes _ c.loop.invariant.lanes turns.lanes;
-    }
-
-pub loop-preserved-in-Ok-Idle : goal.loop-preserved-in-Ok-Idle
-loop-preserved-in-Ok-Idle g c =
-    let turns = c.turn_and_note.ensures.turns in
-    record {
-      resolving = λ first. turns.resolving (negsuc 0) (c.loop.invariant.resolving first);
-      accounted = λ first.
-          accounted_turn c.loop.resolver c.turn_and_note.new.resolver turns.goes_on c.turn_and_note.result turns.step turns.stop_met
-          turns.stopped turns.stop turns.stop_stays turns.no_stop turns.gate_full turns.arena_full (c.loop.invariant.accounted first);
-      measured = λ stands none first. c.turn_and_note.ensures.measured (c.loop.invariant.measured stands none first);
-      setting = c.turn_and_note.ensures.setting ∙ c.loop.invariant.setting;
-      goes_on = core_goes_on _ c.loop.resolver.core _ c.loop.invariant.goes_on turns.goes_on;
-      lanes = lanes_go_on _ c.loop.resolver.lanes _ c.loop.invariant.lanes turns.lanes;
-    }
+pub is_through-requires : goal.is_through-requires
+is_through-requires g c = record {
+  done = λ is.
+      let now = c.turn_and_note-turn.ensures.turns.done.0 is in
+      record { nothing_owed = now.2; no_more = inl now.1 };
+  stopped = c.turn_and_note-turn.ensures.turns.stop;
+}
 
 pub loop-preserved : goal.loop-preserved
 loop-preserved g c =
-    let turns = c.turn_and_note.ensures.turns in
+    let turns = c.turn_and_note-turn.ensures.turns in
     record {
       resolving = λ first. turns.resolving (negsuc 0) (c.loop.invariant.resolving first);
       accounted = λ first.
-          accounted_turn c.loop.resolver c.turn_and_note.new.resolver turns.goes_on c.turn_and_note.result turns.step turns.stop_met
+          accounted_turn c.loop.resolver c.turn_and_note-turn.new.resolver turns.goes_on c.turn_and_note-turn.result turns.step turns.stop_met
           turns.stopped turns.stop turns.stop_stays turns.no_stop turns.gate_full turns.arena_full (c.loop.invariant.accounted first);
-      measured = λ stands none first. c.turn_and_note.ensures.measured (c.loop.invariant.measured stands none first);
-      setting = c.turn_and_note.ensures.setting ∙ c.loop.invariant.setting;
+      measured = λ stands none first. c.turn_and_note-turn.ensures.measured (c.loop.invariant.measured stands none first);
+      setting = c.turn_and_note-turn.ensures.setting ∙ c.loop.invariant.setting;
       goes_on = core_goes_on _ c.loop.resolver.core _ c.loop.invariant.goes_on turns.goes_on;
       lanes = lanes_go_on _ c.loop.resolver.lanes _ c.loop.invariant.lanes turns.lanes;
     }
 
-pub returns-in-Ok-Done-clause-accounted : goal.returns-in-Ok-Done-clause-accounted
-returns-in-Ok-Done-clause-accounted g c = λ first.
-    let turns = c.turn_and_note.ensures.turns in
-    accounted_turn c.loop.resolver c.turn_and_note.new.resolver turns.goes_on c.turn_and_note.result turns.step turns.stop_met
-    turns.stopped turns.stop turns.stop_stays turns.no_stop turns.gate_full turns.arena_full (c.loop.invariant.accounted first)
-
-pub returns-in-Ok-Done-clause-measured : goal.returns-in-Ok-Done-clause-measured
-returns-in-Ok-Done-clause-measured g c = λ stands none first. c.turn_and_note.ensures.measured (c.loop.invariant.measured stands none first)
-
-pub returns-in-Ok-Done-clause-resolving : goal.returns-in-Ok-Done-clause-resolving
-returns-in-Ok-Done-clause-resolving g c = λ first. c.turn_and_note.ensures.turns.resolving (negsuc 0) (c.loop.invariant.resolving first)
-
-pub returns-in-Ok-Done-clause-lanes : goal.returns-in-Ok-Done-clause-lanes
-returns-in-Ok-Done-clause-lanes g c =
-    lanes_go_on _ c.loop.resolver.lanes _ c.loop.invariant.lanes c.turn_and_note.ensures.turns.lanes
-
-pub returns-in-Err-clause-accounted : goal.returns-in-Err-clause-accounted
-returns-in-Err-clause-accounted g c = λ first.
-    let turns = c.turn_and_note.ensures.turns in
-    accounted_turn c.loop.resolver c.turn_and_note.new.resolver turns.goes_on c.turn_and_note.result turns.step turns.stop_met
-    turns.stopped turns.stop turns.stop_stays turns.no_stop turns.gate_full turns.arena_full (c.loop.invariant.accounted first)
-
-pub returns-in-Err-clause-measured : goal.returns-in-Err-clause-measured
-returns-in-Err-clause-measured g c = λ stands none first. c.turn_and_note.ensures.measured (c.loop.invariant.measured stands none first)
-
-pub returns-in-Err-clause-resolving : goal.returns-in-Err-clause-resolving
-returns-in-Err-clause-resolving g c = λ first. c.turn_and_note.ensures.turns.resolving (negsuc 0) (c.loop.invariant.resolving first)
-
-pub returns-in-Err-clause-lanes : goal.returns-in-Err-clause-lanes
-returns-in-Err-clause-lanes g c =
-    lanes_go_on _ c.loop.resolver.lanes _ c.loop.invariant.lanes c.turn_and_note.ensures.turns.lanes
-
-pub returns-in-Ok-Done-clause-boundaries : goal.returns-in-Ok-Done-clause-boundaries
-returns-in-Ok-Done-clause-boundaries g c = c.turn_and_note.ensures.boundaries
-
-pub returns-in-Err-clause-boundaries : goal.returns-in-Err-clause-boundaries
-returns-in-Err-clause-boundaries g c = c.turn_and_note.ensures.boundaries
+pub returns-then-is_through : goal.returns-then-is_through
+returns-then-is_through g c =
+    let turned = c.turn_and_note-turn.ensures in
+    let turns = turned.turns in
+    let through = c.is_through.ensures.through (search rules) in
+    record {
+      through = through;
+      closed = λ proxy l at. (turns.closed proxy l at).1 through;
+      accounted = λ first.
+          accounted_turn c.loop.resolver c.turn_and_note-turn.new.resolver turns.goes_on c.turn_and_note-turn.result turns.step turns.stop_met
+          turns.stopped turns.stop turns.stop_stays turns.no_stop turns.gate_full turns.arena_full (c.loop.invariant.accounted first);
+      measured = λ stands none first. turned.measured (c.loop.invariant.measured stands none first);
+      boundaries = turned.boundaries;
+      setting = turned.setting ∙ c.loop.invariant.setting;
+      resolving = λ first. turns.resolving (negsuc 0) (c.loop.invariant.resolving first);
+      goes_on = core_goes_on _ c.loop.resolver.core _ c.loop.invariant.goes_on turns.goes_on;
+      lanes = lanes_go_on _ c.loop.resolver.lanes _ c.loop.invariant.lanes turns.lanes;
+    }
