@@ -222,7 +222,6 @@ fn lines_about_files() {
     let last = Position { frame: u64::MAX, offset: u64::MAX };
     for (finding, text) in [
         (Finding::CannotOpen, "can't be opened: check the name and the permissions"),
-        (Finding::Directory, "is a directory: name the files in it"),
         (Finding::StandardInput, "is standard input, which can't be read again: record it to a file, and replay that"),
         (Finding::Memory, "can't be examined for want of memory: free memory"),
         (Finding::Unreadable(start), "can't be read: it is a directory, or its device fails"),
@@ -248,7 +247,8 @@ fn lines_about_files() {
 #[test]
 fn names_stay_on_their_line() {
     for (name, shown) in [("-", "-"), ("", ""), ("é\u{1f600}", "é\u{1f600}"), ("a\nb\tc\x1b[31m\x7f~ ", "a?b?c?[31m?~ ")] {
-        assert_eq!(remedy(name, &Finding::Directory), format!("  {shown} is a directory: name the files in it\n"));
+        let line = format!("  {shown} can't be opened: check the name and the permissions\n");
+        assert_eq!(remedy(name, &Finding::CannotOpen), line);
     }
 }
 

@@ -1,4 +1,4 @@
-//! What `replay --verbose` says of a failure: each finding with its complete line, and nothing without a failure.
+//! What `replay --verbose` says of a failure: each finding with its complete line. Without a failure, that all batches are held.
 
 use replay_program::{Extent, FileError, Files};
 use std::io::{Cursor, Error, ErrorKind, Read, Result as IoResult, Write};
@@ -51,8 +51,12 @@ fn bytes_of(name: &str) -> Option<Vec<u8>> {
         "folder" => Vec::new(),
         "unreadable" => file_of(&["-1>0"], b""),
         "late" => file_of_versions(11..1_200),
+        "most" => file_of_versions(11..1_035),
+        "late and first" => [file_of_versions(11..900), file_of(&["-1>0"], b"")].concat(),
+        "nothing" => Vec::new(),
         "gap" => [file_of(&["-1>0"], b""), file_of_versions(11..1_200)].concat(),
-        "held" => file_of(&["300>400"], b""),
+        "held" | "pipe" => file_of(&["300>400"], b""),
+        "held before" => file_of(&["400>500", "200>300", "300>400"], b""),
         "two\nlines" => b"\0".to_vec(),
         _ => return None,
     };
@@ -73,7 +77,7 @@ impl Files for Named {
     }
 
     fn is_regular(&self, name: &str) -> bool {
-        name != "folder" && bytes_of(name).is_some()
+        !matches!(name, "folder" | "pipe") && bytes_of(name).is_some()
     }
 
     fn create(&self, name: &str) -> Result<Self::Writer, FileError> {
@@ -252,10 +256,46 @@ fn output_that_fails() {
     }
 }
 
-/// Without a failure nothing more is said, and neither of a refused command line.
+/// Returns the line that all batches are held, of which one follows this version and none an earlier one.
+fn held_from(version: i64) -> String {
+    format!("  no batch follows version -1, so all are held: begin the chain with `batches opening --version {version}`\n")
+}
+
+/// Without a failure it is said if all batches are held, whatever the task and the number of resolvers.
+#[test]
+fn all_batches_are_held() {
+    let rows: [(&[&str], &str, i64); 12] = [
+        (&["held"], "done", 300),
+        (&["held", "second"], "done", 100),
+        (&["second", "held before"], "done", 100),
+        (&["held before"], "done", 200),
+        (&["held", "--stream"], "done", 300),
+        (&["--summary", "second"], "done", 100),
+        (&["--summary", "--top", "2", "second"], "done", 100),
+        (&["--explain", "second"], "done", 100),
+        (&["--quiet", "-o", "to", "second"], "done", 100),
+        (&["--check", "replies", "second"], "differs", 100),
+        (&["--resolvers", "2", "second", "held"], "done", 100),
+        (&["--resolvers", "2", "--check", "replies", "second"], "differs", 100),
+    ];
+    for (words, ended, version) in rows {
+        assert_eq!(told(words), format!("{ended}: "), "{words:?}");
+        let verbose: Vec<_> = words.iter().chain(&["--verbose"]).copied().collect();
+        assert_eq!(told(&verbose), format!("{ended}: {}", held_from(version)), "{words:?}");
+    }
+}
+
+/// It is said of as many batches as a resolver holds, and of each file up to the first batch that begins a chain.
+#[test]
+fn most_batches_are_held() {
+    assert_eq!(told(&["--verbose", "most"]), format!("done: {}", held_from(10)));
+    assert_eq!(told(&["--verbose", "late and first"]), "done: ");
+}
+
+/// Nothing more is said if a batch begins a chain, if a file can't be read again, or of a refused command line.
 #[test]
 fn nothing_further() {
-    for words in [&["first", "second"][..], &["held"], &["held", "--stream"], &["--summary", "second"]] {
+    for words in [&["first", "second"][..], &["second", "first"], &["held", "first", "--stream"], &["pipe"], &["held", "pipe"], &["nothing"]] {
         let verbose: Vec<_> = words.iter().chain(&["--verbose"]).copied().collect();
         assert_eq!(told(&verbose), "done: ", "{words:?}");
     }

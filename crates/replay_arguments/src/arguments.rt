@@ -49,7 +49,8 @@ pub struct CommandLine<'a> {
     pub output: Option<&'a str>,
     /// The file for the summary that is written beside the answers, if one is requested.
     pub summary_to: Option<SummaryFile<'a>>,
-    /// A failure is explained by one more line on standard error.
+    /// A failure is explained by one more line on standard error. Without one, a line says if all
+    /// batches are held.
     pub verbose: bool,
     pub options: Options,
     pub sharding: Sharding<'a>,

@@ -37,6 +37,10 @@ pub record FramesSoFar (left now : Option (List ℕ)) (number offset : ℕ) (fou
   pub offset_is : offset ≡ length bytes
   pub least : HasLeast batches found.least_previous
 
+-- the same, wherever the next frame is
+abbrev pub FramesUpTo : Option (List ℕ) → Option (List ℕ) → Batches → Type 0
+FramesUpTo left now found = (number offset : ℕ) × FramesSoFar left now number offset found
+
 pub no_frames : (left : Option (List ℕ)) (found : Batches) → HasLeast [] found.least_previous → FramesSoFar left left 1 0 found
 no_frames left found least = record {
   bytes = [];
@@ -62,6 +66,19 @@ one_frame_more left now next number offset len after found more part batch so_fa
   offset_is = omega (arith, so_far.offset_is, length-append so_far.bytes part, len_is, after_is);
   least = added so_far.batches so_far.least;
 }
+
+pub frames_more : (left now next : Option (List ℕ)) (found more : Batches) (part : List ℕ) (batch : Batch)
+    → FramesUpTo left now found → Consumes now next part → IsFrameOf part batch
+    → ((batches : List Batch) → HasLeast batches found.least_previous → HasLeast (batches ++ batch ∷ []) more.least_previous)
+    → FramesUpTo left next more
+frames_more left now next found more part batch so_far read is added =
+    let number = so_far.0 in
+    let offset = so_far.1 in (
+      number + 1,
+      offset + length part,
+      one_frame_more left now next number offset (length part) (offset + length part) found more part batch so_far.2 read is refl refl
+          added,
+    )
 
 -- the bytes that were read are all, if nothing is left
 all_read : (left now : Option (List ℕ)) (bytes : List ℕ) → Consumes left now bytes → IsAtEnd now → IfSome left (λ all. all ≡ bytes)

@@ -62,7 +62,6 @@ IsFindingAt position left (found.Truncated at missing) =
 IsFindingAt position left (found.NotAFrame at fault) =
     (at ≡ position) × IfSome left (IsNoFrame fault) × IfSome left (IsNoJson position)
 IsFindingAt position left found.CannotOpen = ⊥
-IsFindingAt position left found.Directory = ⊥
 IsFindingAt position left found.StandardInput = ⊥
 
 -- The bytes that were left begin with the frames of some batches, and the finding is what comes after them.

@@ -9,7 +9,7 @@ ghost use Rattle.replay_diagnosis.specs.Following.{NoneFollowsBelow};
 use keyspace::Batch;
 
 // The version that the first batch of a chain follows.
-const BEGINNING: i64 = -1;
+pub(crate) const BEGINNING: i64 = -1;
 
 /// Which versions some batches follow.
 #[derive(Clone, Copy, Debug, PartialEq, Eq)]

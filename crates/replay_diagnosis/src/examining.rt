@@ -52,7 +52,7 @@ pub fn examine<R: Source>(alloc: Global, reader: &mut R) -> Result<Batches, Find
 
 // Reads the next frame into the buffer and returns its batch, or none at the end of the file. The
 // frame is at this position.
-fn next_batch<R: Source>(
+pub(crate) fn next_batch<R: Source>(
     alloc: Global,
     position: Position,
     reader: &mut R,

@@ -24,7 +24,7 @@ use Rattle.replay_output.specs.declared.status.Status.{Status}
 use Rattle.replay_output.specs.declared.status.Status.TheVariants.{Done, Failed, Usage, Differs}
 use Rattle.replay_output.specs.Start.{start_line}
 use Rattle.replay_program.specs.declared.report.RunReport.{RunReport}
-use Rattle.replay_program.specs.Ended.{HasDifferences, IsDone, IsFailed}
+use Rattle.replay_program.specs.Ended.{HasDifferences, IsDone, IsFailed, IsQuiet}
 use Rattle.replay_program.specs.Program.{
   AreNotPrinted,
   ArePrinted,
@@ -161,19 +161,19 @@ module _ {W : Type 0} (state_of : W → SinkState) (regular : RegularFiles) (fil
     (report : RunReport W) (out error : Written) (status : Status) where
   pub record Ends : Type 0 where
     pub done : status ≡ Done → IsDone state_of files words report out
-    pub quiet : status ≡ Done → Keeps error.before error.after
+    pub quiet : status ≡ Done → IsQuiet files.contents words error
     pub failed : status ≡ Failed → IsFailed state_of regular files words report out error
     pub mistaken : status ≡ Usage → IsMistaken words
     pub nothing : status ≡ Usage → out.after ≡ out.before
     pub usage : status ≡ Usage → (text : List ℕ) × Told error text
     pub differs : status ≡ Differs → HasDifferences state_of files words report out
-    pub quiet_too : status ≡ Differs → Keeps error.before error.after
+    pub quiet_too : status ≡ Differs → IsQuiet files.contents words error
 
   ends_shown : (text : List ℕ) → AsksForText words → (status ≡ Done → Took out text)
       → (status ≢ Done → (status ≡ Failed) × HasFailed out) → error.after ≡ error.before → Ends
   ends_shown text asks shown not_shown quiet = record {
     done = λ is. inl (asks, (text, shown is));
-    quiet = λ is. keeps_same error.before error.after quiet;
+    quiet = λ is. inl (keeps_same error.before error.after quiet);
     failed = λ is.
         let other : status ≢ Done = λ done. let bad : Failed ≡ Done = sym is ∙ done in cc in
         inr (inl (asks, (not_shown other).1));

@@ -1,6 +1,7 @@
 -- How the program ends, beside the words of its command line and the bytes of its files. This project's own.
 use Rattle.std.specs.Prelude.{◌≡◌, ◌≢◌, ◌⊎◌, ℕ, ◌≤◌, Bool, true, false, List, codes, length, map, Option, None, Some, IsSomeAnd, option_map, slice_get}
 use Rattle.std.specs.Borrow.{Bor}
+use Rattle.std.specs.Io.KnownBytes.{Keeps}
 use Rattle.std.specs.List.{All, AllZip}
 use Rattle.keyspace.specs.declared.reply.Reply.{Reply}
 use Rattle.replay_arguments.specs.declared.arguments.CommandLine.{CommandLine}
@@ -26,7 +27,7 @@ use Rattle.replay_program.specs.Replayed.{DidNotStart, FailsToPrint, FailsToRepl
 use Rattle.replay_program.specs.Replies.{IsCauseOf, IsReplyFile, replies_line}
 use Rattle.replay_program.specs.Streamed.{IsStreamDone, StreamedAndFailed}
 use Rattle.replay_program.specs.Summarized.{FailsToReplayAndSummarize, FailsToSummarize, IsReplayedAndSummarized, IsSummarized}
-use Rattle.replay_program.specs.Verbose.{IsExplained}
+use Rattle.replay_program.specs.Verbose.{IsExplained, SaysHeld}
 use Rattle.replay_stream.specs.declared.recorder.Recorder.{Recorder}
 use Rattle.replay_stream.specs.Sinks.{SinkState}
 
@@ -266,6 +267,18 @@ SaysFurther false contents cannot_open line met error =
     (error.after ≡ error.before) × (error.failures_after ≡ error.failures_before)
 SaysFurther true contents cannot_open line met error =
     IsExplained contents cannot_open (texts line.files.items) line.options.limit met error
+
+-- What more was said of a command line that didn't fail: nothing without `--verbose`, and with it at most that all batches are held.
+abbrev pub SaysIfHeld : Bool → (List ℕ → Option (List ℕ)) → List (List ℕ) → Written → Type 0
+SaysIfHeld false contents names error = (error.after ≡ error.before) × (error.failures_after ≡ error.failures_before)
+SaysIfHeld true contents names error = SaysHeld contents names error
+
+-- A command line that didn't fail left standard error as it was. Then at most that all batches are held was said.
+pub record EndsQuietly (contents : List ℕ → Option (List ℕ)) (line : CommandLine) (error : Written) : Type 0 where
+  pub given : Option (List ℕ)
+  pub failures : ℕ
+  pub kept : Keeps error.before given
+  pub further : SaysIfHeld line.verbose contents (texts line.files.items) (written given error.after failures error.failures_after)
 
 -- What a command line asks for has failed, and that was reported: first by the fixed lines, which left standard error in this state.
 pub record LineFailsAndSays {W : Type 0} (state_of : W → SinkState) (files : NamedFiles) (line : CommandLine) (report : RunReport W)

@@ -1,5 +1,5 @@
-//! What is said of a failure beside its fixed lines: one line that names what was found and says
-//! what to do.
+//! What is said of a run beside its fixed lines: one line that names what was found and says what
+//! to do. `held` has that of a run that didn't fail.
 
 ghost use Rattle.std.specs.Prelude.{◌≡◌, ◌⊎◌, ℕ, IfSome, List, Some};
 ghost use Rattle.keyspace.specs.declared.batch.Batch.{Batch as BatchValue};
@@ -19,6 +19,9 @@ use std::alloc::Global;
 use wire::Sink;
 
 mod files;
+mod held;
+
+pub use held::say_if_held;
 
 /// Opens the files of batches of a command line once more, and writes one line about the first that
 /// can't be opened or has something else than frames of batches. If there is none, the line is

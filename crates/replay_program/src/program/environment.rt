@@ -1,8 +1,9 @@
 //! The words of the program's environment.
 
 ghost use Rattle.std.specs.Prelude.{◌≡◌, ◌<◌, ◌⊎◌, ℕ, List};
-ghost use Rattle.std.specs.Io.KnownBytes.{Appends, Keeps};
+ghost use Rattle.std.specs.Io.KnownBytes.{Appends};
 ghost use Rattle.replay_program.specs.Ended.{HasDifferences, HasNoMemory, IsDone, IsFailed};
+ghost use Rattle.replay_program.specs.Ended.{IsQuiet};
 ghost use Rattle.replay_program.specs.Program.{HasReadNoText, Told, named_files, not_text};
 ghost use Rattle.replay_program.specs.ShardedProgram.{regular_files};
 ghost use Rattle.replay_program.specs.Replayed.{written};
@@ -45,14 +46,19 @@ pub fn run_in<R: Threads + Wait + Copy + Send + 'static, V: Env, F: Files, O: Si
         (named_files (F.contents files.now) (F.has_opened files.now) (F.cannot_open files.now)
         (F.begun files.now) (F.has_created files.now) (F.cannot_create files.now)) words result
         (written (O.given out.old) (O.given out.new) (O.failures out.old) (O.failures out.new)) }
-    ensures quiet { result.status ≡ Status.Done → Keeps (E.given error.old) (E.given error.new) }
+    ensures quiet { result.status ≡ Status.Done → (words : List (List ℕ))
+        × IsQuiet (F.contents files.now) words
+        (written (E.given error.old) (E.given error.new) (E.failures error.old)
+        (E.failures error.new)) }
     ensures differs { result.status ≡ Status.Differs → (words : List (List ℕ))
         × HasDifferences (state_by F.Writer.given F.Writer.failures)
         (named_files (F.contents files.now) (F.has_opened files.now) (F.cannot_open files.now)
         (F.begun files.now) (F.has_created files.now) (F.cannot_create files.now)) words result
         (written (O.given out.old) (O.given out.new) (O.failures out.old) (O.failures out.new)) }
-    ensures quiet_too { result.status ≡ Status.Differs
-        → Keeps (E.given error.old) (E.given error.new) }
+    ensures quiet_too { result.status ≡ Status.Differs → (words : List (List ℕ))
+        × IsQuiet (F.contents files.now) words
+        (written (E.given error.old) (E.given error.new) (E.failures error.old)
+        (E.failures error.new)) }
     ensures failed { result.status ≡ Status.Failed → HasNoMemory
         (written (O.given out.old) (O.given out.new) (O.failures out.old) (O.failures out.new))
         (written (E.given error.old) (E.given error.new) (E.failures error.old)

@@ -1,5 +1,4 @@
-use Rattle.std.proofs.Common.{List, ℕ, Option, ap, refl, subst, sym}
-use Rattle.std.specs.Io.KnownBytes.{Keeps}
+use Rattle.std.proofs.Common.{refl}
 use Rattle.replay_arguments.specs.Opening.{contents_each}
 use Rattle.replay_program.specs.Program.{texts}
 use Rattle.replay_program.specs.Replayed.{written}
@@ -25,7 +24,7 @@ returns g c =
     record {
       done = ran.done;
       differs = ran.differs;
-      quiet = λ other. subst (λ (after : Option (List ℕ)). Keeps (given old) after) (sym (ap given (said.quiet other))) (ran.quiet other);
+      quiet = λ other. record { given = given told; failures = failures told; kept = ran.quiet other; further = said.quiet other };
       failed = λ is. record {
         given = given told;
         failures = failures told;
