@@ -5,7 +5,8 @@ ghost use Rattle.std.specs.Prelude.{None, Err, IfOk, IfErr};
 ghost use Rattle.std.specs.Int.{int_max};
 ghost use Rattle.keyspace.specs.Judged.{edge};
 ghost use Rattle.stepmap.specs.declared.step_map.TheConstants.{MAX_LIMIT};
-ghost use Rattle.conflict.specs.ConflictSet.{new_set, Remembers};
+ghost use Rattle.stepmap.specs.StepMap.{AreSteps};
+ghost use Rattle.conflict.specs.ConflictSet.{IsSet, new_set, Remembers};
 ghost use Rattle.conflict.specs.Unknown.{unknown_until};
 
 mod one_batch;
@@ -136,6 +137,8 @@ impl ConflictSet {
     pub fn boundaries(&self) -> usize
         ensures count { result ≡ length self.now.map.boundaries }
         ensures within { result ≤ self.now.map.limit }
+        ensures steps { AreSteps self.now.map }
+        ensures set { IsSet self.now }
     {
         self.map.boundaries()
     }

@@ -33,3 +33,4 @@ pub mod Settling
 pub mod Unchanged
 pub mod Accounts
 pub mod Shares
+pub mod Windows

@@ -1,5 +1,6 @@
 -- What a core is seen as, and when it is in a state of the reference resolver. This project's own.
-use Rattle.std.specs.Prelude.{◌≡◌, ℕ, ◌<◌, ◌==◌, ◌&&◌, if◌then◌else◌, ℤ, ◌≤ℤ◌, int_le, ◌⊎◌, List, ◌++◌, length, All, Option, Some, None}
+use Rattle.std.specs.Prelude.{◌≡◌, ℕ, ◌<◌, ◌==◌, ◌&&◌, if◌then◌else◌, ℤ, pos, ◌-ℤ◌, ◌≤ℤ◌, int_le, ◌⊎◌, List, ◌++◌, length, All, Option, Some, None}
+use Rattle.std.specs.Int.{int_max}
 use Rattle.std.specs.Ordering.{int_eq}
 use Rattle.keyspace.specs.declared.answer.Answer.{Answer}
 use Rattle.keyspace.specs.declared.batch.Batch.{Batch}
@@ -77,6 +78,10 @@ pub record IsCore (c : CoreState) : Type 0 where
   pub past :
       (proxy : ℕ) (version : ℤ) (reply : Reply) → reply_of c.kept proxy version ≡ Some reply →
       version ≤ℤ c.version
+
+-- a core that takes more remembers what was written as far back as its window, from its version
+abbrev pub RemembersWindow : CoreState → Type 0
+RemembersWindow core = core.stop ≡ None → core.set.map.edge ≤ℤ int_max (core.version -ℤ core.set.window) (pos 0)
 
 -- what stays the same of a core, whatever is done to it
 pub record GoesOn (old new : CoreState) : Type 0 where

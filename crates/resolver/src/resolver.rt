@@ -8,7 +8,8 @@ ghost use Rattle.chain.specs.declared.gate.TheConstants.{MAX_HELD};
 ghost use Rattle.lane.specs.Lane.{HasEnded};
 ghost use Rattle.resolver.specs.declared.client.Client.{Client as ClientEnds};
 ghost use Rattle.resolver.specs.Owed.{owed_to, owed_count};
-ghost use Rattle.resolver.specs.Core.{GoesOn, StopsAtLimit};
+ghost use Rattle.stepmap.specs.StepMap.{AreSteps};
+ghost use Rattle.resolver.specs.Core.{GoesOn, RemembersWindow, StopsAtLimit};
 ghost use Rattle.resolver.specs.Stands.{Stands};
 ghost use Rattle.resolver.specs.OpeningLog.{opening_log, log_from};
 ghost use Rattle.resolver.specs.Parts.{AreNewLanes, lanes_of};
@@ -243,6 +244,8 @@ impl Resolver {
     pub fn boundaries(&self) -> usize
         ensures count { result ≡ length self.now.core.set.map.boundaries }
         ensures within { result ≤ self.now.core.set.map.limit }
+        ensures steps { AreSteps self.now.core.set.map }
+        ensures window { RemembersWindow self.now.core }
     {
         self.core.set().boundaries()
     }

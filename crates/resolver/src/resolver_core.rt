@@ -9,7 +9,7 @@ ghost use Rattle.stepmap.specs.declared.step_map.TheConstants.{MAX_LIMIT};
 ghost use Rattle.conflict.specs.declared.conflict_set.TheConstants.{MAX_WINDOW};
 ghost use Rattle.chain.specs.declared.gate.TheConstants.{MAX_HELD};
 ghost use Rattle.resolver.specs.Owed.{owed_to, given_oldest, owed_count};
-ghost use Rattle.resolver.specs.Core.{Given, GoesOn, StopsAtLimit};
+ghost use Rattle.resolver.specs.Core.{Given, GoesOn, IsCore, StopsAtLimit};
 ghost use Rattle.resolver.specs.Stands.{Stands, given_also};
 ghost use Rattle.resolver.specs.Admits.{Admits};
 ghost use Rattle.resolver.specs.Observed.{HasSeen};
@@ -276,6 +276,7 @@ impl Core {
     /// Returns the conflict set.
     pub fn set(&self) -> &ConflictSet
         ensures set { result.now ≡ self.now.set }
+        ensures core { IsCore self.now }
     {
         &self.set
     }

@@ -15,7 +15,8 @@ loop-init g c = record {
   measured = λ stands none first.
       subst (λ (o : Occupancy). IsMeasured (g.O.Observer.has_seen c.args.observer.now) o c.args.resolver.now)
       (sym c.new-occupancy.ensures.new)
-      (measured_new (g.O.Observer.has_seen c.args.observer.now) c.args.resolver.now stands none first c.boundaries.result
+      (measured_new (g.O.Observer.has_seen c.args.observer.now) c.args.resolver.now stands none first c.boundaries.ensures.steps
+      c.boundaries.ensures.window c.boundaries.result
       c.boundaries.ensures.count c.boundaries.ensures.within);
   setting = refl;
   goes_on = record { window = refl; limit = refl; proxies = refl };
