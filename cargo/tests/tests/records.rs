@@ -111,14 +111,14 @@ fn lines_as_the_batch_run_prints_them() {
         };
         let proxy = random.index(64);
         for form in [Form::Words, Form::Frames, Form::Json] {
-            let whole = line_of(Style::all(form), proxy, answer());
+            let entire = line_of(Style::all(form), proxy, answer());
             let out = pieces_of(Style::all(form), proxy, &answer());
-            assert_eq!(out, [whole.clone()], "a line is one write");
+            assert_eq!(out, [entire.clone()], "a line is one write");
             let filter = any_filter(random, reply.version);
             let style = Style { form, filter };
             let is_shown = is_shown(&filter, &answer());
-            assert_eq!(line_of(style, proxy, answer()), if is_shown { whole.clone() } else { vec![] });
-            assert_eq!(pieces_of(style, proxy, &answer()), if is_shown { vec![whole] } else { vec![] });
+            assert_eq!(line_of(style, proxy, answer()), if is_shown { entire.clone() } else { vec![] });
+            assert_eq!(pieces_of(style, proxy, &answer()), if is_shown { vec![entire] } else { vec![] });
         }
         1
     });

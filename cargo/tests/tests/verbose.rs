@@ -86,7 +86,7 @@ impl Files for Named {
 }
 
 /// Runs the program on these words, and returns how it ends and what is on standard error.
-fn told(words: &[&str]) -> String {
+fn reported_state(words: &[&str]) -> String {
     let words: Vec<_> = ["replay"].iter().chain(words).copied().collect();
     let (mut out, mut error) = (StdSink::new(Vec::new()), StdSink::new(Vec::new()));
     let report = shell_over(&Named, &words, &mut out, &mut error);
@@ -155,9 +155,9 @@ fn findings_in_files() {
         ),
     ];
     for (words, fixed, further) in rows {
-        assert_eq!(told(words), fixed, "{words:?}");
+        assert_eq!(reported(words), fixed, "{words:?}");
         let verbose: Vec<_> = words.iter().chain(&["--verbose"]).copied().collect();
-        assert_eq!(told(&verbose), format!("{fixed}{further}"), "{words:?}");
+        assert_eq!(reported(&verbose), format!("{fixed}{further}"), "{words:?}");
     }
 }
 
@@ -183,16 +183,16 @@ fn findings_of_runs() {
         (&["--limit", "3", "--check", "replies", "writes"], "failed: replay: stop 3 ArenaFull\n", ARENA_FULL),
     ];
     for (words, fixed, further) in rows {
-        assert_eq!(told(words), fixed, "{words:?}");
+        assert_eq!(reported(words), fixed, "{words:?}");
         let verbose: Vec<_> = words.iter().chain(&["--verbose"]).copied().collect();
-        assert_eq!(told(&verbose), format!("{fixed}{further}"), "{words:?}");
+        assert_eq!(reported(&verbose), format!("{fixed}{further}"), "{words:?}");
     }
 }
 
 /// A stream doesn't note the version that it has reached, so nothing is said of it.
 #[test]
 fn stream_says_no_version() {
-    assert_eq!(told(&["--verbose", "--stream", "--limit", "3", "writes"]), "failed: replay: stop 3 ArenaFull\n");
+    assert_eq!(reported(&["--verbose", "--stream", "--limit", "3", "writes"]), "failed: replay: stop 3 ArenaFull\n");
 }
 
 const CUT: &str = "  cut ends inside frame 2 at byte 31, 3 bytes too early: \
@@ -218,11 +218,11 @@ fn several_resolvers() {
     ];
     for (words, fixed, further) in rows {
         let words: Vec<_> = ["--resolvers", "2"].iter().chain(words).copied().collect();
-        assert_eq!(told(&words), fixed, "{words:?}");
+        assert_eq!(reported(&words), fixed, "{words:?}");
         let verbose: Vec<_> = words.iter().chain(&["--verbose"]).copied().collect();
-        assert_eq!(told(&verbose), format!("{fixed}{further}"), "{words:?}");
+        assert_eq!(reported(&verbose), format!("{fixed}{further}"), "{words:?}");
     }
-    assert_eq!(told(&["--resolvers", "2", "--verbose", "first", "second"]), "done: ");
+    assert_eq!(reported(&["--resolvers", "2", "--verbose", "first", "second"]), "done: ");
 }
 
 const OUTPUT: &str = "  the output can't be written: free its disk, or read it to its end\n";
@@ -252,7 +252,7 @@ fn output_that_fails() {
             assert_eq!(ended(report.status, b"", &error.into_inner()), expected, "{words:?}");
         }
         let words: Vec<_> = words.iter().chain(&["-o", "full", "--verbose"]).copied().collect();
-        assert_eq!(told(&words), format!("failed: {OUTPUT}"), "{words:?}");
+        assert_eq!(reported(&words), format!("failed: {OUTPUT}"), "{words:?}");
     }
 }
 
@@ -279,17 +279,17 @@ fn all_batches_are_held() {
         (&["--resolvers", "2", "--check", "replies", "second"], "differs", 100),
     ];
     for (words, ended, version) in rows {
-        assert_eq!(told(words), format!("{ended}: "), "{words:?}");
+        assert_eq!(reported(words), format!("{ended}: "), "{words:?}");
         let verbose: Vec<_> = words.iter().chain(&["--verbose"]).copied().collect();
-        assert_eq!(told(&verbose), format!("{ended}: {}", held_from(version)), "{words:?}");
+        assert_eq!(reported(&verbose), format!("{ended}: {}", held_from(version)), "{words:?}");
     }
 }
 
 /// It is said of as many batches as a resolver holds, and of each file up to the first batch that begins a chain.
 #[test]
 fn most_batches_are_held() {
-    assert_eq!(told(&["--verbose", "most"]), format!("done: {}", held_from(10)));
-    assert_eq!(told(&["--verbose", "late and first"]), "done: ");
+    assert_eq!(reported(&["--verbose", "most"]), format!("done: {}", held_from(10)));
+    assert_eq!(reported(&["--verbose", "late and first"]), "done: ");
 }
 
 /// Nothing more is said if a batch begins a chain, if a file can't be read again, or of a refused command line.
@@ -297,11 +297,11 @@ fn most_batches_are_held() {
 fn nothing_further() {
     for words in [&["first", "second"][..], &["second", "first"], &["held", "first", "--stream"], &["pipe"], &["held", "pipe"], &["nothing"]] {
         let verbose: Vec<_> = words.iter().chain(&["--verbose"]).copied().collect();
-        assert_eq!(told(&verbose), "done: ", "{words:?}");
+        assert_eq!(reported(&verbose), "done: ", "{words:?}");
     }
-    assert_eq!(told(&["--verbose", "--check", "replies", "first"]), "differs: ");
-    assert_eq!(told(&["--verbose", "--check", "none", "first"]), "failed: replay: replies 0: cannot open\n");
-    assert!(told(&["--verbose", "--top", "5", "first"]).starts_with("usage: error: --top is wanted with --summary\n"));
+    assert_eq!(reported(&["--verbose", "--check", "replies", "first"]), "differs: ");
+    assert_eq!(reported(&["--verbose", "--check", "none", "first"]), "failed: replay: replies 0: cannot open\n");
+    assert!(reported(&["--verbose", "--top", "5", "first"]).starts_with("usage: error: --top is wanted with --summary\n"));
 }
 
 /// If standard error fails, it was given a prefix of the text, and the status stays.

@@ -1,7 +1,7 @@
 pub mod Turned
 pub mod Lines
 pub mod Failing
-pub mod Told
+pub mod ErrorText
 pub mod Task
 pub mod Opening
 pub mod Clipping

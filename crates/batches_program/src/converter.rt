@@ -2,7 +2,7 @@
 
 ghost use Rattle.std.specs.Prelude.{◌≡◌, OnOk, None};
 ghost use Rattle.batches_program.specs.Task.{IsDone};
-ghost use Rattle.batches_program.specs.Told.{Tells, length_told};
+ghost use Rattle.batches_program.specs.ErrorText.{ReportsText, progress_length};
 
 use crate::decoder::decode;
 use crate::encoder::encode;
@@ -28,10 +28,10 @@ pub fn convert<R: BufRead, O: Sink, E: Sink>(
     ensures done { OnOk result
         (IsDone task kind (R.remaining reader.old) (O.given out.old) (O.given out.new)) }
     ensures ok { OnOk result (O.failures out.new ≡ O.failures out.old) }
-    ensures length { length_told progress.new ≡ length_told progress.old }
-    ensures told { Tells (E.given error.old) (E.given error.new) (E.failures error.old)
+    ensures length { progress_length progress.new ≡ progress_length progress.old }
+    ensures reported { ReportsText (E.given error.old) (E.given error.new) (E.failures error.old)
         (E.failures error.new) }
-    ensures quiet { length_told progress.old ≡ None → error.new ≡ error.old }
+    ensures quiet { progress_length progress.old ≡ None → error.new ≡ error.old }
 {
     let done = do_task(alloc, task, kind, reader, out, error, progress);
     let flushed = out.flush();
@@ -51,10 +51,10 @@ fn do_task<R: BufRead, O: Sink, E: Sink>(
     ensures done { OnOk result
         (IsDone task kind (R.remaining reader.old) (O.given out.old) (O.given out.new)) }
     ensures ok { OnOk result (O.failures out.new ≡ O.failures out.old) }
-    ensures length { length_told progress.new ≡ length_told progress.old }
-    ensures told { Tells (E.given error.old) (E.given error.new) (E.failures error.old)
+    ensures length { progress_length progress.new ≡ progress_length progress.old }
+    ensures reported { ReportsText (E.given error.old) (E.given error.new) (E.failures error.old)
         (E.failures error.new) }
-    ensures quiet { length_told progress.old ≡ None → error.new ≡ error.old }
+    ensures quiet { progress_length progress.old ≡ None → error.new ≡ error.old }
 {
     match task {
         Task::Encode => encode(alloc, kind, reader, out, error, progress),

@@ -1,7 +1,7 @@
 //! Failures, and the text that reports them.
 
 ghost use Rattle.std.specs.Prelude.{◌≡◌, ◌≢◌, ◌⊎◌, IfOk, string_bytes};
-ghost use Rattle.batches_program.specs.Told.{IsLine, TellsLine};
+ghost use Rattle.batches_program.specs.ErrorText.{IsLine, ReportsLine};
 ghost use Rattle.batches_program.specs.declared.failure.Failure.TheVariants.{Memory, Read, Report};
 ghost use Rattle.batches_program.specs.declared.failure.Failure.TheVariants.{Write};
 
@@ -156,12 +156,12 @@ impl From<io::Error> for Failure {
 /// Tells the failure in a line, and returns how the program ends. A failed write changes nothing.
 pub fn fail<E: Sink>(error: &mut E, alloc: Global, failure: &Failure) -> Status
     ensures failed { result ≡ Status.Failed }
-    ensures told { TellsLine (E.given error.old) (E.given error.new) (E.failures error.old)
+    ensures reported { ReportsLine (E.given error.old) (E.given error.new) (E.failures error.old)
         (E.failures error.new) }
 {
     match line_of(alloc, failure) {
-        Ok(line) => tell(error, line.as_bytes()),
-        Err(_) => tell(error, b"memory was refused\n"),
+        Ok(line) => report_line(error, line.as_bytes()),
+        Err(_) => report_line(error, b"memory was refused\n"),
     }
 }
 
@@ -169,19 +169,19 @@ pub fn fail<E: Sink>(error: &mut E, alloc: Global, failure: &Failure) -> Status
 /// how the program ends. A failed write changes nothing.
 pub fn fail_in<E: Sink>(error: &mut E, alloc: Global, name: &str, failure: &Failure) -> Status
     ensures failed { result ≡ Status.Failed }
-    ensures told { TellsLine (E.given error.old) (E.given error.new) (E.failures error.old)
+    ensures reported { ReportsLine (E.given error.old) (E.given error.new) (E.failures error.old)
         (E.failures error.new) }
 {
     match line_in(alloc, name, failure) {
-        Ok(named) => tell(error, named.as_bytes()),
-        Err(_) => tell(error, b"memory was refused\n"),
+        Ok(named) => report_line(error, named.as_bytes()),
+        Err(_) => report_line(error, b"memory was refused\n"),
     }
 }
 
-fn tell<E: Sink>(error: &mut E, line: &[u8]) -> Status
+fn report_line<E: Sink>(error: &mut E, line: &[u8]) -> Status
     requires line { IsLine line.now }
     ensures failed { result ≡ Status.Failed }
-    ensures told { TellsLine (E.given error.old) (E.given error.new) (E.failures error.old)
+    ensures reported { ReportsLine (E.given error.old) (E.given error.new) (E.failures error.old)
         (E.failures error.new) }
 {
     let _ = write_all(error, line);

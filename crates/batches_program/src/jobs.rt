@@ -2,7 +2,7 @@
 
 ghost use Rattle.std.specs.Prelude.{◌≡◌, ◌<◌, length, OnOk};
 ghost use Rattle.serial.specs.Shards.{shards};
-ghost use Rattle.batches_program.specs.Told.{TellsLine};
+ghost use Rattle.batches_program.specs.ErrorText.{ReportsLine};
 
 use crate::clipper::clip_frames;
 use crate::counter::count_frames;
@@ -36,8 +36,8 @@ pub fn print_stats<R: Files<File = File> + Input + AllocGlobal, O: Sink, E: Sink
 ) -> Status
     ensures ok { result ≡ Status.Done → O.failures out.new ≡ O.failures out.old }
     ensures quiet { result ≡ Status.Done → error.new ≡ error.old }
-    ensures told { result ≡ Status.Failed
-        → TellsLine (E.given error.old) (E.given error.new) (E.failures error.old)
+    ensures reported { result ≡ Status.Failed
+        → ReportsLine (E.given error.old) (E.given error.new) (E.failures error.old)
         (E.failures error.new) }
 {
     let alloc = rt.alloc();
@@ -64,8 +64,8 @@ pub fn print_points<R: Files<File = File> + Input + AllocGlobal, O: Sink, E: Sin
 ) -> Status
     ensures ok { result ≡ Status.Done → O.failures out.new ≡ O.failures out.old }
     ensures quiet { result ≡ Status.Done → error.new ≡ error.old }
-    ensures told { result ≡ Status.Failed
-        → TellsLine (E.given error.old) (E.given error.new) (E.failures error.old)
+    ensures reported { result ≡ Status.Failed
+        → ReportsLine (E.given error.old) (E.given error.new) (E.failures error.old)
         (E.failures error.new) }
 {
     let alloc = rt.alloc();
@@ -88,8 +88,8 @@ pub fn write_clips<R: Files<File = File> + Input + AllocGlobal, O: Sink, E: Sink
 ) -> Status
     ensures ok { result ≡ Status.Done → O.failures out.new ≡ O.failures out.old }
     ensures quiet { result ≡ Status.Done → error.new ≡ error.old }
-    ensures told { result ≡ Status.Failed
-        → TellsLine (E.given error.old) (E.given error.new) (E.failures error.old)
+    ensures reported { result ≡ Status.Failed
+        → ReportsLine (E.given error.old) (E.given error.new) (E.failures error.old)
         (E.failures error.new) }
 {
     let alloc = rt.alloc();
@@ -117,8 +117,8 @@ pub fn print<R: AllocGlobal, O: Sink, E: Sink>(
 ) -> Status
     ensures ok { result ≡ Status.Done → O.failures out.new ≡ O.failures out.old }
     ensures quiet { result ≡ Status.Done → error.new ≡ error.old }
-    ensures told { result ≡ Status.Failed
-        → TellsLine (E.given error.old) (E.given error.new) (E.failures error.old)
+    ensures reported { result ≡ Status.Failed
+        → ReportsLine (E.given error.old) (E.given error.new) (E.failures error.old)
         (E.failures error.new) }
 {
     match text {

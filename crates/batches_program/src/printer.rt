@@ -5,7 +5,7 @@ ghost use Rattle.std.specs.Io.KnownBytes.{Appends, Consumes, IsAtEnd};
 ghost use Rattle.wire.specs.FrameLength.{frame_length};
 ghost use Rattle.batches_program.specs.Failing.{FailsFrame, IsFailureOfFrame};
 ghost use Rattle.batches_program.specs.Lines.{IsPrinted};
-ghost use Rattle.batches_program.specs.Told.{Tells, length_told};
+ghost use Rattle.batches_program.specs.ErrorText.{ReportsText, progress_length};
 ghost use Rattle.batches_program.specs.Turned.{Stops, TurnsAll};
 ghost use Rattle.batches_program.specs.declared.failure.Failure.TheVariants.{Read, Write};
 
@@ -37,10 +37,10 @@ pub fn print_frames<R: Source, W: Sink, E: Sink>(
     ensures read { IfErr result (λ e. e ≡ Read → R.failures reader.old < R.failures reader.new) }
     ensures write { IfErr result (λ e. e ≡ Write → W.failures writer.old < W.failures writer.new) }
     ensures ok { OnOk result (W.failures writer.new ≡ W.failures writer.old) }
-    ensures length { length_told progress.new ≡ length_told progress.old }
-    ensures told { Tells (E.given error.old) (E.given error.new) (E.failures error.old)
+    ensures length { progress_length progress.new ≡ progress_length progress.old }
+    ensures reported { ReportsText (E.given error.old) (E.given error.new) (E.failures error.old)
         (E.failures error.new) }
-    ensures quiet { length_told progress.old ≡ None → error.new ≡ error.old }
+    ensures quiet { progress_length progress.old ≡ None → error.new ≡ error.old }
 {
     let mut frame = Vec::new(alloc);
     for number in 1..u64::MAX {

@@ -1,7 +1,7 @@
 //! What the command line asks for, done.
 
 ghost use Rattle.std.specs.Prelude.{◌≡◌, IsTrue, OnOk, not};
-ghost use Rattle.batches_program.specs.Told.{Tells, TellsLine};
+ghost use Rattle.batches_program.specs.ErrorText.{ReportsText, ReportsLine};
 
 use crate::converter::convert;
 use crate::failure::{Failure, fail};
@@ -29,8 +29,8 @@ pub fn run<R: Files<File = File> + Env + Input + AllocGlobal, O: Sink, E: Sink>(
 ) -> Status
     ensures ok { result ≡ Status.Done → O.failures out.new ≡ O.failures out.old }
     ensures quiet { result ≡ Status.Done → IsTrue (not watched) → error.new ≡ error.old }
-    ensures told { result ≡ Status.Failed
-        → TellsLine (E.given error.old) (E.given error.new) (E.failures error.old)
+    ensures reported { result ≡ Status.Failed
+        → ReportsLine (E.given error.old) (E.given error.new) (E.failures error.old)
         (E.failures error.new) }
 {
     let alloc = rt.alloc();
@@ -54,8 +54,8 @@ fn do_job<R: Files<File = File> + Input + AllocGlobal, O: Sink, E: Sink>(
 ) -> Status
     ensures ok { result ≡ Status.Done → O.failures out.new ≡ O.failures out.old }
     ensures quiet { result ≡ Status.Done → IsTrue (not watched) → error.new ≡ error.old }
-    ensures told { result ≡ Status.Failed
-        → TellsLine (E.given error.old) (E.given error.new) (E.failures error.old)
+    ensures reported { result ≡ Status.Failed
+        → ReportsLine (E.given error.old) (E.given error.new) (E.failures error.old)
         (E.failures error.new) }
 {
     match job {
@@ -86,8 +86,8 @@ fn convert_file<R: Files<File = File> + Input + AllocGlobal, O: Sink, E: Sink>(
 ) -> Status
     ensures ok { result ≡ Status.Done → O.failures out.new ≡ O.failures out.old }
     ensures quiet { result ≡ Status.Done → IsTrue (not watched) → error.new ≡ error.old }
-    ensures told { result ≡ Status.Failed
-        → TellsLine (E.given error.old) (E.given error.new) (E.failures error.old)
+    ensures reported { result ≡ Status.Failed
+        → ReportsLine (E.given error.old) (E.given error.new) (E.failures error.old)
         (E.failures error.new) }
 {
     match do_line(rt, line, watched, out, error) {
@@ -100,8 +100,8 @@ fn convert_file<R: Files<File = File> + Input + AllocGlobal, O: Sink, E: Sink>(
 fn open_chain<O: Sink, E: Sink>(alloc: Global, version: i64, out: &mut O, error: &mut E) -> Status
     ensures ok { result ≡ Status.Done → O.failures out.new ≡ O.failures out.old }
     ensures quiet { result ≡ Status.Done → error.new ≡ error.old }
-    ensures told { result ≡ Status.Failed
-        → TellsLine (E.given error.old) (E.given error.new) (E.failures error.old)
+    ensures reported { result ≡ Status.Failed
+        → ReportsLine (E.given error.old) (E.given error.new) (E.failures error.old)
         (E.failures error.new) }
 {
     if version < 0 {
@@ -129,8 +129,8 @@ fn command_line<R: Env + AllocGlobal>(rt: &R) -> Result<Vec<String>, Failure> {
 fn end<O: Sink, E: Sink>(stop: &Stop, alloc: Global, out: &mut O, error: &mut E) -> Status
     ensures ok { result ≡ Status.Done → O.failures out.new ≡ O.failures out.old }
     ensures quiet { result ≡ Status.Done → error.new ≡ error.old }
-    ensures told { result ≡ Status.Failed
-        → TellsLine (E.given error.old) (E.given error.new) (E.failures error.old)
+    ensures reported { result ≡ Status.Failed
+        → ReportsLine (E.given error.old) (E.given error.new) (E.failures error.old)
         (E.failures error.new) }
 {
     match stop {
@@ -155,7 +155,7 @@ fn do_line<R: Files<File = File> + Input + AllocGlobal, O: Sink, E: Sink>(
     error: &mut E,
 ) -> Result<(), Failure>
     ensures ok { OnOk result (O.failures out.new ≡ O.failures out.old) }
-    ensures told { Tells (E.given error.old) (E.given error.new) (E.failures error.old)
+    ensures reported { ReportsText (E.given error.old) (E.given error.new) (E.failures error.old)
         (E.failures error.new) }
     ensures quiet { IsTrue (not watched) → error.new ≡ error.old }
 {

@@ -1,7 +1,7 @@
 //! A page of what batches and the replies to them add up to.
 
 ghost use Rattle.std.specs.Prelude.{◌≡◌};
-ghost use Rattle.batches_program.specs.Told.{TellsLine};
+ghost use Rattle.batches_program.specs.ErrorText.{ReportsLine};
 
 use crate::failure::{Failure, fail_in};
 use crate::job::STANDARD_INPUT;
@@ -30,8 +30,8 @@ pub fn write_report<R: Files<File = File> + Input + AllocGlobal, O: Sink, E: Sin
 ) -> Status
     ensures ok { result ≡ Status.Done → O.failures out.new ≡ O.failures out.old }
     ensures quiet { result ≡ Status.Done → error.new ≡ error.old }
-    ensures told { result ≡ Status.Failed
-        → TellsLine (E.given error.old) (E.given error.new) (E.failures error.old)
+    ensures reported { result ≡ Status.Failed
+        → ReportsLine (E.given error.old) (E.given error.new) (E.failures error.old)
         (E.failures error.new) }
 {
     let alloc = rt.alloc();
@@ -57,8 +57,8 @@ fn save<R: Files<File = File> + AllocGlobal, E: Sink>(
     error: &mut E,
 ) -> Status
     ensures quiet { result ≡ Status.Done → error.new ≡ error.old }
-    ensures told { result ≡ Status.Failed
-        → TellsLine (E.given error.old) (E.given error.new) (E.failures error.old)
+    ensures reported { result ≡ Status.Failed
+        → ReportsLine (E.given error.old) (E.given error.new) (E.failures error.old)
         (E.failures error.new) }
 {
     match write_file(rt, name, files, replies, text) {

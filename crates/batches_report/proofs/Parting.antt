@@ -54,10 +54,10 @@ pub parts_all : (rows : List Row) (bins new : List Bin) (bin : Bin) (least low h
     → Part least first bins → least ≤ℤ first → bin.first ≡ first → first ≤ℤ bin.last → least ≤ℤ low → high ≤ℤ bin.last
     → All (IsWithin low high) rows → All (IsInOne new) rows
 parts_all rows bins new bin least low high first is part from same up begins ends within = λ k d less.
-    let whole = parts_more bins new bin least first (bin.last +ℤ pos 1) is part from same up refl in
+    let entire = parts_more bins new bin least first (bin.last +ℤ pos 1) is part from same up refl in
     let v = (get_or rows k d).version in
     let inside = within k d less in
-    whole.counted v ∙ all_of least (bin.last +ℤ pos 1) v (omega (arith, ints, inside.0, begins)) (omega (arith, ints, inside.1, ends))
+    entire.counted v ∙ all_of least (bin.last +ℤ pos 1) v (omega (arith, ints, inside.0, begins)) (omega (arith, ints, inside.1, ends))
 
 pub totals_more : (rows : List Row) (bins new : List Bin) (bin : Bin) → new ≡ bins ++ bin ∷ [] → All (IsBinOf rows) bins
     → IsBinOf rows bin → All (IsBinOf rows) new

@@ -78,8 +78,8 @@ fn put_verdict(out: &mut String, name: &str, count: usize, all: usize) -> Result
 }
 
 /// Appends a share in percent.
-pub fn put_share(out: &mut String, part: usize, whole: usize) -> Result<(), AllocError> {
-    match share_of(part, whole) {
+pub fn put_share(out: &mut String, part: usize, entire: usize) -> Result<(), AllocError> {
+    match share_of(part, entire) {
         Some(tenths) => write!(out, "{}.{} %", tenths / 10, tenths % 10),
         None => out.push_str("none"),
     }

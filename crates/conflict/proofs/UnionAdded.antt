@@ -7,7 +7,7 @@ use Rattle.std.proofs.lemmas.List.Elements.{All-contains, All-head, All-nil, All
 use Rattle.std.proofs.lemmas.List.Quantifiers.{Any-push}
 use Rattle.keys.specs.Key.{IsBefore, IsAtMost}
 use Rattle.keys.specs.Range.{Holds, IsEmpty, is_filled}
-use Rattle.keys.specs.Ranks.{IsBeginIn}
+use Rattle.keys.specs.GapRuns.{IsBeginIn}
 use Rattle.keys.specs.declared.range.Range.{Range}
 use Rattle.keys.proofs.callers.KeyOrder.{at_most_itself, before_at_most, before_at_most_same, before_or_at_most, at_most_trans, not_both}
 use Rattle.keys.proofs.callers.Meeting.{before_unless_empty}
@@ -23,10 +23,10 @@ use Rattle.conflict.proofs.Spanned.{LastSpanned, last_spanned, spanned_push}
 -- one more range behind the last
 apart_push : (us : List Range) (last range : Range) → AreApart (us ++ last ∷ []) → IsBefore last.end range.begin
     → IsBefore range.begin range.end → AreApart ((us ++ last ∷ []) ++ range ∷ [])
-apart_push [] last range apart behind filled = (apart, behind, filled)
-apart_push (u ∷ []) last range apart behind filled = (apart.0, apart.1, (apart.2, behind, filled))
-apart_push (u ∷ v ∷ us) last range apart behind filled =
-    (apart.0, apart.1, apart_push (v ∷ us) last range apart.2 behind filled)
+apart_push [] last range apart following filled = (apart, following, filled)
+apart_push (u ∷ []) last range apart following filled = (apart.0, apart.1, (apart.2, following, filled))
+apart_push (u ∷ v ∷ us) last range apart following filled =
+    (apart.0, apart.1, apart_push (v ∷ us) last range apart.2 following filled)
 
 -- the last one may end later
 apart_wider : (us : List Range) (last wider : Range) → last.begin ≡ wider.begin → IsAtMost last.end wider.end
@@ -111,9 +111,9 @@ wider_holds : {last range wider : Range} → Widens last range wider → (key : 
 wider_holds {last} {range} {wider} w key = (
   λ held. elim (before_or_at_most key last.end) [
     | inl before ↦ inl (subst (λ k. IsAtMost k key) (sym w.begins) held.0, before)
-    | inr behind ↦ elim w.one_of [
-      | inl same ↦ absurd (not_both key last.end (subst (IsBefore key) same held.1) behind)
-      | inr same ↦ inr (at_most_trans range.begin last.end key w.near behind, subst (IsBefore key) same held.1)
+    | inr following ↦ elim w.one_of [
+      | inl same ↦ absurd (not_both key last.end (subst (IsBefore key) same held.1) following)
+      | inr same ↦ inr (at_most_trans range.begin last.end key w.near following, subst (IsBefore key) same held.1)
     ]
   ],
   λ either. elim either [
@@ -243,12 +243,12 @@ module _ (ranges : List Range) (index : ℕ) (range : Range) (at : slice_get ran
         (parts.0, All-head (λ u. IsBeginIn added u.begin) spanned.range [] parts.1)
 
     -- as one more
-    pub united_behind : IsBefore ending.end range.begin
+    pub united_after : IsBefore ending.end range.begin
         → AreUnited ranges ((front ++ last ∷ []) ++ alone ∷ []) (added ++ range ∷ [])
-    united_behind behind =
+    united_after following =
         let us = spanned.ranges_front ++ spanned.range ∷ [] in
         let apart = apart_push spanned.ranges_front spanned.range range unites.apart
-        (subst (λ key. IsBefore key range.begin) same_end behind) filled in
+        (subst (λ key. IsBefore key range.begin) same_end following) filled in
         record {
           united = us ++ range ∷ [];
           spanned = spanned_push ranges (front ++ last ∷ []) us alone range

@@ -70,7 +70,7 @@ module _ (ranges : List Range) (spans : List Span) (written : List Range) (one :
       → ((united : List Range) → AreSpanned ranges spans united → IsWriting united version (length united) before now)
       → IsWritten written version before now
   all_written turns version before now wrote =
-      (turns one.0 version one.2.apart).whole written before now (wrote one.0 one.1) one.2
+      (turns one.0 version one.2.apart).entire written before now (wrote one.0 one.1) one.2
 
   -- more boundaries than the limit for the spans are more for the ranges
   pub over_limit : CountedAlong → (limit : ℕ) (edge version : ℤ) (ws : List Write) → edge ≤ℤ version

@@ -2,7 +2,7 @@
 use Rattle.std.specs.Prelude.{◌≡◌, ◌⊎◌, ℕ, Bool, true, false, List, map, All, Some, slice_get, slice_index_or}
 use Rattle.std.specs.List.{AllZip}
 use Rattle.keys.specs.Range.{IsEmpty}
-use Rattle.keys.specs.Ranks.{runs_of, AreChosenInOrder, IsBeginIn}
+use Rattle.keys.specs.GapRuns.{runs_of, AreChosenInOrder, IsBeginIn}
 pub use Rattle.keys.specs.Singles.{picked}
 use Rattle.keys.specs.declared.range.Range.{Range}
 use Rattle.stepmap.specs.Uniting.{Unites}

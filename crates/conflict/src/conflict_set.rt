@@ -96,7 +96,7 @@ impl ConflictSet {
         ensures edge { IfOk result (λ set. set.map.edge ≡ int_max (version -ℤ window) (pos 0)) }
         ensures window { IfOk result (λ set. set.window ≡ window) }
         ensures limit { IfOk result (λ set. set.map.limit ≡ limit) }
-        ensures goes_on { IfOk result (λ set. set.stop ≡ None) }
+        ensures continues { IfOk result (λ set. set.stop ≡ None) }
         ensures empty { version ≡ negsuc 0 → IfOk result (λ set. set ≡ new_set window limit) }
         ensures full { (result ≡ Err SetStop.ArenaFull) ↔ (pos 0 ≤ℤ version) × (limit < 3) }
     {

@@ -5,13 +5,13 @@ ghost use Rattle.std.specs.Prelude.{◌≡◌, ◌<◌, ◌++◌, ◌∷◌, ℕ
 ghost use Rattle.std.specs.Prelude.{Some, slice_get};
 ghost use Rattle.keys.specs.Key.{IsAtMost, IsBefore};
 ghost use Rattle.keys.specs.Range.{IsEmpty};
-ghost use Rattle.keys.specs.Ranks.{run_or_none};
+ghost use Rattle.keys.specs.GapRuns.{run_or_none};
 ghost use Rattle.keys.specs.Singles.{AreRankedFor};
 ghost use Rattle.keys.specs.declared.range.Range.{Range};
 ghost use Rattle.stepmap.specs.Uniting.{Unites};
 ghost use Rattle.conflict.specs.Union.{picked, AreSpanned, AreUnited, HaveRuns, HaveWrittenInOrder};
 
-use keys::{RangeList, Ranks};
+use keys::{GapRuns, RangeList};
 use std::alloc::{AllocError, Global};
 use std::marker::Model;
 
@@ -57,7 +57,7 @@ impl Union {
     pub fn gather<L: RangeList>(
         &mut self,
         ranges: &L,
-        ranks: &Ranks,
+        ranks: &GapRuns,
         order: &[u32],
         written: &[bool],
     ) -> Result<(), AllocError>
@@ -100,7 +100,7 @@ impl Union {
             → AreUnited (L.ranges ranges.now) self.new (added ++ range ∷ [])) }
     {
         if let Some(last) = self.spans.last_mut() {
-            if !are_told_apart(runs[last.end], runs[index]) {
+            if !are_known_apart(runs[last.end], runs[index]) {
                 let range = ranges.range(index);
                 let end = ranges.range(last.end).end();
                 if range.begin().cmp(end).is_le() {
@@ -128,7 +128,7 @@ impl Union {
 
 // Returns whether the runs show that the first range ends before the second one begins: a begin is
 // between. If it is false they may be apart, too.
-fn are_told_apart(first: (u32, u32), second: (u32, u32)) -> bool
+fn are_known_apart(first: (u32, u32), second: (u32, u32)) -> bool
     ensures filled { IsTrue result → (0 < first.1) × (0 < second.0) }
     ensures apart { IsTrue result → (keys : List (List ℕ)) (a b : Range)
         → first ≡ run_or_none keys a → second ≡ run_or_none keys b

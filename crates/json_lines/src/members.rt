@@ -52,7 +52,7 @@ fn check_names(
             let name = shown(alloc, name)?;
             return Err(Refusal::new(place, Cause::Unknown(name)));
         }
-        if stands_in(name, &members[index + 1..]) {
+        if is_member(name, &members[index + 1..]) {
             let name = shown(alloc, name)?;
             return Err(Refusal::new(place, Cause::Doubled(name)));
         }
@@ -71,7 +71,7 @@ fn is_one_of(name: &str, names: &[Member]) -> bool
     false
 }
 
-fn stands_in(name: &str, members: &[(&str, Value<'_>)]) -> bool
+fn is_member(name: &str, members: &[(&str, Value<'_>)]) -> bool
     ensures exact { result ≡ has_member name.now (members_view members.now) }
 {
     for member in members {

@@ -23,7 +23,7 @@ pub fn number_of(value: &Value<'_>, place: Place) -> Result<i64, Refusal>
 // Returns why a value is no integer of 64 bits.
 fn number_fault(value: &Value<'_>) -> Cause {
     if value.as_number().is_some() {
-        Cause::NotWhole
+        Cause::NotInteger
     } else {
         Cause::NotNumber
     }

@@ -4,8 +4,8 @@ ghost use Rattle.std.specs.Prelude.{◌≡◌, IfErr, IfOk, OnOk, map, string_by
 ghost use Rattle.clap.specs.Words.{found_of, rows_of};
 ghost use Rattle.replay_arguments.specs.Asked.{IsLineOf};
 ghost use Rattle.replay_arguments.specs.Asks.{Asks};
-ghost use Rattle.replay_arguments.specs.Words.{AsksForText, IsMistaken, IsRefusalBy, IsTaken};
-ghost use Rattle.replay_arguments.specs.Words.{faults_of, rows_of_words};
+ghost use Rattle.replay_arguments.specs.Arguments.{AsksForText, IsMistaken, IsRefusalBy, IsTaken};
+ghost use Rattle.replay_arguments.specs.Arguments.{faults_of, rows_of_words};
 
 use crate::arguments::asked::{Asked, asked_of};
 use crate::arguments::task::task_of;

@@ -5,7 +5,7 @@
 //! through any [`Files`].
 //!
 //! What a command line asks for is defined in `specs/Asks.antt`, and why arguments are of no use in
-//! `specs/Words.antt`. `specs/Opening.antt` defines what is opened.
+//! `specs/Arguments.antt`. `specs/Opening.antt` defines what is opened.
 #![tactic(auto)]
 
 mod arguments;

@@ -70,9 +70,9 @@ none_begins version batches lt none =
     (λ b le is. absurd (omega (arith, ints, lt, le, is))) none
 
 -- a batch that follows no later version than -1 follows that
-pub follows_beginning : (version : ℤ) (batches : List Batch) → version ≤ℤ negsuc 0 → Follows version batches
+pub follows_start : (version : ℤ) (batches : List Batch) → version ≤ℤ negsuc 0 → Follows version batches
     → Follows (negsuc 0) batches
-follows_beginning version batches le follows =
+follows_start version batches le follows =
     let batch = follows.1 in
     let same : version ≡ negsuc 0 = omega (arith, ints, le, follows.4, batch.previous_from) in
     subst (λ (v : ℤ). Follows v batches) same follows

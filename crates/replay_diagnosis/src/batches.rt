@@ -9,7 +9,7 @@ ghost use Rattle.replay_diagnosis.specs.Following.{NoneFollowsBelow};
 use keyspace::Batch;
 
 // The version that the first batch of a chain follows.
-pub(crate) const BEGINNING: i64 = -1;
+pub(crate) const CHAIN_START: i64 = -1;
 
 /// Which versions some batches follow.
 #[derive(Clone, Copy, Debug, PartialEq, Eq)]
@@ -58,7 +58,7 @@ impl Batches {
             → (batches ≡ []) ⊎ Follows (negsuc 0) batches) }
     {
         match self.least_previous {
-            Some(previous) if previous > BEGINNING => Some(previous),
+            Some(previous) if previous > CHAIN_START => Some(previous),
             _ => None,
         }
     }

@@ -3,7 +3,7 @@
 ghost use Rattle.std.specs.Prelude.{IfSome};
 ghost use Rattle.replay_diagnosis.specs.Content.{ContainsBatches};
 
-use crate::batches::{BEGINNING, Batches};
+use crate::batches::{Batches, CHAIN_START};
 use crate::examining::next_batch;
 use crate::position::Position;
 use std::alloc::Global;
@@ -31,7 +31,7 @@ pub fn examine_unbegun<R: Source>(alloc: Global, reader: &mut R, most: usize) ->
         };
         match next {
             Some(batch) => {
-                if batch.previous == BEGINNING {
+                if batch.previous == CHAIN_START {
                     return None;
                 }
                 batches.add(&batch);

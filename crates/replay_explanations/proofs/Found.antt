@@ -17,7 +17,7 @@ newest_push (x ∷ []) w = refl
 newest_push (x ∷ y ∷ others) w = newest_push (y ∷ others) w
 
 count_of : (all others most further : ℕ) → all ≡ others + 1 → further ≡ min others most → min (all - 1) most ≡ further
-count_of all others most further whole count =
+count_of all others most further entire count =
     let same : all - 1 ≡ others = omega arith in
     ap (λ (n : ℕ). min n most) same ∙ sym count
 
@@ -26,12 +26,12 @@ pub explained : (form : ExplanationForm) (version : ℤ) (j i : ℕ) (range : Ra
     → IsExplained ws (2 ^ 64 - 1) w further
     → conflict_text form version j i range (Some w) further ≡ read_line form version j i (Some range) ws
 explained form version j i range ws w further found =
-    let whole : length ws ≡ length found.others + 1 =
+    let entire : length ws ≡ length found.others + 1 =
     ap (λ (xs : List Written). length xs) found.last ∙ length-append found.others (w ∷ []) in
     sym (ap (λ (o : Option Written). conflict_text form version j i range o (min (length ws - 1) (2 ^ 64 - 1)))
     (ap newest found.last ∙ newest_push found.others w)
     ∙ ap (conflict_text form version j i range (Some w))
-    (count_of (length ws) (length found.others) (2 ^ 64 - 1) further whole found.count))
+    (count_of (length ws) (length found.others) (2 ^ 64 - 1) further entire found.count))
 
 more_from : (form : ExplanationForm) (window : ℤ) (ps : List Processed) (b : Batch) (first last : ℕ) (ts : List Txn) (es : List Entry) (n : ℕ) (t : Txn) (e : Entry)
     → last ≡ first + n → slice_get ts n ≡ Some t → slice_get es n ≡ Some e

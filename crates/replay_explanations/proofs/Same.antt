@@ -15,7 +15,7 @@ use Rattle.explanations.specs.Explains.{explaining, newest_of}
 use Rattle.explanations.specs.History.{HistoryState, Keeps}
 use Rattle.explanations.proofs.callers.Following.{same_explaining}
 use Rattle.replay_explanations.specs.declared.form.ExplanationForm.{ExplanationForm}
-use Rattle.replay_explanations.specs.Lines.{explanation, indices_from, lines_from, read_line, txn_lines, whole}
+use Rattle.replay_explanations.specs.Lines.{explanation, indices_from, lines_from, read_line, txn_lines, entire}
 
 lines_same : (form : ExplanationForm) (window : ℤ) (ps qs : List Processed) (b : Batch) (first : ℕ) (ts : List Txn) (es : List Entry)
     → ((j k : ℕ) (t : Txn) (e : Entry) → j ≡ first + k → slice_get ts k ≡ Some t → slice_get es k ≡ Some e
@@ -56,7 +56,7 @@ module _ (form : ExplanationForm) (window : ℤ) (ps : List Processed) (p : Proc
 
   pub same_explanation : explanation form window (ps ++ p ∷ []) p ≡ explanation form window h.kept p
   same_explanation =
-      ap (whole form) (lines_same form window (ps ++ p ∷ []) h.kept p.batch 0 p.batch.txns p.reply.entries
+      ap (entire form) (lines_same form window (ps ++ p ∷ []) h.kept p.batch 0 p.batch.txns p.reply.entries
       (λ j k t e is at_t at_e.
       let same : k ≡ j = omega (arith, is) in
       txn_same j t e (ap (slice_get p.batch.txns) (sym same) ∙ at_t) (ap (slice_get p.reply.entries) (sym same) ∙ at_e)))

@@ -100,13 +100,13 @@ lines_from form window ps b j [] es = []
 lines_from form window ps b j (t ∷ ts) [] = []
 
 -- the lines as they are, or the objects as a member
-abbrev pub whole : ExplanationForm → List ℕ → List ℕ
-whole Words lines = lines
-whole Json objects = member_json objects
+abbrev pub entire : ExplanationForm → List ℕ → List ℕ
+entire Words lines = lines
+entire Json objects = member_json objects
 
 -- the text of the batch that was processed last of these
 abbrev pub explanation : ExplanationForm → ℤ → List Processed → Processed → List ℕ
-explanation form window ps p = whole form (lines_from form window ps p.batch 0 p.batch.txns p.reply.entries)
+explanation form window ps p = entire form (lines_from form window ps p.batch 0 p.batch.txns p.reply.entries)
 
 -- the lines of the batch of this proxy and version, if it was processed after these; each batch is explained by those up to it
 abbrev pub explanation_from : ExplanationForm → ℤ → List Processed → List Processed → ℕ → ℤ → List ℕ

@@ -7,7 +7,7 @@ ghost use Rattle.keyspace.specs.declared.batch.Batch.{Batch as BatchValue};
 ghost use Rattle.keyspace.specs.declared.txn.Txn.{Txn};
 ghost use Rattle.explanations.specs.Explains.{explaining_newest, newest_of};
 ghost use Rattle.replay_explanations.specs.Lines.{conflict_lines, indices_from, lines_from};
-ghost use Rattle.replay_explanations.specs.Lines.{read_line, txn_lines, whole};
+ghost use Rattle.replay_explanations.specs.Lines.{read_line, txn_lines, entire};
 
 use crate::form::{ExplanationForm, put_conflict, put_too_old};
 use crate::json::member_of;
@@ -27,7 +27,7 @@ pub(crate) fn lines_of(
         length entries.now ≡ length batch.txns) }
     ensures text { IfOk result (λ text. (batch : BatchValue)
         → newest_of history.now.kept ≡ Some batch
-        → text.items ≡ whole form (lines_from form history.now.window history.now.kept batch 0
+        → text.items ≡ entire form (lines_from form history.now.window history.now.kept batch 0
         batch.txns entries.now)) }
 {
     let mut text = Vec::new(alloc);
@@ -112,14 +112,7 @@ fn put_conflicts(
         → out.new.items ≡ out.old.items ++ conflict_lines form history.now.kept batch.now txn t) }
 {
     let transaction = batch.txns.txn(txn);
-    put_all(
-        out,
-        form,
-        history,
-        batch.version,
-        txn,
-        &transaction.reads,
-    )
+    put_all(out, form, history, batch.version, txn, &transaction.reads)
 }
 
 // Appends the lines of all read ranges.

@@ -135,7 +135,7 @@ begun side txns newest next tally one_more before = record {
 -- and has all its conflicts
 pub ended : (side : Side) (txns : List (List InConflict)) (conflicts : List InConflict) (newest : ℕ) (tally : Tally)
     → IsTallyWith side txns conflicts newest tally → IsTallyOf side (txns ++ conflicts ∷ []) newest tally
-ended side txns conflicts newest tally whole = record {
-  counts = λ ends. whole.counts ends ∙ sym (sum_by_push (λ (c : List InConflict). cond (is_about side ends c) 1 0) txns conflicts);
-  numbers = whole.numbers;
+ended side txns conflicts newest tally entire = record {
+  counts = λ ends. entire.counts ends ∙ sym (sum_by_push (λ (c : List InConflict). cond (is_about side ends c) 1 0) txns conflicts);
+  numbers = entire.numbers;
 }

@@ -13,7 +13,7 @@ use Rattle.replay_diagnosis.specs.declared.finding.RunFinding.TheVariants as run
 use Rattle.replay_diagnosis.specs.Content.{FoundIn}
 use Rattle.replay_diagnosis.specs.Following.{Follows, HasLeast, NoneBegins, NoneFollowsBelow}
 use Rattle.replay_diagnosis.specs.Remedy.{run_remedy_line}
-use Rattle.replay_program.specs.Replayed.{HasFailed, Took, TookBeginning, Written}
+use Rattle.replay_program.specs.Replayed.{HasFailed, Took, TookPrefix, Written}
 use Rattle.replay_program.specs.Summarized.{TookUnlessFailed}
 use Rattle.replay_program.specs.declared.met.Met.{Met}
 use Rattle.replay_program.specs.Verbose.{AreBatches, AreExamined, HaveBatches, IsExplained, IsFoundIn, IsFoundOf, IsGateFinding, IsOfFile, IsOfRun, SaysHeld}
@@ -22,7 +22,7 @@ use Rattle.replay_program.specs.Verbose.{AreBatches, AreExamined, HaveBatches, I
 pub said_by : {S U : Type 0} (given : S → Option (List ℕ)) (old new : S) (error : Written) (text : List ℕ) (wrote : Result U WireError)
     → error.before ≡ given old → error.after ≡ given new → OnOk wrote (Took error text)
     → IfErr wrote (λ e. (e ≡ Memory) ⊎ (e ≡ Write)) → IfErr wrote (λ e. e ≡ Memory → new ≡ old)
-    → IfErr wrote (λ e. e ≡ Write → HasFailed error × TookBeginning error text)
+    → IfErr wrote (λ e. e ≡ Write → HasFailed error × TookPrefix error text)
     → (given new ≡ given old) ⊎ TookUnlessFailed error text
 said_by given old new error text (Ok u) before after took either memory write = inr (inl took)
 said_by given old new error text (Err e) before after took (inl is) memory write = inl (ap given (memory is))
@@ -94,11 +94,11 @@ take_more f xs n d inside =
     let next : n + 1 ≡ suc n = omega arith in
     ap (λ (k : ℕ). take k (map f xs)) next ∙ take_suc f xs n d inside
 
-pub take_whole : {X Y : Type 0} (f : X → Y) (xs : List X) (n : ℕ) → length xs ≤ n → take n (map f xs) ≡ map f xs
-take_whole f [] zero all = refl
-take_whole f [] (suc n) all = refl
-take_whole f (x ∷ xs) zero all = absurd (omega (arith, all))
-take_whole f (x ∷ xs) (suc n) all = ap (λ l. f x ∷ l) (take_whole f xs n (omega (arith, all)))
+pub take_entire : {X Y : Type 0} (f : X → Y) (xs : List X) (n : ℕ) → length xs ≤ n → take n (map f xs) ≡ map f xs
+take_entire f [] zero all = refl
+take_entire f [] (suc n) all = refl
+take_entire f (x ∷ xs) zero all = absurd (omega (arith, all))
+take_entire f (x ∷ xs) (suc n) all = ap (λ l. f x ∷ l) (take_entire f xs n (omega (arith, all)))
 
 module _ (contents : List ℕ → Option (List ℕ)) where
   -- one file more

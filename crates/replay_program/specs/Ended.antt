@@ -3,12 +3,12 @@ use Rattle.std.specs.Prelude.{◌≡◌, ◌⊎◌, ◌≤◌, ℕ, List, Option
 use Rattle.std.specs.Io.KnownBytes.{Keeps}
 use Rattle.replay_arguments.specs.declared.arguments.CommandLine.{CommandLine}
 use Rattle.replay_arguments.specs.Asks.{Asks}
-use Rattle.replay_arguments.specs.Words.{AsksForText}
+use Rattle.replay_arguments.specs.Arguments.{AsksForText}
 use Rattle.replay_output.specs.declared.start.StartError.TheVariants as start
 use Rattle.replay_output.specs.Start.{start_line}
 use Rattle.replay_stream.specs.Sinks.{SinkState}
 use Rattle.replay_program.specs.declared.report.RunReport.{RunReport}
-use Rattle.replay_program.specs.Program.{EndsQuietly, IsLineDone, LineFailsAndSays, LineFindsDifferences, NamedFiles, Told}
+use Rattle.replay_program.specs.Program.{EndsQuietly, IsLineDone, LineFailsAndSays, LineFindsDifferences, NamedFiles, ReportsLine}
 use Rattle.replay_program.specs.Replayed.{HasFailed, Took, Written}
 use Rattle.replay_program.specs.ShardedProgram.{
   IsLineDoneByShards,
@@ -27,7 +27,7 @@ HasNotShown words standard = AsksForText words × HasFailed standard
 
 -- memory was refused before anything was done
 abbrev pub HasNoMemory : Written → Written → Type 0
-HasNoMemory standard error = (standard.after ≡ standard.before) × Told error (start_line start.Memory)
+HasNoMemory standard error = (standard.after ≡ standard.before) × ReportsLine error (start_line start.Memory)
 
 -- what a command line asks for comes to one end with one resolver, and to another with several
 pub record EndsAs (line : CommandLine) (One Several : Type 0) : Type 0 where

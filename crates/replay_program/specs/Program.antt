@@ -61,8 +61,8 @@ abbrev pub bytes_of : NamedFiles → CommandLine → List (Option (List ℕ))
 bytes_of files line = contents_each files.contents (texts line.files.items)
 
 -- the line was printed, or standard error failed
-abbrev pub Told : Written → List ℕ → Type 0
-Told error line = HasFailed error ⊎ Took error line
+abbrev pub ReportsLine : Written → List ℕ → Type 0
+ReportsLine error line = HasFailed error ⊎ Took error line
 
 -- a file can't be opened: nothing was printed, and the first such file was reported
 pub record DidNotOpen (has_opened cannot_open : List ℕ → Type 0) (names : List (List ℕ)) (out error : Written) :
@@ -70,14 +70,14 @@ pub record DidNotOpen (has_opened cannot_open : List ℕ → Type 0) (names : Li
   pub proxy : ℕ
   pub first : IsFirstRefused has_opened cannot_open names proxy
   pub nothing_printed : out.after ≡ out.before
-  pub told : Told error (opening_line (opening.CannotOpen proxy))
+  pub reported : ReportsLine error (opening_line (opening.CannotOpen proxy))
 
 -- the file of this name can't be created: nothing was printed, and that was reported
 pub record DidNotCreateFile (cannot_create : List ℕ → Type 0) (name : List ℕ) (file : WrittenFile) (out error : Written) :
     Type 0 where
   pub refused : cannot_create name
   pub nothing_printed : out.after ≡ out.before
-  pub told : Told error (written_line file file_error.CannotOpen)
+  pub reported : ReportsLine error (written_line file file_error.CannotOpen)
 
 -- `to` is what was written to a file: its new writer, which was given `begun`, has become `writer`
 pub record IsGiven {W : Type 0} (state_of : W → SinkState) (begun : Option (List ℕ)) (writer : Option W) (to : Written) :
@@ -121,18 +121,18 @@ pub record DidNotReadReplies (has_opened cannot_open : List ℕ → Type 0) (con
   pub cause : RepliesError
   pub why : IsCauseOf has_opened cannot_open contents names cause
   pub nothing_printed : out.after ≡ out.before
-  pub told : Told error (replies_line cause)
+  pub reported : ReportsLine error (replies_line cause)
 
 -- the replies that were read of the files of these names
 abbrev pub AreRecorded : (List ℕ → Option (List ℕ)) → List (List ℕ) → List (List Reply) → Type 0
 AreRecorded contents names recorded = AllZip IsReplyFile (contents_each contents names) recorded
 
 -- the answers to these files were compared with the replies in the files of these names, and the number of differences is as said
-pub record ChecksFiles (So_many : ℕ → Type 0) (contents : List ℕ → Option (List ℕ)) (options : Options)
+pub record ChecksFiles (HasCount : ℕ → Type 0) (contents : List ℕ → Option (List ℕ)) (options : Options)
     (bytes : List (Option (List ℕ))) (replies : List (List ℕ)) (before after : Option (List ℕ)) : Type 0 where
   pub recorded : List (List Reply)
   pub read : AreRecorded contents replies recorded
-  pub checked : IsChecked So_many recorded options bytes before after
+  pub checked : IsChecked HasCount recorded options bytes before after
 
 -- the replies were read, and then the program failed
 pub record FailsBeside (contents : List ℕ → Option (List ℕ)) (options : Options) (bytes : List (Option (List ℕ)))
@@ -169,7 +169,7 @@ pub record StreamsFiles {W : Type 0} (state_of : W → SinkState) (begun : List 
     (before after : Option (List ℕ)) : Type 0 where
   pub writers : List (Option W)
   pub opened : AreWriters state_of begun (length bytes) records writers
-  pub whole : IsStreamDone state_of options bytes writers recorders before after
+  pub entire : IsStreamDone state_of options bytes writers recorders before after
 
 -- a file for records can't be opened: nothing was printed, and the first such file was reported
 pub record DidNotCreate (has_created cannot_create : List ℕ → Type 0) (names : List (List ℕ)) (out error : Written) :
@@ -177,7 +177,7 @@ pub record DidNotCreate (has_created cannot_create : List ℕ → Type 0) (names
   pub proxy : ℕ
   pub first : IsFirstRefused has_created cannot_create names proxy
   pub nothing_printed : out.after ≡ out.before
-  pub told : Told error (creating_line (opening.CannotOpen proxy))
+  pub reported : ReportsLine error (creating_line (opening.CannotOpen proxy))
 
 -- These files were read and resolved, and something failed. The lines are those of a prefix of the answers to each proxy,
 -- without those that a filter hides. So are the records, if files for them are named.
@@ -302,4 +302,4 @@ not_text = codes "error: invalid UTF-8 was detected in one or more arguments\n\n
 
 -- the arguments could not be read as text: nothing was printed, and that was reported
 abbrev pub HasReadNoText : Written → Written → Type 0
-HasReadNoText out error = (out.after ≡ out.before) × Told error not_text
+HasReadNoText out error = (out.after ≡ out.before) × ReportsLine error not_text

@@ -3,7 +3,7 @@ use Rattle.std.specs.Prelude.{◌≡◌, ◌⊎◌, ℕ, negsuc, ℤ, true, List
 use Rattle.keyspace.specs.declared.batch.Batch.{Batch}
 use Rattle.resolver.specs.declared.stop.Stop.TheVariants as stop
 use Rattle.wire.specs.Upgrade.{AreFrames}
-use Rattle.replay_arguments.specs.Words.{standard_input}
+use Rattle.replay_arguments.specs.Arguments.{standard_input}
 use Rattle.replay_diagnosis.specs.declared.finding.Finding.{Finding}
 use Rattle.replay_diagnosis.specs.declared.finding.Finding.TheVariants as found
 use Rattle.replay_diagnosis.specs.declared.finding.RunFinding.{RunFinding}

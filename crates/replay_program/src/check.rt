@@ -72,7 +72,7 @@ pub fn check_over<
         → O.failures out.old < O.failures out.new }
     ensures ends { result.status ≢ Status.Usage }
 {
-    serial::laws::answers_tell_verdicts();
+    serial::laws::answers_report_verdicts();
     let mut reached = Reached::new(Unobserved);
     let run = run_observed(rt, alloc, readers, options, gatekeeper, &mut reached);
     let (outcome, account) = match run {

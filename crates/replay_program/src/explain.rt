@@ -68,7 +68,7 @@ pub fn explain_over<
     ensures ends { result.status ≢ Status.Usage }
     ensures same { result.status ≢ Status.Differs }
 {
-    serial::laws::answers_tell_verdicts();
+    serial::laws::answers_report_verdicts();
     let form = explanation_form(options.style.form);
     let explainer = Explainer::new(alloc, options.window, form);
     let mut reached = Reached::new(explainer);

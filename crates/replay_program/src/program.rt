@@ -1,9 +1,9 @@
 //! The program, over any words, files and streams.
 
 ghost use Rattle.std.specs.Prelude.{◌≡◌, ℕ, List, map, string_bytes};
-ghost use Rattle.replay_arguments.specs.Words.{IsMistaken};
+ghost use Rattle.replay_arguments.specs.Arguments.{IsMistaken};
 ghost use Rattle.replay_program.specs.Ended.{HasDifferences, IsDone, IsFailed, IsQuiet};
-ghost use Rattle.replay_program.specs.Program.{Told, named_files};
+ghost use Rattle.replay_program.specs.Program.{ReportsLine, named_files};
 ghost use Rattle.replay_program.specs.Replayed.{written};
 ghost use Rattle.replay_program.specs.ShardedProgram.{regular_files};
 ghost use Rattle.replay_stream.specs.Sinks.{state_by};
@@ -66,7 +66,7 @@ pub fn run<R: Threads + Wait + Copy + Send + 'static, F: Files, O: Sink, E: Sink
     ensures mistaken { result.status ≡ Status.Usage → IsMistaken (map string_bytes words.now) }
     ensures nothing { result.status ≡ Status.Usage → O.given out.new ≡ O.given out.old }
     ensures usage { result.status ≡ Status.Usage → (text : List ℕ)
-        × Told (written (E.given error.old) (E.given error.new) (E.failures error.old)
+        × ReportsLine (written (E.given error.old) (E.given error.new) (E.failures error.old)
         (E.failures error.new)) text }
     ensures differs { result.status ≡ Status.Differs
         → HasDifferences (state_by F.Writer.given F.Writer.failures)

@@ -20,7 +20,7 @@ impl Progress {
     }
 
     /// Tells that n answers were taken.
-    pub fn tell(&self, answered: u64) {
+    pub fn report(&self, answered: u64) {
         self.answered.store(answered, Ordering::SeqCst);
     }
 

@@ -17,7 +17,7 @@ use test_values::Unmade;
 use wire::StdSink;
 
 // How the lines of a proxy begin.
-fn beginning_of(proxy: usize) -> &'static str {
+fn line_start(proxy: usize) -> &'static str {
     if proxy == 0 { "0 " } else { "1 " }
 }
 
@@ -33,9 +33,9 @@ struct Ended<'a> {
 impl Ended<'_> {
     // How many lines were printed of the proxy.
     fn count(&self, proxy: usize) -> u64 {
-        let beginning = beginning_of(proxy);
+        let prefix = line_start(proxy);
         let lines = self.out.lines();
-        lines.filter(|line| line.starts_with(beginning)).count() as u64
+        lines.filter(|line| line.starts_with(prefix)).count() as u64
     }
 }
 
@@ -67,13 +67,10 @@ impl Row<'_> {
 
     // Whether the lines of the proxy are the first of those that it has with ample memory.
     fn begins(&self, ended: &Ended, proxy: usize) -> bool {
-        let beginning = beginning_of(proxy);
-        let mut expected = self
-            .lines
-            .lines()
-            .filter(|line| line.starts_with(beginning));
+        let prefix = line_start(proxy);
+        let mut expected = self.lines.lines().filter(|line| line.starts_with(prefix));
         for line in ended.out.lines() {
-            if line.starts_with(beginning) && expected.next() != Some(line) {
+            if line.starts_with(prefix) && expected.next() != Some(line) {
                 return false;
             }
         }

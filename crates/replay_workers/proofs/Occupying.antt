@@ -244,10 +244,10 @@ module _ (old new : ResolverState) (result : Result Turn Stop) (turns : Turns re
   Sees log = HasSeen After new.core.stop window log × IsOccupancyOf new.core.stop limit window log after
 
   window_is : new.core.set.window ≡ window
-  window_is = turns.goes_on.window
+  window_is = turns.continues.window
 
   limit_is : new.core.set.map.limit ≡ limit
-  limit_is = turns.goes_on.limit
+  limit_is = turns.continues.limit
 
   abbrev count : ℕ
   count = length new.core.set.map.boundaries
@@ -289,7 +289,7 @@ module _ (old new : ResolverState) (result : Result Turn Stop) (turns : Turns re
   pub measured_turn : IsMeasured Before before old → IsMeasured After after new
   measured_turn m =
       let also : IsAccountedWith Sees new =
-      after_turn old new turns.goes_on Saw Sees
+      after_turn old new turns.continues Saw Sees
       (λ was proxy took log stands saw. (
         taken proxy took (negsuc 0) log stands saw.0,
         stepped log (Take proxy took.batch) (took.adds (negsuc 0) log stands) (unstopped_over was log saw.1) new.core.stop refl,

@@ -76,7 +76,7 @@ abbrev pub failure_of : Finished → ProxyFailure
 failure_of finished = record { fault = finished.fault; lost = finished.lost }
 
 -- one of them hands a batch back that could not be sent
-pub record HandsBack (finished : List Finished) : Type 0 where
+pub record ReturnsBatch (finished : List Finished) : Type 0 where
   pub place : ℕ
   pub worker : Finished
   pub at : slice_get finished place ≡ Some worker
@@ -89,4 +89,4 @@ pub record IsOutcomeOf (finished : List Finished) (outcome : Outcome) : Type 0 w
   pub lines : outcome.lines.items ≡ map (λ f. f.lines) finished
   pub failures : outcome.failures.items ≡ map failure_of finished
   pub all_sent : outcome.all_sent ≡ true → All (λ f. f.unsent ≡ None) finished
-  pub unsent : outcome.all_sent ≡ false → HandsBack finished
+  pub unsent : outcome.all_sent ≡ false → ReturnsBatch finished

@@ -35,6 +35,6 @@ pub use ends::MostUnanswered;
 pub use gatekeeper::{AlwaysOpen, Gatekeeper, ShareKeeper, Unshared};
 pub use outcome::Outcome;
 pub use rest::pause;
-pub use running::{let_through, run, run_observed, run_over};
+pub use running::{admit, run, run_observed, run_over};
 pub use watch::Watch;
 pub use worker::{Assignment, FileEnd, Finished, Leftover, work, work_over};

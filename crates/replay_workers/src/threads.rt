@@ -4,7 +4,7 @@ ghost use Rattle.std.specs.Prelude.{◌≡◌, ◌≤◌, List, map, vec_len, ve
 ghost use Rattle.std.specs.Prelude.{None};
 ghost use Rattle.std.specs.List.{All, AllZip};
 ghost use Rattle.resolver.specs.Share.{share_of};
-ghost use Rattle.replay_workers.specs.declared.threads.Worked.{Worked as HandedBack};
+ghost use Rattle.replay_workers.specs.declared.threads.Worked.{Worked as ReturnedWorker};
 ghost use Rattle.replay_workers.specs.Batches.{EndsWith};
 ghost use Rattle.replay_workers.specs.Worker.{HasWorkedOver};
 ghost use Rattle.replay_workers.specs.Threads.{given_each, given_by, given_to, HasWorkedOn};
@@ -193,7 +193,7 @@ pub fn join_all<B: Batches + Drop, R: Threads>(
     requires none { streams.items ≡ [] }
     requires room { vec_len workers ≤ vec_capacity outcome.clients }
     requires streams_room { vec_len workers ≤ vec_capacity streams }
-    ensures worked { (each : List (HandedBack B))
+    ensures worked { (each : List (ReturnedWorker B))
         × AllZip (HasWorkedOn B.gives B.is_at_end B.is_at_fault B.stays)
         (map given_to workers.items) each
         × IsOutcomeOf (finished_of each) result.0

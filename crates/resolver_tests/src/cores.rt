@@ -60,8 +60,8 @@ impl Run {
 
     // Takes an answer, and returns whether it is this one. It may be missing where its step is the
     // one that met the stop, or a later one.
-    fn gives(&mut self, step: usize, told: &str) -> Result<bool, Unmade> {
-        let (proxy, expected) = numbered(told.trim_start())?;
+    fn gives(&mut self, step: usize, reported: &str) -> Result<bool, Unmade> {
+        let (proxy, expected) = numbered(reported.trim_start())?;
         match give(&mut self.core, proxy)? {
             Some(answer) => Ok(text_at_last(self.alloc, &answer)?.as_str() == expected),
             None => Ok(step >= self.steps),
@@ -70,9 +70,9 @@ impl Run {
 
     fn gives_all(&mut self, step: usize, answers: &str) -> Result<bool, Unmade> {
         let mut is_right = true;
-        for told in answers.split(';') {
-            if !told.is_empty() {
-                is_right &= self.gives(step, told)?;
+        for reported in answers.split(';') {
+            if !reported.is_empty() {
+                is_right &= self.gives(step, reported)?;
             }
         }
         Ok(is_right)

@@ -254,7 +254,7 @@ impl<const N: usize> Boundaries<N> {
         let written = self.tree.overwrite(&new, &mut self.taken);
         release_run(&mut self.keys, &mut self.taken);
         match written {
-            Written::Whole { ended } => {
+            Written::Entirely { ended } => {
                 if ended {
                     self.keys.release(end_key);
                 }

@@ -102,12 +102,12 @@ leaf_can_step {N} {bytes} {is_below} {target} {Wants} {nodes} {slot} {common_pre
 
 -- So can another bound, of keys that have the same bytes, that goes through items of which the leaf's are a part.
 pub leaf_can_find : {N : ℕ} {bytes : KeyBytes} {is_below : ℕ → Bool} {leaf : Node N} (nodes : Arena (Node N)) (slot : ℕ)
-    → CanFind bytes is_below leaf → (near : KeyBytes) (other : ℕ → Bool) → ((key : ℕ) → near key ≡ bytes key)
-    → header_at nodes slot ≡ Some leaf → IsPartOfPartitioned other (items_in nodes 0 slot) → CanFind near other leaf
-leaf_can_find {N} {bytes} {is_below} {leaf} nodes slot can near other same header part =
+    → CanFind bytes is_below leaf → (hint : KeyBytes) (other : ℕ → Bool) → ((key : ℕ) → hint key ≡ bytes key)
+    → header_at nodes slot ≡ Some leaf → IsPartOfPartitioned other (items_in nodes 0 slot) → CanFind hint other leaf
+leaf_can_find {N} {bytes} {is_below} {leaf} nodes slot can hint other same header part =
     let partitioned = entries_of_partitioned other _ (part_partitioned other (items_in nodes 0 slot) part) in
     record {
-      headed = key_heads_kept bytes near (λ key text is. same key ∙ is) (key_heads_of leaf) can.headed;
+      headed = key_heads_kept bytes hint (λ key text is. same key ∙ is) (key_heads_of leaf) can.headed;
       partitioned = rw (entries_from_header nodes slot leaf header) at partitioned;
       some = can.some;
     }

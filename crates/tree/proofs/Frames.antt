@@ -85,7 +85,7 @@ module _ {N : ℕ} where
         record {
           filled = rw (agree_own height (get_or es k d).child same) child.filled;
           subtree = below (get_or es k d).child same child.subtree;
-          tells = rw (items_same height (get_or es k d).child same) child.tells;
+          describes = rw (items_same height (get_or es k d).child same) child.describes;
         }
 
     pub subtree_same : (least height slot : ℕ) → Agree a b (slots_in a height slot) → IsSubtree a least height slot

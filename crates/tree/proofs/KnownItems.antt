@@ -70,7 +70,7 @@ module _ {N : ℕ} (a : Arena (Node N)) (least : ℕ) where
     | inl same ↦
         let es = entries_at a slot in
         rw (← same.0) (All-map (Contains (keys_in (items_of a height es))) (λ (e : Entry). e.key) es
-        (λ i d lt. let t = (h.2 i d lt).tells in
+        (λ i d lt. let t = (h.2 i d lt).describes in
         key_below height es (get_or es i d) (Contains-get_or es i d lt) _ (rw t.items_are (zero, omega arith, sym t.key))))
     | inr other ↦
         let w = entry_above height s (entries_at a slot) (omega (arith, other.1)) in

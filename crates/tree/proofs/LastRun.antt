@@ -19,8 +19,8 @@ module _ (es : List Entry) (begin end : ℕ) (some : begin < end) (most : end �
       ++ (unexpired edge before (map item_of (run es begin end)) ++ map item_of (drop end es))
   untouched edge before none =
       let items = map-append item_of (take begin es) (drop begin es) in
-      let behind = map-append item_of (run es begin end) (drop end es) in
-      cc (all_stay edge before (map item_of (run es begin end)) none, take-append-drop begin es, from_run, items, behind)
+      let following = map-append item_of (run es begin end) (drop end es) in
+      cc (all_stay edge before (map item_of (run es begin end)) none, take-append-drop begin es, from_run, items, following)
 
   -- the items of the leaf once it is swept of expired items
   pub leaf_unexpired : (p : ℕ → Bool) → IsPartitioned (λ e. p e.key) es → begin + 1 ≡ length (filter (λ e. p e.key) es)

@@ -60,7 +60,7 @@ headed_empty : (bytes : KeyBytes) (key : ℕ) → bytes key ≡ Some []
 headed_empty bytes key empty =
     let begins : Begins bytes [] key = record { text = []; known = empty; are_bytes = search rules; begins = inl refl } in
     record {
-      beginning = [];
+      prefix = [];
       prefix_len = refl;
       begins = All-cons (Begins bytes []) key [] begins (All-nil (Begins bytes []));
       heads = rw empty (ap (λ d. d ∷ []) (sym (empty_head 0)));

@@ -3,7 +3,7 @@ use Rattle.std.proofs.Common.{◌≡◌, ℕ, zero, suc, ◌+◌, ◌-◌, ◌�
 use Rattle.std.proofs.lemmas.Option.{slice_get-get_or}
 use Rattle.std.proofs.lemmas.List.{drop_all, drop_more, take-append-drop, append-nil, append_assoc, map-append}
 use Rattle.std.proofs.lemmas.List.Elements.{All-head, All-append, All-map, filter-append}
-use Rattle.tree.proofs.Words.{Arena, Entry, Node, Item, item_of, IsPartitioned, index_in, child_in, leaf_in, before_leaf, behind_leaf, items_below, entries_at, items_in, IsSubtree, IsLast}
+use Rattle.tree.proofs.Words.{Arena, Entry, Node, Item, item_of, IsPartitioned, index_in, child_in, leaf_in, before_leaf, after_leaf, items_below, entries_at, items_in, IsSubtree, IsLast}
 use Rattle.tree.proofs.callers.Times.{none_or_some}
 use Rattle.tree.proofs.callers.Partitions.{not_both, none_pass, none_passed, none_fail, IsPartitioned-parts}
 use Rattle.tree.proofs.HeadCounts.{passing_at}
@@ -34,7 +34,7 @@ none_before nodes least (suc height) slot is_below s c none =
     let i = none_before nodes least height (child_in is_below es) is_below (rw w.child at w.kept.subtree)
     (rw w.child at w.partitioned) none in
     let all : All Fails (below w.entry) = rw w.child i.1 in
-    let t = w.kept.tells in
+    let t = w.kept.describes in
     let fails = rw (← t.key) at (All-head Fails t.first t.others (rw t.items_are at all)) in
     elim (none_or_some (length (filter p es))) [
       | inl zero_pass ↦
@@ -42,7 +42,7 @@ none_before nodes least (suc height) slot is_below s c none =
           let front : flat_map below (take (index_in is_below es) es) ≡ [] = rw at refl in
           let items = rw front at w.items in (
             rw front i.0,
-            rw items (All-append Fails (below w.entry) (flat_map below (drop (index_in is_below es + 1) es)) all w.behind),
+            rw items (All-append Fails (below w.entry) (flat_map below (drop (index_in is_below es + 1) es)) all w.following),
           )
       | inr some ↦ absurd (not_both (is_below w.entry.key) (index_passes p es w.entry w.entries some w.is) fails)
     ]
@@ -111,11 +111,11 @@ pub is_leaf : {N : ℕ} (nodes : Arena (Node N)) (least height slot : ℕ) (is_b
     → IsSubtree nodes least height slot → IsPartitioned (λ x. is_below x.key) (items_in nodes height slot)
     → leaf ≡ leaf_in nodes height slot is_below → entries_at nodes leaf ≡ es
     → items_in nodes height slot
-    ≡ before_leaf nodes height slot is_below ++ (map item_of (entries_at nodes leaf) ++ behind_leaf nodes height slot is_below)
+    ≡ before_leaf nodes height slot is_below ++ (map item_of (entries_at nodes leaf) ++ after_leaf nodes height slot is_below)
     → All (λ x. is_below x.key ≡ true) (before_leaf nodes height slot is_below)
-    → All (λ x. is_below x.key ≡ false) (behind_leaf nodes height slot is_below)
+    → All (λ x. is_below x.key ≡ false) (after_leaf nodes height slot is_below)
     → IsLeaf is_below (items_in nodes height slot) (before_leaf nodes height slot is_below)
-    (behind_leaf nodes height slot is_below) es
+    (after_leaf nodes height slot is_below) es
 is_leaf nodes least height slot is_below leaf es s c way same items pass fail =
     let there : entries_at nodes (leaf_in nodes height slot is_below) ≡ es = ap (entries_at nodes) (sym way) ∙ same in
     record {

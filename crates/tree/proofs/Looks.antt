@@ -2,7 +2,7 @@
 use Rattle.std.proofs.Common.{rules, ◌≡◌, ℕ, zero, suc, ◌+◌, ◌-◌, ◌<◌, ◌≤◌, Bool, true, false, List, ◌∷◌, ◌++◌, take, drop, Option, Some, None, option_map, length, get_or, filter, flat_map, map, All, IfSome, sym, refl, ◌∙◌, ap, subst, arith, slice_range, append-nil}
 use Rattle.std.proofs.lemmas.Grind.{flat_map-append}
 use Rattle.std.proofs.lemmas.List.{drop-map, length-map, take-map}
-use Rattle.tree.proofs.Words.{Arena, header_at, Entry, Node, Item, Tells, item_of, entries_of, IsPartitioned, below_from, below_to, entries_at, items_in, IsChild, IsSubtree, CanFind, CanStep, IsLowerBound, KeyBytes, IsCommonPrefixAt, CanReach}
+use Rattle.tree.proofs.Words.{Arena, header_at, Entry, Node, Item, Describes, item_of, entries_of, IsPartitioned, below_from, below_to, entries_at, items_in, IsChild, IsSubtree, CanFind, CanStep, IsLowerBound, KeyBytes, IsCommonPrefixAt, CanReach}
 use Rattle.tree.proofs.callers.Partitions.{none_pass, none_fail}
 use Rattle.tree.proofs.Ways.{around_element, children_partitioned, index_inside}
 use Rattle.tree.proofs.Found.{partitioned-entries, entries_read, read_partitioned}
@@ -77,18 +77,18 @@ module _ {N : ℕ} {nodes : Arena (Node N)} {least height slot : ℕ} {bytes : K
   can_step_at knows = record { can_find = can_find_at; known = rw read at knows }
 
 pub look_of : {N : ℕ} {A B : Type 0} (nodes : Arena (Node N)) (least height slot : ℕ) (bytes : A → KeyBytes) (f : A → ℕ → Bool)
-    (near : B → KeyBytes) (t : B → ℕ → Bool) (from : Option A) (to : Option B) (header : Node N) (es : List Entry) (begin end : ℕ)
+    (hint : B → KeyBytes) (t : B → ℕ → Bool) (from : Option A) (to : Option B) (header : Node N) (es : List Entry) (begin end : ℕ)
     → IsSubtree nodes least height slot
     → IfSome from (λ p. CanReach (bytes p) (f p) nodes least height slot)
-    → IfSome to (λ q. CanReach (near q) (t q) nodes least height slot)
+    → IfSome to (λ q. CanReach (hint q) (t q) nodes least height slot)
     → IfSome from (λ p. IfSome to (λ q. (key : ℕ) → f p key ≡ true → t q key ≡ true))
     → header_at nodes slot ≡ Some header → es ≡ entries_of header
     → IsLowerBound (below_from (option_map f from)) header begin → IsLowerBound (below_to (option_map t to)) header end
     → IsLook nodes least height slot (below_from (option_map f from)) (below_to (option_map t to)) es begin end
-look_of nodes least height slot bytes f near t from to header es begin end s c d n h e b l = record {
+look_of nodes least height slot bytes f hint t from to header es begin end s c d n h e b l = record {
   subtree = s;
   from = from_asked bytes f nodes least height slot from c;
-  to = to_asked near t nodes least height slot to d;
+  to = to_asked hint t nodes least height slot to d;
   nested = nested_asked f t from to n;
   read = entries_read nodes slot header es h e;
   begin_is = rw e b.count_is;
@@ -128,8 +128,8 @@ module _ {N : ℕ} (nodes : Arena (Node N)) (least height slot : ℕ) (f t : ℕ
     node : (1 ≤ length es) × All (IsChild nodes least (height - 1) (IsSubtree nodes least (height - 1))) es
     node = let s = subst (λ n. IsSubtree nodes least n slot) (sym lower) k.subtree in rw (← k.read) (s.1, s.2)
 
-    pub look_tell : All (λ e. Tells e (below e)) es
-    look_tell = λ i e inside. (node.1 i e inside).tells
+    pub look_answers : All (λ e. Describes e (below e)) es
+    look_answers = λ i e inside. (node.1 i e inside).describes
 
     pub look_items : items_in nodes height slot ≡ flat_map below es
     look_items = ap (λ n. items_in nodes n slot) (sym lower) ∙ ap (flat_map below) k.read

@@ -6,7 +6,7 @@ use Rattle.std.proofs.lemmas.Bool.{cases_Bool}
 use Rattle.tree.specs.declared.entry.Entry.{Entry}
 use Rattle.tree.specs.Item.{Item, item_of}
 use Rattle.tree.specs.Overwrite.{first_is_below}
-use Rattle.tree.specs.Path.{IsPartitioned, items_below, behind, first_key}
+use Rattle.tree.specs.Path.{IsPartitioned, items_below, following, first_key}
 use Rattle.tree.specs.Tree.{ended_by}
 use Rattle.tree.proofs.callers.Partitions.{not_both, none_pass, rest_fails}
 
@@ -25,7 +25,7 @@ items_put false first second x others is = ap (λ y. item_of first ∷ (y ∷ ot
 
 -- those that are below the second bound, of those that aren't below the first
 pub between_is : (q r : ℕ → Bool) (items : List Item)
-    → filter (λ (x : Item). not (q x.key) && r x.key) items ≡ items_below r (behind q items)
+    → filter (λ (x : Item). not (q x.key) && r x.key) items ≡ items_below r (following q items)
 between_is q r [] = refl
 between_is q r (x ∷ items) =
     let rest = between_is q r items in
@@ -35,11 +35,11 @@ between_is q r (x ∷ items) =
     ]
 
 -- There is one that passes exactly if the first one does.
-pub first_tells : (r : ℕ → Bool) (items : List Item) → IsPartitioned (λ x. r x.key) items
+pub first_describes : (r : ℕ → Bool) (items : List Item) → IsPartitioned (λ x. r x.key) items
     → (IsTrue (first_is_below r (first_key None items)) → items_below r items ≢ [])
     × (items_below r items ≢ [] → IsTrue (first_is_below r (first_key None items)))
-first_tells r [] partitioned = (λ ok. absurd (cc), λ some. absurd (some refl))
-first_tells r (x ∷ items) partitioned =
+first_describes r [] partitioned = (λ ok. absurd (cc), λ some. absurd (some refl))
+first_describes r (x ∷ items) partitioned =
     let p = λ (x : Item). r x.key in
     elim (cases_Bool (r x.key)) [
       | inl t ↦ (λ ok none. let k = rw t at none in absurd (cc), λ some. t)

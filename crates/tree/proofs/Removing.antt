@@ -43,11 +43,11 @@ pub last_at : (es : List Entry) (from to : ℕ) (e : Entry) → from < to → to
     → IsLast e.version (map version_of (run es from to))
 last_at es from to e some within is =
     let n = to - 1 - from in
-    let behind = drop from es in
+    let following = drop from es in
     let count : to - from ≡ n + 1 = omega arith in
     let index : from + n ≡ to - 1 = omega arith in
-    let more = take_more behind n e (omega (arith, length-drop from es)) in
-    (map version_of (take n behind), rw (count, more, get_or-drop from es n e, index, ← is, map-append))
+    let more = take_more following n e (omega (arith, length-drop from es)) in
+    (map version_of (take n following), rw (count, more, get_or-drop from es n e, index, ← is, map-append))
 
 -- a version that isn't below the edge
 pub not_below : (edge v : ℤ) → int_le edge v ≡ true → int_lt v edge ≡ false

@@ -4,29 +4,29 @@ use Rattle.std.specs.Prelude.{slice_range}
 use Rattle.std.proofs.lemmas.List.{drop-take, map-append, same_from_push, take_more}
 use Rattle.tree.specs.declared.entry.Entry.{Entry}
 use Rattle.tree.specs.Item.{Item, item_of}
-use Rattle.tree.specs.Overwrite.{GivesWhole, first_is_below}
-use Rattle.tree.specs.Path.{IsPartitioned, items_below, behind, first_key}
+use Rattle.tree.specs.Overwrite.{GivesEntire, first_is_below}
+use Rattle.tree.specs.Path.{IsPartitioned, items_below, following, first_key}
 use Rattle.tree.specs.Tree.{IsLast, ended_by}
 use Rattle.tree.proofs.WrittenLeaf.{some_item, items_parted, between_entries}
 
 -- What stands between the bounds is taken out, and the new items come in its place.
-pub whole_run : (p q r : ℕ → Bool) → ((key : ℕ) → p key ≡ true → q key ≡ true) → (es : List Entry) (begin end : ℕ)
+pub entire_run : (p q r : ℕ → Bool) → ((key : ℕ) → p key ≡ true → q key ≡ true) → (es : List Entry) (begin end : ℕ)
     → IsPartitioned (λ e. p e.key) es → IsPartitioned (λ e. q e.key) es → begin ≤ length es
     → begin ≡ length (filter (λ e. p e.key) es) → end ≡ length (filter (λ e. q e.key) es)
     → (first : Item) (second : ℕ) (given : Option ℤ) (ended is_first : Bool) (next : Option ℕ) (run now : List Item)
     → (1 ≤ begin) ⊎ IsTrue is_first → 1 ≤ end → (last : ℤ)
     → ((x : Item) → IsLast x (items_below q (map item_of es)) → last ≡ x.version)
-    → run ≡ map item_of (drop begin (take end es)) → ended ≡ first_is_below r (first_key next (behind q (map item_of es)))
+    → run ≡ map item_of (drop begin (take end es)) → ended ≡ first_is_below r (first_key next (following q (map item_of es)))
     → now ≡ map item_of (take begin es)
     ++ (first ∷ ended_by ended (record { key = second; version = unwrap_or given last }) ++ map item_of (drop end es))
-    → GivesWhole p q r first second given ended run is_first next (map item_of es) now
-whole_run p q r nested es begin end first_bound second_bound within begins ends first second given ended is_first next run now entered
-    some last last_is run_is told now_is =
+    → GivesEntire p q r first second given ended run is_first next (map item_of es) now
+entire_run p q r nested es begin end first_bound second_bound within begins ends first second given ended is_first next run now entered
+    some last last_is run_is answered now_is =
     record {
       there = elim entered [ inl in_leaf ↦ inl (some_item p es begin in_leaf begins) | inr first ↦ inr first ];
       some = some_item q es end some ends;
       run_is = run_is ∙ sym (between_entries p q nested es begin end first_bound second_bound within begins ends);
-      ended_is = told;
+      ended_is = answered;
       written = λ x is_last. rw (
         ← last_is x is_last,
         (items_parted p es begin first_bound begins).0,

@@ -2,7 +2,7 @@
 use Rattle.std.proofs.Common.{◌≡◌, ℕ, zero, suc, ◌+◌, add-one, ◌<◌, ◌≤◌, List, [], ◌∷◌, ◌++◌, length, length-append, get_or, set, take, drop, map, option_map, unwrap_or, refl, sym, ap, ap₂, subst, ◌∙◌, arith, append_assoc, All, flat_map}
 use Rattle.std.proofs.lemmas.List.{map-append, take-append-drop, drop_more, set_split, take_more_set, drop-set-lt, length-set}
 use Rattle.std.proofs.lemmas.Option.{slice_get-get_or}
-use Rattle.tree.proofs.Words.{Arena, Entry, Node, item_of, Tells, entries_at, items_in, IsSubtree, child_at, items_of, slots_of, AreChildren, IsFamily, IsRebalanced}
+use Rattle.tree.proofs.Words.{Arena, Entry, Node, item_of, Describes, entries_at, items_in, IsSubtree, child_at, items_of, slots_of, AreChildren, IsFamily, IsRebalanced}
 use Rattle.tree.proofs.callers.Times.{times, times-append, once_if_distinct}
 use Rattle.tree.proofs.Frames.{IsRight, items_of_same, slots_of_same, children_same}
 use Rattle.tree.proofs.Changing.{Moves, moves_beside, moves_agree, changes_if_moves}
@@ -32,7 +32,7 @@ pub set_both : (es : List Entry) (i : ℕ) (t u : Entry) → i + 1 < length es
     → set (set es i t) (i + 1) u ≡ take i es ++ (t ∷ u ∷ [] ++ drop (i + 2) es)
 set_both es i t u within =
     let next : suc (i + 1) ≡ i + 2 = omega arith in
-    let whole = set_split (set es i t) (i + 1) u (omega (arith, length-set es i t)) in
+    let entire = set_split (set es i t) (i + 1) u (omega (arith, length-set es i t)) in
     let back = drop-set-lt (i + 2) es i t (omega arith) in
     cc (take_more_set es i t (omega arith), append_assoc (take i es) (t ∷ []) (u ∷ drop (i + 2) es))
 
@@ -105,17 +105,17 @@ module _ {N : ℕ} where
       }
 
   -- what an entry of this child tells
-  abbrev TellsOf : Arena (Node N) → Entry → ℕ → Type 0
-  TellsOf a e child = (height least : ℕ) → IsSubtree a least height child → Tells e (items_in a height child)
+  abbrev DescribesOf : Arena (Node N) → Entry → ℕ → Type 0
+  DescribesOf a e child = (height least : ℕ) → IsSubtree a least height child → Describes e (items_in a height child)
 
   -- an entry of a child that has enough entries
   pub record IsMade (a : Arena (Node N)) (enough : ℕ) (e : Entry) : Type 0 where
     pub filled : enough ≤ length (entries_at a e.child)
-    pub tells : TellsOf a e e.child
+    pub describes : DescribesOf a e e.child
 
-  pub made : (a : Arena (Node N)) (enough x : ℕ) (e : Entry) → e.child ≡ x → enough ≤ length (entries_at a x) → TellsOf a e x
+  pub made : (a : Arena (Node N)) (enough x : ℕ) (e : Entry) → e.child ≡ x → enough ≤ length (entries_at a x) → DescribesOf a e x
       → IsMade a enough e
-  made a enough x e child filled tells = record { filled = rw child filled; tells = subst (TellsOf a e) (sym child) tells }
+  made a enough x e child filled describes = record { filled = rw child filled; describes = subst (DescribesOf a e) (sym child) describes }
 
   -- The slots below some entries in the middle are a part of those below all, and so are their children's own.
   pub middle_part : (a : Arena (Node N)) (height from to : ℕ) (was middle : List Entry)
@@ -145,7 +145,7 @@ module _ {N : ℕ} where
     rebalanced b now new now_is right items moves =
         let few = λ (s : ℕ).
         subst (λ l. times s (slots_of a height l) ≤ 1) was_is (once_if_distinct (slots_of a height was) family.distinct s) in
-        let h = replaced a b least height (take from was) middle (drop to was) new few family.before family.behind moves right in
+        let h = replaced a b least height (take from was) middle (drop to was) new few family.before family.following moves right in
         let rest_are = items_of-append a height middle (drop to was) in
         record {
           children = rw now_is h.children;
@@ -167,5 +167,5 @@ module _ {N : ℕ} where
         rebalanced b now new now_is (λ i d inside. record {
           filled = (all_made i d inside).filled;
           subtree = r.subtrees i d inside;
-          tells = (all_made i d inside).tells height least (r.subtrees i d inside);
+          describes = (all_made i d inside).describes height least (r.subtrees i d inside);
         }) r.items r.moves

@@ -53,9 +53,9 @@ pub both_counted : (edge : ℤ) (before middle later : Unexpired) (xs ys : List 
 both_counted edge before middle later xs ys first second =
     let parts = ap length (unexpired-append edge before.last xs ys)
     ∙ length-append (unexpired edge before.last xs) (unexpired edge (last_version before.last xs) ys) in
-    let told = rw first.last at second.count in
+    let answered = rw first.last at second.count in
     record {
-      count = omega (arith, first.count, told, parts);
+      count = omega (arith, first.count, answered, parts);
       last = second.last ∙ ap (λ v. last_version v ys) first.last ∙ sym (last_version-append before.last xs ys);
     }
 

@@ -7,7 +7,7 @@ use Rattle.arena.specs.Arena.{Arena, IsLive, header_at, record_at, with_header}
 use Rattle.tree.specs.declared.entry.Entry.{Entry}
 use Rattle.tree.specs.declared.node.Node.{Node}
 use Rattle.tree.specs.Heads.{AllAreHeads, AreHeads, KeyBytes}
-use Rattle.tree.specs.Item.{Item, Tells}
+use Rattle.tree.specs.Item.{Item, Describes}
 use Rattle.tree.specs.Node.{all_heads_of, entries_of, key_heads_of}
 use Rattle.tree.specs.Rebalancing.{AreTwo, CanMerge, CanRebalance, LosesOneAtMost}
 use Rattle.tree.specs.Tree.{least_of}
@@ -129,13 +129,13 @@ module _ {N : ℕ} where
   -- The entry at the index is made right where it lies.
   pub entry_put : {bytes : KeyBytes} {a : Arena (Node N)} {height slot i x : ℕ} (d t : Entry) (node : Node N)
       → CanRebalance bytes a slot i → IsFamilyAt a (least_of N) height slot i (i + 1) → x ≡ (get_or (entries_at a slot) i d).child
-      → t.child ≡ x → (IsSubtree a (least_of N) height x → Tells t (items_in a height x))
+      → t.child ≡ x → (IsSubtree a (least_of N) height x → Describes t (items_in a height x))
       → least_of N ≤ length (entries_at a x) → entries_of node ≡ slice_set (entries_at a slot) i t
       → IsRebalancedAt a (with_header a slot node) (least_of N) height slot
-  entry_put {bytes} {a} {height} {slot} {i} {x} d t node can family x_is child tells filled now_is =
+  entry_put {bytes} {a} {height} {slot} {i} {x} d t node can family x_is child describes filled now_is =
       let es = entries_at a slot in
       rebalanced_at node can.live family (rebalanced_by_entry a (least_of N) height es (entries_of node) i x d t can.within x_is
-      family.family can.keyless child tells filled (now_is ∙ set_one es i t can.within))
+      family.family can.keyless child describes filled (now_is ∙ set_one es i t can.within))
       (omega (arith, ap length now_is, length-set es i t, can.within)) refl
 
   -- Two children of a node, whose entries were read, are merged, or share their entries, while its own record stays as it is.

@@ -5,7 +5,7 @@ use Rattle.std.specs.FinMap as map
 use Rattle.arena.specs.Arena.{Arena, IsLive, record_at, key_at, spare_of}
 use Rattle.tree.specs.declared.entry.Entry.{Entry}
 use Rattle.tree.specs.declared.node.Node.{Node}
-use Rattle.tree.specs.Item.{Item, Tells}
+use Rattle.tree.specs.Item.{Item, Describes}
 use Rattle.tree.specs.Subtree.{entries_at, items_in, slots_in, IsChild, IsSubtree}
 
 -- the child of the entry at an index
@@ -58,7 +58,7 @@ module _ {N : ℕ} where
     pub distinct : IsDistinct nat_eq (slots_of nodes height entries)
     pub below : All (λ e. IsSubtree nodes least height e.child) entries
     pub before : AreChildren nodes least height (take from entries)
-    pub behind : AreChildren nodes least height (drop to entries)
+    pub following : AreChildren nodes least height (drop to entries)
 
   -- the entries of a node, made right
   pub record IsRebalanced (old new : Arena (Node N)) (least height : ℕ) (was now : List Entry) : Type 0 where
@@ -67,14 +67,14 @@ module _ {N : ℕ} where
     pub changes : Changes old new (slots_of old height was) (slots_of new height now)
 
   -- Between these entries stand two others: for a child and for its right neighbour.
-  pub record IsLinked (nodes : Arena (Node N)) (child added : ℕ) (before behind now : List Entry) : Type 0 where
+  pub record IsLinked (nodes : Arena (Node N)) (child added : ℕ) (before following now : List Entry) : Type 0 where
     pub first : Entry
     pub second : Entry
-    pub entries : now ≡ before ++ (first ∷ second ∷ behind)
+    pub entries : now ≡ before ++ (first ∷ second ∷ following)
     pub first_child : first.child ≡ child
-    pub first_tells : (height least : ℕ) → IsSubtree nodes least height child → Tells first (items_in nodes height child)
+    pub first_describes : (height least : ℕ) → IsSubtree nodes least height child → Describes first (items_in nodes height child)
     pub second_child : second.child ≡ added
-    pub second_tells : (height least : ℕ) → IsSubtree nodes least height added → Tells second (items_in nodes height added)
+    pub second_describes : (height least : ℕ) → IsSubtree nodes least height added → Describes second (items_in nodes height added)
 
   -- the entries of the nodes at a slot and at that of the right neighbour that it was split from, if any
   abbrev pub entries_at_both : Arena (Node N) → ℕ → Option ℕ → List Entry
@@ -100,7 +100,7 @@ module _ {N : ℕ} where
     pub others : (s : ℕ) → s ≢ slot → record_at new s ≡ record_at old s
 
   -- The entry at an index would be right with this version, unless it has a greater one.
-  abbrev pub TellsWritten : Arena (Node N) → ℕ → ℕ → ℕ → ℤ → Type 0
-  TellsWritten nodes height slot index version =
+  abbrev pub DescribesWritten : Arena (Node N) → ℕ → ℕ → ℕ → ℤ → Type 0
+  DescribesWritten nodes height slot index version =
       (e : Entry) → slice_get (entries_at nodes slot) index ≡ Some e → e.version ≤ℤ version
-      → Tells (record e { version = version }) (items_in nodes height e.child)
+      → Describes (record e { version = version }) (items_in nodes height e.child)

@@ -4,7 +4,7 @@ use Rattle.tree.specs.declared.entry.Entry.{Entry}
 use Rattle.tree.specs.declared.expiring.Removal.{Removal}
 use Rattle.tree.specs.Heads.{AllAreHeads, KeyBytes}
 use Rattle.tree.specs.Item.{Item}
-use Rattle.tree.specs.Path.{IsPartitioned, items_below, behind, first_key}
+use Rattle.tree.specs.Path.{IsPartitioned, items_below, following, first_key}
 use Rattle.tree.specs.Tree.{Items, IsLast, tree_heads, unexpired, expired}
 
 -- A tree of which a run of items may be looked at, at most `count` of them. The run begins with the last one below the bound, and
@@ -29,7 +29,7 @@ pub record RemovesExpired (is_below : ℕ → Bool) (count : ℕ) (edge before :
   pub looked : List Item
   pub rest : List Item
   pub front_is : items_below is_below was ≡ front ++ first ∷ []
-  pub looked_is : first ∷ behind is_below was ≡ looked ++ rest
+  pub looked_is : first ∷ following is_below was ≡ looked ++ rest
   pub looked_at : length looked ≡ removal.looked_at
   pub some : 1 ≤ removal.looked_at
   pub few : removal.looked_at ≤ count

@@ -37,7 +37,7 @@ greater_of (Some a) None = Some a
 greater_of (Some a) (Some b) = Some (int_max a b)
 
 -- the first of these items has the entry's key, and its version is the greatest of theirs
-pub record Tells (e : Entry) (items : List Item) : Type 0 where
+pub record Describes (e : Entry) (items : List Item) : Type 0 where
   pub first : Item
   pub others : List Item
   pub items_are : items ≡ first ∷ others

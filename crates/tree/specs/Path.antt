@@ -15,8 +15,8 @@ IsPartitioned is_below xs = xs ≡ filter is_below xs ++ filter (λ x. not (is_b
 abbrev pub items_below : (ℕ → Bool) → List Item → List Item
 items_below is_below items = filter (λ x. is_below x.key) items
 
-abbrev pub behind : (ℕ → Bool) → List Item → List Item
-behind is_below items = filter (λ x. not (is_below x.key)) items
+abbrev pub following : (ℕ → Bool) → List Item → List Item
+following is_below items = filter (λ x. not (is_below x.key)) items
 
 -- the key of the first of them, or the one given if there is none
 abbrev pub first_key : Option ℕ → List Item → Option ℕ
@@ -62,9 +62,9 @@ module _ {N : ℕ} where
       ++ before_leaf nodes height (child_in is_below entries) is_below
 
   -- the items after the leaf's
-  abbrev pub behind_leaf : Arena (Node N) → ℕ → ℕ → (ℕ → Bool) → List Item
-  behind_leaf nodes zero slot is_below = []
-  behind_leaf nodes (suc height) slot is_below =
+  abbrev pub after_leaf : Arena (Node N) → ℕ → ℕ → (ℕ → Bool) → List Item
+  after_leaf nodes zero slot is_below = []
+  after_leaf nodes (suc height) slot is_below =
       let entries = entries_at nodes slot in
-      behind_leaf nodes height (child_in is_below entries) is_below
+      after_leaf nodes height (child_in is_below entries) is_below
       ++ flat_map (λ e. items_in nodes height e.child) (drop (index_in is_below entries + 1) entries)

@@ -7,7 +7,7 @@ use Rattle.tree.specs.declared.node.Node.{Node}
 use Rattle.tree.specs.Heads.{AllAreHeads, KeyBytes, IsCommonPrefixAt}
 use Rattle.tree.specs.Item.{item_of}
 use Rattle.tree.specs.Node.{all_heads_of}
-use Rattle.tree.specs.Path.{IsPartitioned, before_leaf, behind_leaf, first_key}
+use Rattle.tree.specs.Path.{IsPartitioned, before_leaf, after_leaf, first_key}
 use Rattle.tree.specs.Subtree.{entries_at, items_in, IsSubtree}
 
 module _ {N : ℕ} where
@@ -24,11 +24,11 @@ module _ {N : ℕ} where
     pub live : IsLive nodes reached.leaf
     pub items_are : items_in nodes height slot
         ≡ before_leaf nodes height slot is_below
-        ++ (map item_of (entries_at nodes reached.leaf) ++ behind_leaf nodes height slot is_below)
+        ++ (map item_of (entries_at nodes reached.leaf) ++ after_leaf nodes height slot is_below)
     pub before : All (λ x. is_below x.key ≡ true) (before_leaf nodes height slot is_below)
-    pub after : All (λ x. is_below x.key ≡ false) (behind_leaf nodes height slot is_below)
+    pub after : All (λ x. is_below x.key ≡ false) (after_leaf nodes height slot is_below)
     pub none : filter (λ e. is_below e.key) (entries_at nodes reached.leaf) ≡ [] → before_leaf nodes height slot is_below ≡ []
     pub partitioned : IsPartitioned (λ e. is_below e.key) (entries_at nodes reached.leaf)
     pub some : 1 ≤ length (entries_at nodes reached.leaf)
     pub knows : IsCommonPrefixAt bytes is_below target reached.common_prefix_len (entries_at nodes reached.leaf) 0
-    pub next : reached.behind ≡ first_key None (behind_leaf nodes height slot is_below)
+    pub next : reached.following ≡ first_key None (after_leaf nodes height slot is_below)

@@ -8,8 +8,8 @@ use Rattle.tree.specs.Finding.{CanFind, HasHead, IsLowerBound}
 use Rattle.tree.specs.Heads.{AllAreHeads, KeyBytes}
 use Rattle.tree.specs.Item.{Item}
 use Rattle.tree.specs.Node.{all_heads_of, entries_of, key_heads_of}
-use Rattle.tree.specs.Overwrite.{GivesWhole}
-use Rattle.tree.specs.Path.{IsPartitioned, items_below, behind}
+use Rattle.tree.specs.Overwrite.{GivesEntire}
+use Rattle.tree.specs.Path.{IsPartitioned, items_below, following}
 use Rattle.tree.specs.Rebalancing.{IsStored}
 use Rattle.tree.specs.Children.{IsKeyless}
 use Rattle.tree.specs.Subtree.{entries_at, items_in}
@@ -51,7 +51,7 @@ module _ {N : ℕ} where
       (leaf : Node N) (run : Run) : Type 0 where
     pub run_is : IsRun from_bytes to_bytes from to from_target to_target leaf run
     pub some_before : 0 < run.begin
-    pub some_behind : run.end < length (entries_of leaf)
+    pub some_after : run.end < length (entries_of leaf)
     pub fits : length (entries_of leaf) + 2 ≤ N
     pub filled : least_of N + (run.end - run.begin) ≤ length (entries_of leaf)
     pub ended : (e : Entry) → slice_get (entries_of leaf) run.end ≡ Some e → run.ended ≡ past e.key
@@ -76,8 +76,8 @@ module _ {N : ℕ} where
       (run : List Item) (old new : Arena (Node N)) (slot : ℕ) : Type 0 where
     pub given_none : given ≡ None
     pub some_before : items_below from (items_in old 0 slot) ≢ []
-    pub some_behind : behind to (items_in old 0 slot) ≢ []
-    pub gives : (is_first : Bool) (next : Option ℕ) → GivesWhole from to past first second given ended run is_first next
+    pub some_after : following to (items_in old 0 slot) ≢ []
+    pub gives : (is_first : Bool) (next : Option ℕ) → GivesEntire from to past first second given ended run is_first next
         (items_in old 0 slot) (items_in new 0 slot)
     pub filled : least_of N ≤ length (entries_at new slot)
     pub stored : IsStored bytes old new slot None

@@ -4,7 +4,7 @@ use Rattle.std.specs.List.{All, flat_map}
 use Rattle.arena.specs.Arena.{Arena, IsLive, header_at}
 use Rattle.tree.specs.declared.entry.Entry.{Entry}
 use Rattle.tree.specs.declared.node.Node.{Node}
-use Rattle.tree.specs.Item.{Item, item_of, Tells}
+use Rattle.tree.specs.Item.{Item, item_of, Describes}
 use Rattle.tree.specs.Node.{entries_of}
 
 module _ {N : ℕ} where
@@ -27,7 +27,7 @@ module _ {N : ℕ} where
   pub record IsChild (nodes : Arena (Node N)) (least height : ℕ) (IsBelow : ℕ → Type 0) (e : Entry) : Type 0 where
     pub filled : least ≤ length (entries_at nodes e.child)
     pub subtree : IsBelow e.child
-    pub tells : Tells e (items_in nodes height e.child)
+    pub describes : Describes e (items_in nodes height e.child)
 
   -- The nodes are live, and no node above a leaf is without a child.
   abbrev pub IsSubtree : Arena (Node N) → ℕ → ℕ → ℕ → Type 0

@@ -41,16 +41,16 @@ pub record IsChangedWithin (is_below : ℕ → Bool) (Gives : Bool → Option �
   pub before : List Item
   pub leaf : List Item
   pub changed : List Item
-  pub behind : List Item
-  pub was_is : was ≡ before ++ (leaf ++ behind)
-  pub now_is : now ≡ before ++ (changed ++ behind)
+  pub following : List Item
+  pub was_is : was ≡ before ++ (leaf ++ following)
+  pub now_is : now ≡ before ++ (changed ++ following)
   pub items_below : All (λ x. is_below x.key ≡ true) before
-  pub failing : All (λ x. is_below x.key ≡ false) behind
+  pub failing : All (λ x. is_below x.key ≡ false) following
   pub found : IsFoundAmong is_below before leaf
   -- whether no item stands before the leaf's
   pub first : Bool
   pub first_is : IsTrue first ↔ (IsTrue is_first × (before ≡ []))
-  pub gives : Gives first (first_key next behind) leaf changed
+  pub gives : Gives first (first_key next following) leaf changed
 
 module _ {N : ℕ} where
   -- A subtree that may be changed: it is right, and there are as many spare slots as a change takes.

@@ -21,7 +21,7 @@ use arena::{Arena, Slot};
 
 /// A leaf to which a way leads.
 #[derive(Clone, Copy, Debug)]
-pub struct Near {
+pub struct LeafHint {
     pub leaf: Slot,
     /// How many bytes the first key of the leaf and the target of the first bound begin with in
     /// common.
@@ -34,7 +34,7 @@ pub struct Near {
 #[derive(Clone, Copy, Debug, Default)]
 pub enum Approach {
     /// To a leaf, whose memory hasn't been read.
-    Leaf(Near),
+    Leaf(LeafHint),
     /// To a subtree which shows that no version is above the question's.
     Clear,
     /// Nowhere: the question goes down by both bounds.
@@ -64,7 +64,7 @@ fn descend<P: Bound, Q: Bound, const N: usize>(
         (Q.below question.now.to) (P.target question.now.from) question.now.version clear result }
 {
     if height == 0 {
-        return Approach::Leaf(Near {
+        return Approach::Leaf(LeafHint {
             leaf: slot,
             common_prefix_len,
             clear,

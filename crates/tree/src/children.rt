@@ -8,7 +8,7 @@ ghost use Rattle.tree.specs.Rebalancing.{IsPlaced, IsStored, LosesOneAtMost};
 ghost use Rattle.tree.specs.Subtree.{entries_at};
 ghost use Rattle.tree.specs.Tree.{least_of};
 ghost use Rattle.tree.specs.Children.{child_at, entries_at_both, HasRaisedEntry, IsFamilyAt};
-ghost use Rattle.tree.specs.Children.{IsKeyless, IsLinked, IsRebalancedAt, TellsWritten};
+ghost use Rattle.tree.specs.Children.{IsKeyless, IsLinked, IsRebalancedAt, DescribesWritten};
 
 use crate::bound::Bound;
 use crate::entry::Entry;
@@ -122,7 +122,7 @@ pub fn raise_entry<P: Bound, const N: usize>(
     requires can_raise { CanRaise (P.bytes bound.now) nodes.old slot index }
     ensures rebalanced { (height : ℕ)
         → IsFamilyAt nodes.old (least_of N) height slot index (index + 1)
-        → TellsWritten nodes.old height slot index leaf.version
+        → DescribesWritten nodes.old height slot index leaf.version
         → IsRebalancedAt nodes.old nodes.new (least_of N) height slot }
     ensures rest { LosesOneAtMost (P.bytes bound.now) nodes.old nodes.new
         (entries_at nodes.old slot) (entries_at nodes.new slot) }

@@ -17,12 +17,12 @@ pub struct Entry {
     pub version: i64,
 }
 
-/// Returns the key of the entry at an index, or `behind` if there is none.
-pub fn key_at(entries: &[Entry], index: usize, behind: Option<Slot>) -> Option<Slot>
-    ensures key { result ≡ first_key behind (map item_of (drop index entries.now)) }
+/// Returns the key of the entry at an index, or `following` if there is none.
+pub fn key_at(entries: &[Entry], index: usize, following: Option<Slot>) -> Option<Slot>
+    ensures key { result ≡ first_key following (map item_of (drop index entries.now)) }
 {
     match entries.get(index) {
         Some(entry) => Some(entry.key),
-        None => behind,
+        None => following,
     }
 }

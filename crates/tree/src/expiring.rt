@@ -77,7 +77,7 @@ impl<'a, P: Bound, const N: usize> LeafChange<N> for Expiring<'a, P> {
         let begin = below - 1;
         let end = begin + self.count.min(leaf.len() - begin);
         let Expiring { edge, before, .. } = *self;
-        self.removal = look_at(leaf.entries(), begin, end, place.behind);
+        self.removal = look_at(leaf.entries(), begin, end, place.following);
         if !has_expired(&leaf.entries()[begin..end], edge, before) {
             return Outcome::Same;
         }
@@ -87,22 +87,22 @@ impl<'a, P: Bound, const N: usize> LeafChange<N> for Expiring<'a, P> {
         Outcome::Changed
     }
 
-    ghost part = { λ t before items behind wanted. wanted };
+    ghost part = { λ t before items following wanted. wanted };
 }
 
 // Looks at the entries of a leaf from one index up to another, and returns the result of a removal.
-// `behind` is the key of the item after the leaf.
-fn look_at(entries: &[Entry], from: usize, to: usize, behind: Option<Slot>) -> Removal
+// `following` is the key of the item after the leaf.
+fn look_at(entries: &[Entry], from: usize, to: usize, following: Option<Slot>) -> Removal
     requires some { from < to }
     requires within { to ≤ length entries.now }
     ensures looked_at { result.looked_at ≡ to - from }
     ensures last { IsLast result.last (map version_of (take (to - from) (drop from entries.now))) }
-    ensures next { result.next ≡ first_key behind (map item_of (drop to entries.now)) }
+    ensures next { result.next ≡ first_key following (map item_of (drop to entries.now)) }
 {
     Removal {
         looked_at: to - from,
         last: entries[to - 1].version,
-        next: key_at(entries, to, behind),
+        next: key_at(entries, to, following),
     }
 }
 

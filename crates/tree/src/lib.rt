@@ -15,6 +15,7 @@ mod expiring;
 mod greatest_version;
 mod node;
 mod overwrite;
+mod path_cache;
 mod question;
 mod questions;
 mod rebalance;
@@ -24,7 +25,6 @@ mod run;
 mod tree;
 mod unexpired;
 mod walk;
-mod way;
 
 pub use bound::Bound;
 pub use entry::Entry;

@@ -128,7 +128,7 @@ impl<const N: usize> Node<N> {
     {
         let end = self.len;
         // The slots after the last entry are moved too, so that the loops have full turns.
-        let moved = whole_turns(end - from, N - from.max(to));
+        let moved = multiple_of_four(end - from, N - from.max(to));
         move_within(&mut self.entries, from, from + moved, to);
         move_within(&mut self.heads, from, from + moved, to);
         self.len = to + (end - from);
@@ -237,7 +237,7 @@ impl<const N: usize> Node<N> {
 }
 
 // Returns the least multiple of four that isn't below the count, but no more than `most`.
-fn whole_turns(count: usize, most: usize) -> usize
+fn multiple_of_four(count: usize, most: usize) -> usize
     requires within { count ≤ most }
     ensures least { count ≤ result }
     ensures most { result ≤ most }

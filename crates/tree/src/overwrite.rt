@@ -22,7 +22,7 @@ pub enum Written {
     Partly { last: i64 },
     /// The run is written over. `ended` tells whether an item had the key of the second new one,
     /// which was not put in.
-    Whole { ended: bool },
+    Entirely { ended: bool },
 }
 
 impl Written {
@@ -32,8 +32,8 @@ impl Written {
     {
         match self {
             Written::Partly { .. } => 0,
-            Written::Whole { ended: true } => 1,
-            Written::Whole { ended: false } => 2,
+            Written::Entirely { ended: true } => 1,
+            Written::Entirely { ended: false } => 2,
         }
     }
 }
@@ -127,9 +127,9 @@ impl<'a, 'b, P: Bound, Q: Bound, R: Bound, const N: usize> LeafChange<N>
         let ended = if end < leaf.len() {
             leaf.is_below_at(end, new.past, to_head)
         } else {
-            place.behind.is_some_and(|key| new.past.is_below(key))
+            place.following.is_some_and(|key| new.past.is_below(key))
         };
-        self.written = Written::Whole { ended };
+        self.written = Written::Entirely { ended };
         let run = Run {
             begin,
             end,

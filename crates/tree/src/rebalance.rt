@@ -2,7 +2,7 @@
 
 ghost use Rattle.std.specs.Prelude.{◌≡◌, ◌≤◌, ◌<◌, ◌+◌, ◌++◌, ◌∷◌, ℕ, [], length};
 ghost use Rattle.arena.specs.Arena.{IsLive};
-ghost use Rattle.tree.specs.Item.{Tells};
+ghost use Rattle.tree.specs.Item.{Describes};
 ghost use Rattle.tree.specs.Heads.{AllAreHeads, IsKnown, KeyBytes};
 ghost use Rattle.tree.specs.Rebalancing.{AreTwo, CanMerge, LosesOneAtMost};
 ghost use Rattle.tree.specs.Node.{all_heads_of};
@@ -29,8 +29,8 @@ pub fn entry_for<const N: usize>(nodes: &Arena<Node<N>>, child: Slot) -> Entry
     requires live { IsLive nodes.now child }
     requires some { 0 < length (entries_at nodes.now child) }
     ensures child { result.child ≡ child }
-    ensures tells { (height least : ℕ) → IsSubtree nodes.now least height child
-        → Tells result (items_in nodes.now height child) }
+    ensures describes { (height least : ℕ) → IsSubtree nodes.now least height child
+        → Describes result (items_in nodes.now height child) }
     ensures known { (bytes : KeyBytes) → AllAreHeads bytes (all_heads_of nodes.now)
         → IsKnown bytes result.key }
 {

@@ -7,7 +7,7 @@ ghost use Rattle.tree.specs.Overwrite.{GivesWritten, IsPartOfPartitioned};
 ghost use Rattle.tree.specs.Rebalancing.{CanGrow, CanShrink};
 ghost use Rattle.tree.specs.Node.{all_heads_of};
 ghost use Rattle.tree.specs.Subtree.{items_in};
-ghost use Rattle.tree.specs.Path.{items_below, behind, first_key};
+ghost use Rattle.tree.specs.Path.{items_below, following, first_key};
 ghost use Rattle.tree.specs.Reached.{CanReach, IsReached};
 ghost use Rattle.tree.specs.Children.{items_with};
 ghost use Rattle.tree.specs.Tree.{least_of, IsLast};
@@ -19,10 +19,10 @@ use crate::descent::{Reached, common_prefix_len_at, find};
 use crate::entry::{Entry, key_at};
 use crate::node::Node;
 use crate::overwrite::{Overwrite, Overwriting, Written};
+use crate::path_cache::PathCache;
 use crate::rebalance::entry_for;
 use crate::remembered::write_in_leaf;
 use crate::walk::{LeafChange, Outcome, Place, RaisedLeaf, change_leaf};
-use crate::way::Way;
 use arena::{Arena, Slot};
 use arrayvec::ArrayVec;
 
@@ -65,7 +65,7 @@ pub fn last_and_next<P: Bound, const N: usize>(
         (λ e. IsLast (item_of e) (items_below (P.below bound.now)
         (items_in nodes.now root.height root.slot))) }
     ensures next { result.1 ≡ first_key None
-        (behind (P.below bound.now) (items_in nodes.now root.height root.slot)) }
+        (following (P.below bound.now) (items_in nodes.now root.height root.slot)) }
 {
     let reached = reach(nodes, root, bound);
     let leaf = nodes.header_ref(reached.leaf);
@@ -73,7 +73,7 @@ pub fn last_and_next<P: Bound, const N: usize>(
     let entries = leaf.entries();
     (
         entries[..count].last().copied(),
-        key_at(entries, count, reached.behind),
+        key_at(entries, count, reached.following),
     )
 }
 
@@ -85,7 +85,7 @@ pub fn change<C: LeafChange<N>, const N: usize>(
     root: &mut Root,
     change: &mut C,
     taken: &mut ArrayVec<Entry, N>,
-    way: &mut Way,
+    path_cache: &mut PathCache,
 ) -> Option<RaisedLeaf>
     requires can_change { CanChangeBy (C.LeafBound.bytes (C.bound_of change.old))
         (C.LeafBound.below (C.bound_of change.old))
@@ -100,10 +100,18 @@ pub fn change<C: LeafChange<N>, const N: usize>(
 {
     let place = Place {
         common_prefix_len: common_prefix_len_at(nodes, root.slot, change.leaf_bound()),
-        behind: None,
+        following: None,
         is_first: true,
     };
-    match change_leaf(nodes, root.slot, root.height, change, place, taken, way) {
+    match change_leaf(
+        nodes,
+        root.slot,
+        root.height,
+        change,
+        place,
+        taken,
+        path_cache,
+    ) {
         Outcome::Same => None,
         Outcome::Raised(leaf) => Some(leaf),
         Outcome::Changed => {
@@ -125,7 +133,7 @@ pub fn overwrite<P: Bound, Q: Bound, R: Bound, const N: usize>(
     raised: &mut Option<RaisedLeaf>,
     new: &Overwrite<'_, P, Q, R>,
     taken: &mut ArrayVec<Entry, N>,
-    way: &mut Way,
+    path_cache: &mut PathCache,
 ) -> Written
     requires can_change { CanChangeBy (Q.bytes new.now.to.now) (Q.below new.now.to.now)
         (IsPartOfPartitioned (P.below new.now.from.now))
@@ -142,14 +150,14 @@ pub fn overwrite<P: Bound, Q: Bound, R: Bound, const N: usize>(
 {
     if let Some(leaf) = *raised {
         if let Some(ended) = write_in_leaf(nodes, leaf, new, taken) {
-            return Written::Whole { ended };
+            return Written::Entirely { ended };
         }
     }
     let mut overwriting = Overwriting {
         new,
         written: Written::Partly { last: 0 },
     };
-    *raised = change(nodes, root, &mut overwriting, taken, way);
+    *raised = change(nodes, root, &mut overwriting, taken, path_cache);
     overwriting.written
 }
 

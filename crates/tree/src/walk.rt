@@ -11,7 +11,7 @@ use crate::bound::Bound;
 use crate::children::{insert_child, raise_entry, rebalance_child};
 use crate::entry::{Entry, key_at};
 use crate::node::Node;
-use crate::way::Way;
+use crate::path_cache::PathCache;
 use arena::{Arena, Slot};
 use arrayvec::ArrayVec;
 
@@ -22,7 +22,7 @@ pub struct Place {
     /// below the bound.
     pub common_prefix_len: Option<usize>,
     /// The key of the first item after it.
-    pub behind: Option<Slot>,
+    pub following: Option<Slot>,
     /// Whether no item stands before it.
     pub is_first: bool,
 }
@@ -102,13 +102,13 @@ pub trait LeafChange<const N: usize> {
         ensures changed { IsChanged (Self.LeafBound.bytes (bound_of self.old)) nodes.old nodes.new 0
             slot result }
         ensures items { gives self.old self.new (map item_of taken.new.items) place.is_first
-            place.behind (items_in nodes.old 0 slot)
+            place.following (items_in nodes.old 0 slot)
             (items_with nodes.new 0 slot (added_by result)) }
         ensures leaf_bound { bound_of self.new ≡ bound_of self.old };
 
     // What is wanted of items is wanted of a part of them.
-    ghost part: { (change : Self) (before items behind : List Item)
-        → wants change (before ++ (items ++ behind))
+    ghost part: { (change : Self) (before items following : List Item)
+        → wants change (before ++ (items ++ following))
         → wants change items };
 }
 
@@ -122,7 +122,7 @@ pub fn change_leaf<C: LeafChange<N>, const N: usize>(
     change: &mut C,
     place: Place,
     taken: &mut ArrayVec<Entry, N>,
-    way: &mut Way,
+    path_cache: &mut PathCache,
 ) -> Outcome
     requires can_change { CanChangeLeaf (C.LeafBound.bytes (C.bound_of change.old))
         (C.LeafBound.below (C.bound_of change.old))
@@ -132,7 +132,7 @@ pub fn change_leaf<C: LeafChange<N>, const N: usize>(
         height slot result }
     ensures items { IsChangedWithin (C.LeafBound.below (C.bound_of change.old))
         (C.gives change.old change.new (map item_of taken.new.items))
-        place.is_first place.behind (items_in nodes.old height slot)
+        place.is_first place.following (items_in nodes.old height slot)
         (items_with nodes.new height slot (added_by result)) }
     ensures leaf_bound { C.bound_of change.new ≡ C.bound_of change.old }
 {
@@ -140,18 +140,18 @@ pub fn change_leaf<C: LeafChange<N>, const N: usize>(
         return change.change(nodes, slot, place, taken);
     }
     let node = nodes.header_ref(slot);
-    let step = way.step(node, height, change.leaf_bound(), place.common_prefix_len);
+    let step = path_cache.step(node, height, change.leaf_bound(), place.common_prefix_len);
     let entries = node.entries();
     let child = entries[step.index].child;
     if height == 1 && change.goes_along() {
-        way.read_ahead(nodes, entries.get(step.index + 1));
+        path_cache.read_ahead(nodes, entries.get(step.index + 1));
     }
     let below = Place {
         common_prefix_len: step.common_prefix_len,
-        behind: key_at(entries, step.index + 1, place.behind),
+        following: key_at(entries, step.index + 1, place.following),
         is_first: place.is_first && step.index == 0,
     };
-    match change_leaf(nodes, child, height - 1, change, below, taken, way) {
+    match change_leaf(nodes, child, height - 1, change, below, taken, path_cache) {
         Outcome::Same => Outcome::Same,
         Outcome::Raised(leaf) => raise_entry(nodes, slot, step.index, leaf, change.leaf_bound()),
         Outcome::Changed => {

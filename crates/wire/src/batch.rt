@@ -4,10 +4,10 @@ ghost use Rattle.std.specs.Prelude.{◌≡◌, ◌≢◌, ◌+◌, ◌≤◌, �
 ghost use Rattle.std.specs.Prelude.{IfOk, IfErr, OnOk, Some, None};
 ghost use Rattle.byteorder.specs.Endian.{big_number};
 ghost use Rattle.wire.specs.Fields.{batch_fields};
-ghost use Rattle.wire.specs.Lying.{IsRestOf, AreApart, index_of, batch_told};
+ghost use Rattle.wire.specs.Lying.{IsRestOf, AreApart, index_of, batch_of_tables};
 ghost use Rattle.wire.specs.Spelling.{BatchHolds, SpellsBatch};
 ghost use Rattle.wire.specs.Reading.{Gives, body_at, batch_kind_at, header_at, fields_at, batch_at};
-ghost use Rattle.wire.specs.Reading.{read_batch, batch_fault, version_told};
+ghost use Rattle.wire.specs.Reading.{read_batch, batch_fault, version_at_front};
 ghost use Rattle.wire.specs.declared.field.TheConstants.{MAX_BODY_LENGTH};
 
 use crate::error::WireError;
@@ -66,7 +66,7 @@ fn fields_of<'a>(
 ) -> Result<(Tables, &'a [u8]), WireError>
     requires short { length frame.now ≤ 4 + MAX_BODY_LENGTH }
     requires rest { IsRestOf frame.now bytes.now }
-    ensures reads { Gives (λ x. (batch_told frame.now x.0, x.1.now)) result
+    ensures reads { Gives (λ x. (batch_of_tables frame.now x.0, x.1.now)) result
         (fields_at version bytes.now) }
     ensures apart { IfOk result (λ x. AreApart 0 x.0.spans.items (index_of frame.now x.1.now)) }
 {
@@ -92,7 +92,7 @@ fn body_of_batch<'a>(
 ) -> Result<((WireVersion, Tables), &'a [u8]), WireError>
     requires short { length frame.now ≤ 4 + MAX_BODY_LENGTH }
     requires rest { IsRestOf frame.now bytes.now }
-    ensures reads { Gives (λ x. ((x.0.0, batch_told frame.now x.0.1), x.1.now)) result
+    ensures reads { Gives (λ x. ((x.0.0, batch_of_tables frame.now x.0.1), x.1.now)) result
         (batch_at bytes.now) }
     ensures apart { IfOk result (λ x. AreApart 0 x.0.1.spans.items (index_of frame.now x.1.now)) }
 {
@@ -117,11 +117,11 @@ fn frame_of(bytes: &[u8]) -> Result<(&[u8], &[u8]), WireError>
 /// key is copied.
 #[tactic(auto, unfolding(crate::specs::Reading::read_batch))]
 pub fn tables_of(alloc: Global, bytes: &[u8]) -> Result<(WireVersion, Tables, &[u8]), WireError>
-    ensures reads { Gives (λ x. (x.0, batch_told x.2.now x.1)) result (read_batch bytes.now) }
+    ensures reads { Gives (λ x. (x.0, batch_of_tables x.2.now x.1)) result (read_batch bytes.now) }
     ensures frame { IfOk result (λ x. x.2.now ≡ take (4 + big_number 4 bytes.now) bytes.now) }
     ensures length { IfOk result (λ x. length x.2.now ≡ 4 + big_number 4 bytes.now) }
     ensures apart { IfOk result (λ x. AreApart 0 x.1.spans.items (length x.2.now)) }
-    ensures holds { IfOk result (λ x. BatchHolds (batch_told x.2.now x.1)) }
+    ensures holds { IfOk result (λ x. BatchHolds (batch_of_tables x.2.now x.1)) }
 {
     let (frame, body) = frame_of(bytes)?;
     let ((version, tables), rest) = body_of_batch(alloc, frame, body)?;
@@ -135,8 +135,9 @@ pub fn tables_of(alloc: Global, bytes: &[u8]) -> Result<(WireVersion, Tables, &[
 /// single key is given its end.
 pub fn unordered_of(frame: Vec<u8>, tables: Tables) -> Result<UnorderedBatch, AllocError>
     requires apart { AreApart 0 tables.spans.items (vec_len frame) }
-    requires holds { BatchHolds (batch_told frame.items tables) }
-    ensures fields { IfOk result (λ batch. batch_fields batch ≡ batch_told frame.items tables) }
+    requires holds { BatchHolds (batch_of_tables frame.items tables) }
+    ensures fields { IfOk result (λ batch. batch_fields batch
+        ≡ batch_of_tables frame.items tables) }
 {
     let mut buffer = frame;
     seal(&mut buffer, &tables.spans)?;
@@ -151,8 +152,9 @@ pub fn unordered_of(frame: Vec<u8>, tables: Tables) -> Result<UnorderedBatch, Al
 /// Makes the batch of the tables, as [`unordered_of`] does, and orders its ranges.
 pub fn batch_of(alloc: Global, frame: Vec<u8>, tables: Tables) -> Result<Batch, AllocError>
     requires apart { AreApart 0 tables.spans.items (vec_len frame) }
-    requires holds { BatchHolds (batch_told frame.items tables) }
-    ensures fields { IfOk result (λ batch. batch_fields batch ≡ batch_told frame.items tables) }
+    requires holds { BatchHolds (batch_of_tables frame.items tables) }
+    ensures fields { IfOk result (λ batch. batch_fields batch
+        ≡ batch_of_tables frame.items tables) }
 {
     let batch = unordered_of(frame, tables)?;
     batch.order(alloc)
@@ -164,7 +166,7 @@ pub fn batch_of(alloc: Global, frame: Vec<u8>, tables: Tables) -> Result<Batch, 
 pub fn decode_batch(alloc: Global, bytes: &[u8]) -> Result<(Batch, usize), WireError>
     ensures within { IfOk result (λ found. found.1 ≤ length bytes.now) }
     ensures spelled { IfOk result (λ found.
-        SpellsBatch (version_told bytes.now) (take found.1 bytes.now) found.0) }
+        SpellsBatch (version_at_front bytes.now) (take found.1 bytes.now) found.0) }
     ensures ok { OnOk result (batch_fault bytes.now ≡ None) }
     ensures fault { IfErr result (λ e. e ≢ WireError.Memory → batch_fault bytes.now ≡ Some e) }
     ensures never_read { IfErr result (λ e. e ≢ WireError.Read) }

@@ -3,8 +3,8 @@
 ghost use Rattle.std.specs.Prelude.{◌≡◌, ◌↔◌, ℤ, IfOk, IfSome, OnErr, OnOk, Option, false, is_some};
 ghost use Rattle.std.specs.Prelude.{option_map};
 ghost use Rattle.clap.specs.Words.{found_of, rows_of};
-ghost use Rattle.replay_arguments.specs.Words.{AreVersions, AsksForAll, HasFilter, HoldsFilter};
-ghost use Rattle.replay_arguments.specs.Words.{HoldsForm, IsEnd, IsVersions, verdict_name};
+ghost use Rattle.replay_arguments.specs.Arguments.{AreVersions, AsksForAll, HasFilter, HoldsFilter};
+ghost use Rattle.replay_arguments.specs.Arguments.{HoldsForm, IsEnd, IsVersions, verdict_name};
 ghost use Rattle.keyspace.specs.declared.reply.Verdict.{Verdict as VerdictValue};
 
 use crate::arguments::mistake::Mistake;

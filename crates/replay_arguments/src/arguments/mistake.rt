@@ -1,7 +1,7 @@
 //! Mistakes in arguments that `clap` has taken.
 
 ghost use Rattle.std.specs.Prelude.{IfOk};
-ghost use Rattle.replay_arguments.specs.Words.{IsRefusalOf};
+ghost use Rattle.replay_arguments.specs.Arguments.{IsRefusalOf};
 
 use crate::arguments::command::command;
 use crate::arguments::refusal::Refusal;

@@ -4,7 +4,7 @@ ghost use Rattle.std.specs.Prelude.{◌≡◌, ◌≢◌, ◌↔◌, ◌⊎◌, 
 ghost use Rattle.std.specs.Io.KnownBytes.{Appends};
 ghost use Rattle.clap.specs.Words.{kind_of};
 ghost use Rattle.replay_output.specs.Start.{start_line};
-ghost use Rattle.replay_arguments.specs.Words.{IsRefusalOf};
+ghost use Rattle.replay_arguments.specs.Arguments.{IsRefusalOf};
 ghost use Rattle.replay_output.specs.declared.start.StartError.TheVariants as start;
 
 use clap::error::ErrorKind;
@@ -63,12 +63,12 @@ impl Refusal {
             → E.given error.new ≡ E.given error.old }
         ensures refused { (text : _) → self.now ≡ Refusal.Refused text
             → (result ≡ Status.Usage) × (O.given out.new ≡ O.given out.old) }
-        ensures told { (text : _) → self.now ≡ Refusal.Refused text
+        ensures reported { (text : _) → self.now ≡ Refusal.Refused text
             → (E.failures error.old < E.failures error.new)
             ⊎ Appends (E.given error.old) (E.given error.new) (string_bytes text) }
         ensures memory { self.now ≡ Refusal.Memory
             → (result ≡ Status.Failed) × (O.given out.new ≡ O.given out.old) }
-        ensures memory_told { self.now ≡ Refusal.Memory
+        ensures memory_reported { self.now ≡ Refusal.Memory
             → (E.failures error.old < E.failures error.new)
             ⊎ Appends (E.given error.old) (E.given error.new) (start_line start.Memory) }
     {

@@ -67,7 +67,7 @@ pub fn replay_and_summarize_over<
     ensures ends { result.status ≢ Status.Usage }
     ensures same { result.status ≢ Status.Differs }
 {
-    serial::laws::answers_tell_verdicts();
+    serial::laws::answers_report_verdicts();
     let mut reached = Reached::new(Unobserved);
     let run = run_observed(rt, alloc, readers, options, gatekeeper, &mut reached);
     let (outcome, account) = match run {

@@ -24,12 +24,7 @@ const MOST_FRAMES: usize = MAX_HELD + 1;
 ///
 /// It reads a file up to the first batch that follows version -1. If all batches of a run were
 /// held, the files have at most [`MAX_HELD`], so it reads no more of each.
-pub fn say_if_held<F: Files, E: Sink>(
-    alloc: Global,
-    files: &F,
-    line: &CommandLine,
-    error: &mut E,
-)
+pub fn say_if_held<F: Files, E: Sink>(alloc: Global, files: &F, line: &CommandLine, error: &mut E)
     ensures said { SaysHeld (F.contents files.now) (texts line.now.files.items)
         (written (E.given error.old) (E.given error.new) (E.failures error.old)
         (E.failures error.new)) }
@@ -71,7 +66,7 @@ fn unbegun_file<F: Files>(alloc: Global, files: &F, name: &str) -> Option<Batche
     if !files.is_regular(name) {
         return None;
     }
-    match files.open(name, Extent::Beginning) {
+    match files.open(name, Extent::FirstBatches) {
         Ok(reader) => {
             let mut reader = reader;
             examine_unbegun(alloc, &mut reader, MOST_FRAMES)

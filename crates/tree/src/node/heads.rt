@@ -40,7 +40,7 @@ impl<const N: usize> Node<N> {
         ensures entries { entries_of self.new ≡ entries_of self.old }
         ensures headed { AreHeads (P.bytes bound.now) (key_heads_of self.new) }
     {
-        self.prefix_len = self.beginning(bound);
+        self.prefix_len = self.prefix(bound);
         for index in 0..self.len {
             self.heads[index] = bound.head_of(self.entries[index].key, self.prefix_len());
         }
@@ -48,10 +48,10 @@ impl<const N: usize> Node<N> {
 
     // Returns the length of the common prefix of all keys except an empty one, but no more than
     // fits. If the first key is empty it is one byte less, or 0.
-    fn beginning<P: Bound>(&self, bound: &P) -> u16
+    fn prefix<P: Bound>(&self, bound: &P) -> u16
         requires known { All (IsKnown (P.bytes bound.now)) (keys_of (entries_of self.now)) }
-        ensures begin { (beginning : List ℕ) × (length beginning ≡ result)
-            × All (Begins (P.bytes bound.now) beginning) (keys_of (entries_of self.now)) }
+        ensures begin { (prefix : List ℕ) × (length prefix ≡ result)
+            × All (Begins (P.bytes bound.now) prefix) (keys_of (entries_of self.now)) }
     {
         let entries = self.entries();
         let (Some(first), Some(last)) = (entries.first(), entries.last()) else {

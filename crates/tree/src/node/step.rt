@@ -90,7 +90,7 @@ impl<const N: usize> Node<N> {
         let Some(own) = head else {
             return self.step_by(bound, common_prefix_len, None);
         };
-        if !self.falls_behind(guess, own) {
+        if !self.falls_after(guess, own) {
             return self.step_by(bound, common_prefix_len, Some(own));
         }
         let known = self.common_prefix_len_in(guess, bound, common_prefix_len, Some(own));
@@ -102,9 +102,9 @@ impl<const N: usize> Node<N> {
 
     // Returns whether a head is above that of the entry at an index, and below the next one, if
     // there is one.
-    fn falls_behind(&self, index: usize, head: u32) -> bool
+    fn falls_after(&self, index: usize, head: u32) -> bool
         ensures within { IsTrue result → index < length (entries_of self.now) }
-        ensures behind { IsTrue result → get_or (key_heads_of self.now).heads index 0 < head }
+        ensures following { IsTrue result → get_or (key_heads_of self.now).heads index 0 < head }
         ensures before { IsTrue result → index + 1 < length (entries_of self.now)
             → head < get_or (key_heads_of self.now).heads (index + 1) 0 }
     {

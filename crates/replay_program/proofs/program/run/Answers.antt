@@ -73,7 +73,7 @@ returns-in-Err g c =
     let ends_by_status = ends_by state regular files words report out error c.end.result c.in-Err.refusal
     (λ text is. c.read_words.ensures.shown text (c.in-Err.is ∙ ap Err is))
     (λ text is. c.read_words.ensures.refused text (c.in-Err.is ∙ ap Err is))
-    end.shown end.not_shown end.quiet end.refused end.told end.memory end.memory_told in
+    end.shown end.not_shown end.quiet end.refused end.reported end.memory end.memory_reported in
     let ends = subst (λ (s : Status). Ends state regular files words report out error s) (sym c.unstarted.ensures.status) ends_by_status in
     record {
       done = ends.done;

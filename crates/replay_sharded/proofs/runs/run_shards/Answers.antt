@@ -70,14 +70,14 @@ returns-clause-runs g c =
     let options = keeping c.args.options in
     let given = map given_to c.loop-clips.started.items in
     let none : into_iter_items c.loop-clips.clips-iterator ≡ [] = first_of (search rules, grind (arith, common_steps)) in
-    let whole =
+    let entire =
     sym (append-nil given)
     ∙ ap (λ (l : List (Vec (Clips g.row.S.Denot) Global)). given ++ map (given_by options) l) (sym none)
     ∙ c.loop-clips.invariant.given in
     IfOk-weaker c.join_all.result _ _
     (λ runs works points files of.
     runs_of remaining options files c.args.each.items runs.items (shards points)
-    (subst (λ (l : List (Options × List (Clips g.row.S.Denot))). AllZip (IsDone remaining options) l runs.items) whole works) of)
+    (subst (λ (l : List (Options × List (Clips g.row.S.Denot))). AllZip (IsDone remaining options) l runs.items) entire works) of)
     c.join_all.ensures.runs
 
 pub returns-clause-proxies : goal.returns-clause-proxies
@@ -86,12 +86,12 @@ returns-clause-proxies g c =
     let options = keeping c.args.options in
     let given = map given_to c.loop-clips.started.items in
     let none : into_iter_items c.loop-clips.clips-iterator ≡ [] = first_of (search rules, grind (arith, common_steps)) in
-    let whole =
+    let entire =
     sym (append-nil given)
     ∙ ap (λ (l : List (Vec (Clips g.row.S.Denot) Global)). given ++ map (given_by options) l) (sym none)
     ∙ c.loop-clips.invariant.given in
     IfOk-weaker c.join_all.result _ _
     (λ runs works.
     proxies_each remaining options refl c.args.each.items runs.items
-    (subst (λ (l : List (Options × List (Clips g.row.S.Denot))). AllZip (IsDone remaining options) l runs.items) whole works))
+    (subst (λ (l : List (Options × List (Clips g.row.S.Denot))). AllZip (IsDone remaining options) l runs.items) entire works))
     c.join_all.ensures.runs

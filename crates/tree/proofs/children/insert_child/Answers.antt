@@ -20,9 +20,9 @@ returns g c =
             ∙ ap (λ l. take i l ++ (t ∷ u ∷ drop (i + 1) l))
             (sym (entries_from_header a slot c.header_mut.result.now c.header_mut.ensures.header));
         first_child = c.entry_for.ensures.child ∙ x_is;
-        first_tells = rw x_is at c.entry_for.ensures.tells;
+        first_describes = rw x_is at c.entry_for.ensures.describes;
         second_child = c.entry_for-2.ensures.child;
-        second_tells = c.entry_for-2.ensures.tells;
+        second_describes = c.entry_for-2.ensures.describes;
       };
       stored = put_stored a slot now can.live can.keyless can.headed c.splice_with_heads.ensures.headed;
     }

@@ -44,7 +44,7 @@ returns-then-len-least g c =
     let entry = c.entry_for-entry in
     record {
       rebalanced = λ height family. entry_put c.index-entries-index.result entry.result node can family x_is
-          entry.ensures.child (entry.ensures.tells height L) filled (rw (← here) at set.entries);
+          entry.ensures.child (entry.ensures.describes height L) filled (rw (← here) at set.entries);
       rest = record {
         few_less = omega (arith, ap length now_is, ap length here, length-set {A = Entry});
         spare = search rules;

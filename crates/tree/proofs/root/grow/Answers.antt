@@ -37,7 +37,7 @@ returns g c =
     let node : entries_of c.compute_heads.new.self ≡ es =
     c.compute_heads.ensures.entries ∙ (rw c.of-node.ensures.entries at c.splice.ensures.entries) in
     let right = both_right a (least_of g.row.N) h c.args.root.slot c.args.added first.result second.result first.ensures.child
-    second.ensures.child can.first can.second can.filled first.ensures.tells second.ensures.tells in
+    second.ensures.child can.first can.second can.filled first.ensures.describes second.ensures.describes in
     let slots : slots_of a h es ≡ slots_in a h c.args.root.slot ++ slots_in a h c.args.added =
     simp (first.ensures.child, second.ensures.child, append-nil) in
     let moves = moves_if_changes _ _ [] (c.place.result ∷ []) c.place.ensures.placed.changes in

@@ -24,8 +24,8 @@ loop-read-preserved c = λ t txns at same before.
 pub returns : goal.returns
 returns c = record {
   added = λ t txns at same before.
-      let whole : take c.loop-read.read t.reads ≡ t.reads =
+      let entire : take c.loop-read.read t.reads ≡ t.reads =
       take_all c.loop-read.read t.reads (let len = ap (λ (rs : List Range). length rs) same in omega arith) in
       subst (λ (rs : List Range). AreTalliesWith txns (flat_map (conflict_of c.args.history.now.kept c.args.batch.now c.args.txn t) rs) c.loop-read.self)
-      whole (c.loop-read.invariant t txns at same before);
+      entire (c.loop-read.invariant t txns at same before);
 }

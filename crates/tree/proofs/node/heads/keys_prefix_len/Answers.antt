@@ -38,8 +38,8 @@ returns g c =
     let keys = keys_of c.args.entries.now in
     let count = c.loop-entry.count in
     let size = length-map c.args.entries.now (λ (x : Entry). x.key) in
-    let whole = take_all c.loop-entry.entry-index keys (omega (arith, size, c.loop-entry-test.false)) in
-    let common = rw whole at c.loop-entry.invariant.common in
+    let entire = take_all c.loop-entry.entry-index keys (omega (arith, size, c.loop-entry-test.false)) in
+    let common = rw entire at c.loop-entry.invariant.common in
     record {
       begin = λ text is. begin_of_first bytes c.args.key count keys c.requires.there c.requires.known common text is
           (c.requires.filled text is);
