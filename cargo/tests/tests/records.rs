@@ -2,7 +2,7 @@
 
 use keyspace::{Answer, Verdict};
 use rattle_std::alloc::Global;
-use replay_output::{AnswerError, Filter, Form, Line, Style, print_line, write_record};
+use replay_output::{AnswerError, LineFilter, Form, Line, Style, print_line, write_record};
 use tests::cases::{count, run};
 use tests::drawn::any_batch;
 use tests::plain::{PlainEntry, PlainReply};
@@ -140,15 +140,15 @@ fn pieces_of(style: Style, proxy: usize, answer: &Answer) -> Vec<Vec<u8>> {
 }
 
 /// A filter whose ends are at a version or beside it, or left out.
-fn any_filter(random: &mut Random, version: i64) -> Filter {
+fn any_filter(random: &mut Random, version: i64) -> LineFilter {
     let mut end = || (random.below(3) > 0).then(|| version.saturating_add(i64::try_from(random.index(3)).unwrap_or(0) - 1));
     let (least, below) = (end().unwrap_or(i64::MIN), end());
     let only = [None, Some(Verdict::Committed), Some(Verdict::Conflict), Some(Verdict::TooOld)][random.index(4)];
-    Filter { quiet: random.below(8) == 0, only, least, below }
+    LineFilter { quiet: random.below(8) == 0, only, least, below }
 }
 
 /// What `docs/REPLAY.md` says of the options.
-fn is_shown(filter: &Filter, answer: &Answer) -> bool {
+fn is_shown(filter: &LineFilter, answer: &Answer) -> bool {
     let (version, verdicts) = match answer {
         Answer::Reply(reply) => (reply.version, reply.entries.as_slice().iter().map(|entry| entry.verdict).collect()),
         Answer::Never(version) | Answer::Held(version) => (*version, vec![]),

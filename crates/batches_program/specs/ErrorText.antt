@@ -1,10 +1,10 @@
 -- What is told on standard error.
 use Rattle.std.specs.Prelude.{◌≡◌, ◌⊎◌, ℕ, ◌<◌, List, [], ◌∷◌, ◌++◌, Option}
 use Rattle.std.specs.Io.KnownBytes.{Appends}
-use Rattle.batches_program.specs.declared.progress.Progress.{Progress}
+use Rattle.batches_program.specs.declared.progress.FileProgress.{FileProgress}
 
 -- the length of the file whose progress is told
-abbrev pub progress_length : Progress → Option ℕ
+abbrev pub progress_length : FileProgress → Option ℕ
 progress_length progress = progress.length
 
 -- the sink, between these bytes and these failures of it, was given some text, or it failed

@@ -2,7 +2,7 @@ pub mod Turned
 pub mod Lines
 pub mod Failing
 pub mod ErrorText
-pub mod Task
+pub mod JobTask
 pub mod Opening
 pub mod Clipping
 pub mod Points

@@ -1,15 +1,15 @@
 //! A task done over any reader.
 
 ghost use Rattle.std.specs.Prelude.{◌≡◌, OnOk, None};
-ghost use Rattle.batches_program.specs.Task.{IsDone};
+ghost use Rattle.batches_program.specs.JobTask.{IsDone};
 ghost use Rattle.batches_program.specs.ErrorText.{ReportsText, progress_length};
 
 use crate::decoder::decode;
 use crate::encoder::encode;
 use crate::failure::Failure;
 use crate::kind::Kind;
-use crate::progress::Progress;
-use crate::task::Task;
+use crate::progress::FileProgress;
+use crate::task::JobTask;
 use crate::viewer::show;
 use std::alloc::Global;
 use std::io::BufRead;
@@ -18,12 +18,12 @@ use wire::{Sink, StdSource};
 /// Does the task with what the reader gives, and flushes the output, after a failure too.
 pub fn convert<R: BufRead, O: Sink, E: Sink>(
     alloc: Global,
-    task: Task,
+    task: JobTask,
     kind: Kind,
     reader: &mut R,
     out: &mut O,
     error: &mut E,
-    progress: &mut Progress,
+    progress: &mut FileProgress,
 ) -> Result<(), Failure>
     ensures done { OnOk result
         (IsDone task kind (R.remaining reader.old) (O.given out.old) (O.given out.new)) }
@@ -41,12 +41,12 @@ pub fn convert<R: BufRead, O: Sink, E: Sink>(
 
 fn do_task<R: BufRead, O: Sink, E: Sink>(
     alloc: Global,
-    task: Task,
+    task: JobTask,
     kind: Kind,
     reader: &mut R,
     out: &mut O,
     error: &mut E,
-    progress: &mut Progress,
+    progress: &mut FileProgress,
 ) -> Result<(), Failure>
     ensures done { OnOk result
         (IsDone task kind (R.remaining reader.old) (O.given out.old) (O.given out.new)) }
@@ -57,8 +57,8 @@ fn do_task<R: BufRead, O: Sink, E: Sink>(
     ensures quiet { progress_length progress.old ≡ None → error.new ≡ error.old }
 {
     match task {
-        Task::Encode => encode(alloc, kind, reader, out, error, progress),
-        Task::Decode => decode(
+        JobTask::Encode => encode(alloc, kind, reader, out, error, progress),
+        JobTask::Decode => decode(
             alloc,
             kind,
             &mut StdSource::new(reader),
@@ -66,7 +66,7 @@ fn do_task<R: BufRead, O: Sink, E: Sink>(
             error,
             progress,
         ),
-        Task::Show { full } => show(
+        JobTask::Show { full } => show(
             alloc,
             kind,
             full,

@@ -10,11 +10,11 @@ ghost use Rattle.batches_program.specs.declared.failure.Failure.TheVariants.{Rea
 ghost use Rattle.batches_program.specs.declared.kind.Kind.TheVariants.{Batches, Replies};
 
 use crate::failure::Failure;
-use crate::form::Form;
+use crate::form::OutputForm;
 use crate::frame::{batch_in, reply_in};
 use crate::kind::Kind;
 use crate::printer::print_frames;
-use crate::progress::Progress;
+use crate::progress::FileProgress;
 use json_lines::{write_batch, write_reply};
 use std::alloc::Global;
 use wire::{Sink, Source};
@@ -27,7 +27,7 @@ pub fn decode<R: Source, W: Sink, E: Sink>(
     reader: &mut R,
     writer: &mut W,
     error: &mut E,
-    progress: &mut Progress,
+    progress: &mut FileProgress,
 ) -> Result<(), Failure>
     ensures turned { OnOk result (TurnsAll (BecomesLine kind) (R.remaining reader.old)
         (W.given writer.old) (W.given writer.new)) }
@@ -41,7 +41,15 @@ pub fn decode<R: Source, W: Sink, E: Sink>(
         (E.failures error.new) }
     ensures quiet { progress_length progress.old ≡ None → error.new ≡ error.old }
 {
-    print_frames(alloc, kind, Form::Line, reader, writer, error, progress)
+    print_frames(
+        alloc,
+        kind,
+        OutputForm::Line,
+        reader,
+        writer,
+        error,
+        progress,
+    )
 }
 
 /// Returns the line of what a frame says, with its line feed.

@@ -14,7 +14,7 @@ ghost use Rattle.batches_program.specs.declared.kind.Kind.TheVariants.{Batches, 
 
 use crate::failure::Failure;
 use crate::kind::Kind;
-use crate::progress::Progress;
+use crate::progress::FileProgress;
 use json_lines::{Scratch, read_batch, read_reply};
 use std::alloc::Global;
 use std::io::BufRead;
@@ -29,7 +29,7 @@ pub fn encode<R: BufRead, W: Sink, E: Sink>(
     reader: &mut R,
     writer: &mut W,
     error: &mut E,
-    progress: &mut Progress,
+    progress: &mut FileProgress,
 ) -> Result<(), Failure>
     ensures turned { OnOk result (TurnsAll (BecomesFrame kind) (R.remaining reader.old)
         (W.given writer.old) (W.given writer.new)) }

@@ -12,19 +12,19 @@ pub const LONG_FILE: u64 = 64 << 20;
 /// Tells the progress through a file in hundredths, on a line that is written over. Tells nothing
 /// if the length isn't known, or nobody watches.
 #[derive(Debug, Drop)]
-pub struct Progress {
+pub struct FileProgress {
     alloc: Global,
     length: Option<u64>,
     done: u64,
     reported: u64,
 }
 
-impl Progress {
+impl FileProgress {
     /// Creates the progress through a file of this length, if it must be reported.
     pub fn new(alloc: Global, length: Option<u64>) -> Self
         ensures length { progress_length result ≡ length }
     {
-        Progress {
+        FileProgress {
             alloc,
             length,
             done: 0,

@@ -10,11 +10,11 @@ ghost use Rattle.batches_program.specs.declared.failure.Failure.TheVariants.{Rea
 ghost use Rattle.batches_program.specs.declared.kind.Kind.TheVariants.{Batches, Replies};
 
 use crate::failure::Failure;
-use crate::form::Form;
+use crate::form::OutputForm;
 use crate::frame::{batch_in, reply_in};
 use crate::kind::Kind;
 use crate::printer::print_frames;
-use crate::progress::Progress;
+use crate::progress::FileProgress;
 use crate::table::{batch_table, reply_table};
 use std::alloc::Global;
 use wire::{Sink, Source};
@@ -29,7 +29,7 @@ pub fn show<R: Source, W: Sink, E: Sink>(
     reader: &mut R,
     writer: &mut W,
     error: &mut E,
-    progress: &mut Progress,
+    progress: &mut FileProgress,
 ) -> Result<(), Failure>
     ensures turned { OnOk result (TurnsAll (IsShown kind) (R.remaining reader.old)
         (W.given writer.old) (W.given writer.new)) }
@@ -46,7 +46,7 @@ pub fn show<R: Source, W: Sink, E: Sink>(
     print_frames(
         alloc,
         kind,
-        Form::Table { full },
+        OutputForm::Table { full },
         reader,
         writer,
         error,

@@ -12,7 +12,7 @@ use Rattle.keyspace.specs.Judge.{is_hit, is_too_old}
 use Rattle.stepmap.specs.StepMap.{Steps}
 use Rattle.stepmap.specs.Covers.{MapCovers}
 use Rattle.stepmap.specs.Laws.{DeterminesHits}
-use Rattle.conflict.specs.declared.asking.Part.{Part}
+use Rattle.conflict.specs.declared.asking.AnswerCounts.{AnswerCounts}
 use Rattle.conflict.specs.Asking.{asked_at, is_settled, first_asked, then_asked, all_first, all_then, all_parts, AreAnswers, AreHits}
 use Rattle.conflict.proofs.InBatch.{late_unless_old}
 use Rattle.conflict.proofs.Hits.{exceeds_is_hit}
@@ -58,28 +58,28 @@ module _ (oldest : ℤ) (ts : List Txn) (i : ℕ) (t : Txn) (inside : i < length
       (all_then oldest (drop (i + 1) ts) (drop (length (first_asked oldest t)) hits))
       ∙ ap (λ us. done ++ all_then oldest us hits) (sym (txns_left ts i t inside is_next))
 
-  pub parts_more : (done : List Part) (hits : List Bool) (part : Part)
+  pub parts_more : (done : List AnswerCounts) (hits : List Bool) (part : AnswerCounts)
       → part.first ≡ length (first_asked oldest t)
       → part.others ≡ length (then_asked oldest t (take (length (first_asked oldest t)) hits))
       → (done ++ part ∷ []) ++ all_parts oldest (drop (i + 1) ts) (drop (length (first_asked oldest t)) hits)
       ≡ done ++ all_parts oldest (drop i ts) hits
   parts_more done hits part first others =
       let rest = all_parts oldest (drop (i + 1) ts) (drop (length (first_asked oldest t)) hits) in
-      let Made : ℕ → ℕ → Part = λ m n. record { first = m; others = n } in
+      let Made : ℕ → ℕ → AnswerCounts = λ m n. record { first = m; others = n } in
       let is : part ≡ Made (length (first_asked oldest t)) (length (then_asked oldest t (take (length (first_asked oldest t)) hits))) =
       ap (λ m. Made m part.others) first ∙ ap (Made (length (first_asked oldest t))) others in
       append_assoc done (part ∷ []) rest ∙ ap (λ p. done ++ p ∷ rest) is
       ∙ ap (λ us. done ++ all_parts oldest us hits) (sym (txns_left ts i t inside is_next))
 
   -- the part of the next transaction comes before those after it
-  module _ (parts : List Part) (hits : List Bool) (left : drop i parts ≡ all_parts oldest (drop i ts) hits) where
-    abbrev own_part : Part
+  module _ (parts : List AnswerCounts) (hits : List Bool) (left : drop i parts ≡ all_parts oldest (drop i ts) hits) where
+    abbrev own_part : AnswerCounts
     own_part = record {
       first = length (first_asked oldest t);
       others = length (then_asked oldest t (take (length (first_asked oldest t)) hits));
     }
 
-    abbrev later_parts : List Part
+    abbrev later_parts : List AnswerCounts
     later_parts = all_parts oldest (drop (i + 1) ts) (drop (length (first_asked oldest t)) hits)
 
     parts_left : drop i parts ≡ own_part ∷ later_parts
@@ -88,10 +88,10 @@ module _ (oldest : ℤ) (ts : List Txn) (i : ℕ) (t : Txn) (inside : i < length
     pub part_within : i < length parts
     part_within = omega (arith, length-drop i parts, ap length parts_left)
 
-    next_parts : (part : Part) → get_or parts i part ∷ drop (i + 1) parts ≡ own_part ∷ later_parts
+    next_parts : (part : AnswerCounts) → get_or parts i part ∷ drop (i + 1) parts ≡ own_part ∷ later_parts
     next_parts part = sym (drop_more parts i part part_within) ∙ parts_left
 
-    pub part_at : (part : Part) → get_or parts i part
+    pub part_at : (part : AnswerCounts) → get_or parts i part
         ≡ record {
           first = length (first_asked oldest t);
           others = length (then_asked oldest t (take (length (first_asked oldest t)) hits));

@@ -15,7 +15,7 @@ use Rattle.keys.proofs.callers.SomeElement.{Any-longer, Any-push_cases}
 use Rattle.stepmap.specs.Writing.{AreApart}
 use Rattle.stepmap.specs.Counting.{filled_count}
 use Rattle.stepmap.specs.Uniting.{IsEndIn, Unites}
-use Rattle.conflict.specs.declared.union.Span.{Span}
+use Rattle.conflict.specs.declared.union.UnitedSpan.{UnitedSpan}
 use Rattle.conflict.specs.Union.{AreSpanned, AreUnited, Spans}
 use Rattle.conflict.proofs.Parts.{all_split}
 use Rattle.conflict.proofs.Spanned.{LastSpanned, last_spanned, spanned_push}
@@ -192,7 +192,7 @@ united_none ranges = record {
 -- the spans after the range at the index was added
 module _ (ranges : List Range) (index : ℕ) (range : Range) (at : slice_get ranges index ≡ Some range)
     (some : ¬ IsEmpty range) (added : List Range) where
-  abbrev alone : Span
+  abbrev alone : UnitedSpan
   alone = record { begin = index; end = index }
 
   spans_alone : Spans ranges alone range
@@ -218,7 +218,7 @@ module _ (ranges : List Range) (index : ℕ) (range : Range) (at : slice_get ran
       no_ranges [] s = refl
       no_ranges (u ∷ us) s = absurd s
 
-  module _ (front : List Span) (last : Span) (ending : Range) (ends_at : slice_get ranges last.end ≡ Some ending)
+  module _ (front : List UnitedSpan) (last : UnitedSpan) (ending : Range) (ends_at : slice_get ranges last.end ≡ Some ending)
       (were : AreUnited ranges (front ++ last ∷ []) added) where
     spanned : LastSpanned ranges front last were.united
     spanned = last_spanned ranges front last were.united were.spanned
@@ -266,7 +266,7 @@ module _ (ranges : List Range) (index : ℕ) (range : Range) (at : slice_get ran
           subst (λ key. IsAtMost key range.begin) there.4.1
           (All-contains (λ e. IsAtMost e.begin range.begin) added there.1 earlier (there.0, there.2, there.3))
 
-      widened : (wider : Range) (span : Span) → Widens spanned.range range wider → Spans ranges span wider
+      widened : (wider : Range) (span : UnitedSpan) → Widens spanned.range range wider → Spans ranges span wider
           → AreUnited ranges (front ++ span ∷ []) (added ++ range ∷ [])
       widened wider span w spans = record {
         united = spanned.ranges_front ++ wider ∷ [];

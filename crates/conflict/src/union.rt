@@ -17,7 +17,7 @@ use std::marker::Model;
 
 /// A united range, from the begin of the one range to the end of the other.
 #[derive(Clone, Copy, Debug)]
-pub struct Span {
+pub struct UnitedSpan {
     /// The index of the range that it begins with.
     pub begin: usize,
     /// The index of the range that it ends with.
@@ -28,14 +28,14 @@ pub struct Span {
 /// for the next batch.
 #[derive(Debug, Drop)]
 pub struct Union {
-    spans: Vec<Span>,
+    spans: Vec<UnitedSpan>,
 }
 
 impl Model for Union {
     ghost use Rattle.std.specs.Prelude.{List};
-    ghost use Rattle.conflict.specs.declared.union.Span.{Span};
+    ghost use Rattle.conflict.specs.declared.union.UnitedSpan.{UnitedSpan};
 
-    ghost Value = { List Span };
+    ghost Value = { List UnitedSpan };
 
     ghost view = { λ u. u.spans.items };
 }
@@ -111,7 +111,7 @@ impl Union {
                 }
             }
         }
-        self.spans.push(Span {
+        self.spans.push(UnitedSpan {
             begin: index,
             end: index,
         })?;
@@ -119,7 +119,7 @@ impl Union {
     }
 
     /// Returns the spans, in the order of the ranges.
-    pub fn spans(&self) -> &[Span]
+    pub fn spans(&self) -> &[UnitedSpan]
         ensures spans { result.now ≡ self.now }
     {
         &self.spans

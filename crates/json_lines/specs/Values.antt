@@ -8,10 +8,10 @@ use Rattle.json.specs.Json.{Json, null, boolean, number, string, array, object, 
 use Rattle.json.specs.Find.{get, as_number, as_array}
 use lib.Signed.{mag}
 use Rattle.json_lines.specs.declared.cause.Cause.TheVariants.{Memory}
-use Rattle.json_lines.specs.declared.refusal.Refusal.{Refusal}
+use Rattle.json_lines.specs.declared.refusal.LineRefusal.{LineRefusal}
 
 -- What was read is what the definition gives, seen by view; or it gives nothing, unless memory was refused.
-abbrev pub Reads : {X Y : Type 0} → (X → Y) → Result X Refusal → Option Y → Type 0
+abbrev pub Reads : {X Y : Type 0} → (X → Y) → Result X LineRefusal → Option Y → Type 0
 Reads view (Ok x) reported = reported ≡ Some (view x)
 Reads view (Err e) reported = e.cause ≢ Memory → reported ≡ None
 

@@ -6,7 +6,7 @@ use Rattle.std.proofs.Common.{refl, sym, ap, ◌∙◌, subst, arith, get_or}
 use Rattle.std.proofs.lemmas.Bool.{false≢true}
 use Rattle.std.proofs.lemmas.Str.Parse.{digit_at}
 use Rattle.std.proofs.lemmas.Str.Pattern.{IsSplitOnceResult, split_after, split_parts}
-use Rattle.replay_output.specs.Filter.{least_version}
+use Rattle.replay_output.specs.LineFilter.{least_version}
 use Rattle.replay_arguments.specs.Arguments.{IsEnd, IsVersions}
 
 -- no text is found where none was read

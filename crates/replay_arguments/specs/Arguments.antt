@@ -12,9 +12,9 @@ use Rattle.conflict.specs.declared.conflict_set.TheConstants.{MAX_WINDOW}
 use Rattle.stepmap.specs.declared.step_map.TheConstants.{MAX_LIMIT}
 use Rattle.resolver.specs.declared.resolver_core.TheConstants.{MAX_PROXIES}
 use Rattle.keyspace.specs.declared.reply.Verdict.{Verdict}
-use Rattle.replay_output.specs.Filter.{least_version}
+use Rattle.replay_output.specs.LineFilter.{least_version}
 use Rattle.replay_output.specs.Lines.{verdict_word}
-use Rattle.replay_output.specs.declared.options.filtering.Filter.{Filter}
+use Rattle.replay_output.specs.declared.options.filtering.LineFilter.{LineFilter}
 use Rattle.replay_output.specs.declared.options.form.Form.{Form}
 use Rattle.replay_output.specs.declared.options.form.Form.TheVariants.{Words, Frames, Json, Kept}
 use Rattle.replay_output.specs.declared.options.Options.{Options}
@@ -28,8 +28,8 @@ use Rattle.replay_arguments.specs.declared.arguments.details.TheConstants.{MAX_T
 use Rattle.replay_arguments.specs.declared.arguments.sharding.Sharding.{Sharding}
 use Rattle.replay_arguments.specs.declared.arguments.sharding.TheConstants.{MAX_RESOLVERS}
 use Rattle.replay_arguments.specs.declared.arguments.summary_file.SummaryFile.{SummaryFile}
-use Rattle.replay_arguments.specs.declared.arguments.refusal.Refusal.{Refusal}
-use Rattle.replay_arguments.specs.declared.arguments.refusal.Refusal.TheVariants.{Memory, Refused, Shown}
+use Rattle.replay_arguments.specs.declared.arguments.refusal.ArgumentsRefusal.{ArgumentsRefusal}
+use Rattle.replay_arguments.specs.declared.arguments.refusal.ArgumentsRefusal.TheVariants.{Memory, Refused, Shown}
 
 abbrev pub is_frames : Form → Bool
 is_frames Frames = true
@@ -90,7 +90,7 @@ AreVersions None least below = (least ≡ least_version) × (below ≡ None)
 AreVersions (Some text) least below = IsVersions text least below
 
 -- the filter that is found
-pub record HoldsFilter (rows : List Row) (filter : Filter) : Type 0 where
+pub record HoldsFilter (rows : List Row) (filter : LineFilter) : Type 0 where
   pub quiet : one_of (codes "quiet") rows ≡ Some (bool_text filter.quiet)
   pub only : first_of (codes "only") rows ≡ option_map verdict_name filter.only
   pub versions : AreVersions (first_of (codes "versions") rows) filter.least filter.below
@@ -124,13 +124,13 @@ abbrev pub IsMistake : ErrorKind → Type 0
 IsMistake kind = (kind ≢ DisplayHelp) × (kind ≢ DisplayVersion) × (kind ≢ OutOfMemory)
 
 -- the refusal is that of an error of this kind; no other refusal is
-abbrev pub IsRefusalOf : ErrorKind → Refusal → Type 0
+abbrev pub IsRefusalOf : ErrorKind → ArgumentsRefusal → Type 0
 IsRefusalOf kind (Shown text) = IsRequest kind
 IsRefusalOf kind (Refused text) = IsMistake kind
 IsRefusalOf kind Memory = kind ≡ OutOfMemory
 
 -- the refusal is that of words of which `clap` finds these faults; memory may be refused at any words
-abbrev pub IsRefusalBy : Kinds → Refusal → Type 0
+abbrev pub IsRefusalBy : Kinds → ArgumentsRefusal → Type 0
 IsRefusalBy kinds (Shown text) = (kind : ErrorKind) × IsAmong kind kinds × IsRequest kind
 IsRefusalBy kinds (Refused text) = (kind : ErrorKind) × IsAmong kind kinds × IsMistake kind
 IsRefusalBy kinds Memory = ⊤
@@ -173,7 +173,7 @@ pub record AsksForAll (rows : List Row) : Type 0 where
 
 -- a filter is found, and if answers are to be compared, no option selects lines
 abbrev pub HasFilter : List Row → Type 0
-HasFilter rows = ((filter : Filter) × HoldsFilter rows filter)
+HasFilter rows = ((filter : LineFilter) × HoldsFilter rows filter)
     × (is_some (all_of (codes "check") rows) ≡ true → AsksForAll rows)
 
 -- from 1 to `MAX_PROXIES` files are found

@@ -3,7 +3,7 @@
 ghost use Rattle.std.specs.Prelude.{IfSome};
 ghost use Rattle.replay_diagnosis.specs.Content.{ContainsBatches};
 
-use crate::batches::{Batches, CHAIN_START};
+use crate::batches::{CHAIN_START, FileBatches};
 use crate::examining::next_batch;
 use crate::position::Position;
 use std::alloc::Global;
@@ -20,11 +20,11 @@ const SOMEWHERE: Position = Position {
 ///
 /// Returns `None` as soon as it reads a batch that follows version -1 or anything other than a
 /// frame of a batch, if an allocation fails, and if the file has `most` frames or more.
-pub fn examine_unbegun<R: Source>(alloc: Global, reader: &mut R, most: usize) -> Option<Batches>
+pub fn examine_unbegun<R: Source>(alloc: Global, reader: &mut R, most: usize) -> Option<FileBatches>
     ensures batches { IfSome result (ContainsBatches (R.remaining reader.old)) }
 {
     let mut frame = Vec::new(alloc);
-    let mut batches = Batches::none();
+    let mut batches = FileBatches::none();
     for _ in 0..most {
         let Ok(next) = next_batch(alloc, SOMEWHERE, reader, &mut frame) else {
             return None;

@@ -5,8 +5,8 @@ use Rattle.std.specs.List.{All}
 use Rattle.std.specs.Io.KnownBytes.{Keeps}
 use Rattle.std.proofs.Common.{refl, sym, ◌∙◌, subst, inl, inr}
 use Rattle.replay_arguments.specs.declared.arguments.CommandLine.{CommandLine}
-use Rattle.replay_arguments.specs.declared.arguments.refusal.Refusal.{Refusal}
-use Rattle.replay_arguments.specs.declared.arguments.refusal.Refusal.TheVariants as refusal
+use Rattle.replay_arguments.specs.declared.arguments.refusal.ArgumentsRefusal.{ArgumentsRefusal}
+use Rattle.replay_arguments.specs.declared.arguments.refusal.ArgumentsRefusal.TheVariants as refusal
 use Rattle.replay_arguments.specs.declared.arguments.summary_file.SummaryFile.{SummaryFile}
 use Rattle.replay_arguments.specs.declared.arguments.task.Task.{Task}
 use Rattle.replay_arguments.specs.declared.arguments.task.Task.TheVariants as task
@@ -222,7 +222,7 @@ module _ {W : Type 0} (state_of : W → SinkState) (regular : RegularFiles) (fil
   }
 
   -- from what was refused, by the clauses of its end
-  pub ends_by : (r : Refusal)
+  pub ends_by : (r : ArgumentsRefusal)
       → ((text : _) → r ≡ refusal.Shown text → AsksForText words)
       → ((text : _) → r ≡ refusal.Refused text → IsMistaken words)
       → ((text : _) → r ≡ refusal.Shown text → status ≡ Done → Took out (string_bytes text))

@@ -17,7 +17,7 @@ use ranges::text_of_top;
 use replay_hot_ranges::HotRanges;
 use replay_output::{Ending, Options, ProxyFailure, Report, Status, fail_to_start};
 use replay_summary::SummaryForm;
-use replay_workers::{Gatekeeper, Outcome, ShareKeeper, run_observed};
+use replay_workers::{Gatekeeper, RunOutcome, ShareKeeper, run_observed};
 use resolver::MAX_PROXIES;
 use std::alloc::Global;
 use std::sync::{Arc, Wait};
@@ -139,7 +139,7 @@ fn summarize_alone<
         Ok(ended) => ended,
         Err(cause) => return Ended::unstarted(fail_to_start(error, cause)),
     };
-    let Outcome {
+    let RunOutcome {
         mut lines,
         mut failures,
         all_sent,
@@ -212,7 +212,7 @@ fn summarize_with_top<
         Ok(ended) => ended,
         Err(cause) => return Ended::unstarted(fail_to_start(error, cause)),
     };
-    let Outcome {
+    let RunOutcome {
         mut lines,
         mut failures,
         all_sent,

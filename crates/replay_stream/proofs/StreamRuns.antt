@@ -21,7 +21,7 @@ use Rattle.replay_output.specs.declared.options.reports.Reports.{Reports}
 use Rattle.replay_output.specs.Streamed.{Printed, printed_for, stream_text}
 use Rattle.replay_stream.specs.declared.outlet.Outlet.{Outlet}
 use Rattle.replay_stream.specs.declared.proxies.Proxy.{Proxy}
-use Rattle.replay_stream.specs.declared.proxies.Task.{Task}
+use Rattle.replay_stream.specs.declared.proxies.ProxyTask.{ProxyTask}
 use Rattle.replay_stream.specs.declared.recorder.Recorder.{Recorder}
 use Rattle.replay_stream.specs.declared.streamed.Streamed.{Streamed}
 use Rattle.replay_stream.specs.Outlet.{AreNumbered, HasPassedAll, HavePassedAll, OutletContinues, StreamContinues, TookText, is_complete}
@@ -52,16 +52,16 @@ use Rattle.replay_workers.proofs.callers.Lists.{all_at, found, mapped_at, both}
 use Rattle.replay_stream.proofs.Places.{all_of, from_map, given_at, given_one, given_number, has_recorder, is_recorded, length_given, length_recorded, recorded_at, zip_at, zip_of}
 use Rattle.replay_stream.proofs.Streams.{ends_of, recorded_of, streamed_for}
 
-module _ {S W G : Type 0} (reports : Reports) (readers : List S) (outs : List (Option W)) (clients : List Client) (tasks : List (Task S W G))
+module _ {S W G : Type 0} (reports : Reports) (readers : List S) (outs : List (Option W)) (clients : List Client) (tasks : List (ProxyTask S W G))
     (same : length readers ≡ length clients) (as_many : length outs ≡ length clients)
-    (given : map (λ (t : Task S W G). given_with t.outlet (threads_by t)) tasks ≡ given_proxies reports 0 clients readers outs)
+    (given : map (λ (t : ProxyTask S W G). given_with t.outlet (threads_by t)) tasks ≡ given_proxies reports 0 clients readers outs)
   where
     pub tasks_count : length tasks ≡ length clients
-    tasks_count = sym (length-map tasks (λ (t : Task S W G). given_with t.outlet (threads_by t))) ∙ ap length given
+    tasks_count = sym (length-map tasks (λ (t : ProxyTask S W G). given_with t.outlet (threads_by t))) ∙ ap length given
         ∙ length_given reports 0 clients readers outs same as_many
 
     -- what one proxy was given
-    pub record Place (proxy : ℕ) (task : Task S W G) : Type 0 where
+    pub record Place (proxy : ℕ) (task : ProxyTask S W G) : Type 0 where
       pub client : Client
       pub at_client : slice_get clients proxy ≡ Some client
       pub reader : S
@@ -70,13 +70,13 @@ module _ {S W G : Type 0} (reports : Reports) (readers : List S) (outs : List (O
       pub at_out : slice_get outs proxy ≡ Some out
       pub was_given : given_with task.outlet (threads_by task) ≡ record { proxy = proxy; client = client; reader = reader; reports = reports; out = out }
 
-    given_here : (proxy : ℕ) (task : Task S W G) → slice_get tasks proxy ≡ Some task
+    given_here : (proxy : ℕ) (task : ProxyTask S W G) → slice_get tasks proxy ≡ Some task
         → slice_get (given_proxies reports 0 clients readers outs) proxy ≡ Some (given_with task.outlet (threads_by task))
     given_here proxy task at =
         ap (λ l. slice_get l proxy) (sym given)
-        ∙ mapped_at (λ (t : Task S W G). given_with t.outlet (threads_by t)) tasks proxy task at
+        ∙ mapped_at (λ (t : ProxyTask S W G). given_with t.outlet (threads_by t)) tasks proxy task at
 
-    pub place_of : (proxy : ℕ) (task : Task S W G) → slice_get tasks proxy ≡ Some task → Place proxy task
+    pub place_of : (proxy : ℕ) (task : ProxyTask S W G) → slice_get tasks proxy ≡ Some task → Place proxy task
     place_of proxy task at =
         let c = found tasks clients proxy task (sym tasks_count) at in
         let r = found clients readers proxy c.0 same c.1 in
@@ -94,25 +94,25 @@ module _ {S W G : Type 0} (reports : Reports) (readers : List S) (outs : List (O
               ∙ ap (λ (n : ℕ). given_one reports n c.0 r.0 o.0) number;
         }
 
-    pub are_numbered : AreNumbered (map (λ (t : Task S W G). t.outlet) tasks)
+    pub are_numbered : AreNumbered (map (λ (t : ProxyTask S W G). t.outlet) tasks)
     are_numbered proxy l at =
-        let t = from_map (λ (t : Task S W G). t.outlet) tasks proxy l at in
+        let t = from_map (λ (t : ProxyTask S W G). t.outlet) tasks proxy l at in
         let number : 0 + proxy ≡ proxy = omega arith in
         ap (λ (l : Outlet). l.proxy) (sym t.2)
         ∙ given_number reports 0 clients readers outs proxy (given_with t.0.outlet (threads_by t.0)) (given_here proxy t.0 t.1) ∙ number
 
     module _ (style : Style) (has_failed : Bool) (before after : SinkState) (ended : List (Proxy S W))
-        (fresh : All (λ (t : Task S W G). IsNewOutlet t.outlet (threads_by t).answers) tasks)
-        (threads : map threads_of ended ≡ map (λ (t : Task S W G). threads_by t) tasks)
-        (goes : StreamContinues style false has_failed before after (map (λ (t : Task S W G). t.outlet) tasks) (outlets_of ended))
+        (fresh : All (λ (t : ProxyTask S W G). IsNewOutlet t.outlet (threads_by t).answers) tasks)
+        (threads : map threads_of ended ≡ map (λ (t : ProxyTask S W G). threads_by t) tasks)
+        (goes : StreamContinues style false has_failed before after (map (λ (t : ProxyTask S W G). t.outlet) tasks) (outlets_of ended))
         (passed : HavePassedAll (outlets_of ended)) where
       pub ended_count : length ended ≡ length clients
-      ended_count = sym (length-map ended threads_of) ∙ ap length threads ∙ length-map tasks (λ (t : Task S W G). threads_by t)
+      ended_count = sym (length-map ended threads_of) ∙ ap length threads ∙ length-map tasks (λ (t : ProxyTask S W G). threads_by t)
           ∙ tasks_count
 
       -- a proxy whose outlet has ended, and the task that it was started with
       pub record Ran (proxy : ℕ) (running : Proxy S W) : Type 0 where
-        pub task : Task S W G
+        pub task : ProxyTask S W G
         pub at_task : slice_get tasks proxy ≡ Some task
         pub same_threads : threads_of running ≡ threads_by task
         pub is_new : IsNewOutlet task.outlet (threads_by task).answers
@@ -125,7 +125,7 @@ module _ {S W G : Type 0} (reports : Reports) (readers : List S) (outs : List (O
       pub ran_at : (proxy : ℕ) (running : Proxy S W) → slice_get ended proxy ≡ Some running → Ran proxy running
       ran_at proxy running at =
           let t = found ended tasks proxy running (tasks_count ∙ sym ended_count) at in
-          let outlet_at = mapped_at (λ (t : Task S W G). t.outlet) tasks proxy t.0 t.1 in
+          let outlet_at = mapped_at (λ (t : ProxyTask S W G). t.outlet) tasks proxy t.0 t.1 in
           let ended_at = mapped_at (λ (p : Proxy S W). p.outlet) ended proxy running at in
           let continues = goes.each.each proxy t.0.outlet running.outlet outlet_at ended_at in
           record {
@@ -133,8 +133,8 @@ module _ {S W G : Type 0} (reports : Reports) (readers : List S) (outs : List (O
             at_task = t.1;
             same_threads =
                 same_Some (threads_of running) (threads_by t.0) (sym (mapped_at threads_of ended proxy running at)
-                ∙ ap (λ l. slice_get l proxy) threads ∙ mapped_at (λ (t : Task S W G). threads_by t) tasks proxy t.0 t.1);
-            is_new = all_at (λ (t : Task S W G). IsNewOutlet t.outlet (threads_by t).answers) tasks proxy t.0 fresh t.1;
+                ∙ ap (λ l. slice_get l proxy) threads ∙ mapped_at (λ (t : ProxyTask S W G). threads_by t) tasks proxy t.0 t.1);
+            is_new = all_at (λ (t : ProxyTask S W G). IsNewOutlet t.outlet (threads_by t).answers) tasks proxy t.0 fresh t.1;
             dropped = continues.0;
             continues = continues.1;
             has_passed = passed proxy running.outlet ended_at;
@@ -315,8 +315,8 @@ module _ {S W G : Type 0} (reports : Reports) (readers : List S) (outs : List (O
               (recorded_each state_of outs streamed.recorders.items) complete account.stop
           is_streamed met =
               let clients_same : length clients ≡ length (map remaining readers) = sym same ∙ sym (length-map readers remaining) in
-              let tasks_same : length (map (λ (t : Task S W G). t.outlet) tasks) ≡ length (map remaining readers) =
-              length-map tasks (λ (t : Task S W G). t.outlet) ∙ tasks_count ∙ clients_same in
+              let tasks_same : length (map (λ (t : ProxyTask S W G). t.outlet) tasks) ≡ length (map remaining readers) =
+              length-map tasks (λ (t : ProxyTask S W G). t.outlet) ∙ tasks_count ∙ clients_same in
               record {
                 log = log;
                 printed = goes.printed;

@@ -6,7 +6,7 @@ ghost use Rattle.replay_stream.specs.Outlet.{HasPassedAll, IsClosed, PassesOn, P
 ghost use Rattle.replay_stream.specs.Outlet.{TookText, is_complete};
 ghost use Rattle.replay_stream.specs.Sinks.{state_by};
 
-use crate::progress::Progress;
+use crate::progress::AnswerProgress;
 use keyspace::Answer;
 use lane::{Intake, Port, Refused, Taken};
 use replay_output::{AnswerError, Style, print_line};
@@ -46,7 +46,7 @@ pub struct Outlet {
     pub proxy: usize,
     /// A line was lost for want of memory. Later ones are dropped.
     pub lost: bool,
-    pub progress: Arc<Progress, Global>,
+    pub progress: Arc<AnswerProgress, Global>,
 }
 
 impl Printer {

@@ -5,15 +5,15 @@ use std::sync::atomic::{AtomicBool, AtomicU64, Ordering};
 /// How far the answers to a proxy have come, for its sender to see. No clause can say what another
 /// thread has stored.
 #[derive(Drop)]
-pub struct Progress {
+pub struct AnswerProgress {
     answered: AtomicU64,
     ended: AtomicBool,
 }
 
-impl Progress {
+impl AnswerProgress {
     /// Creates the progress of a proxy that has got no answer.
     pub fn new() -> Self {
-        Progress {
+        AnswerProgress {
             answered: AtomicU64::new(0),
             ended: AtomicBool::new(false),
         }

@@ -9,7 +9,7 @@ ghost use Rattle.replay_workers.specs.Reporting.{SendsFrames};
 ghost use Rattle.replay_workers.specs.Worker.{SendsBatches, batch_of, fault_of, unsent_of};
 ghost use Rattle.replay_stream.specs.Sender.{HasSent};
 
-use crate::progress::Progress;
+use crate::progress::AnswerProgress;
 use flow::{Stand, is_below_share};
 use keyspace::Batch;
 use lane::{Port, Refused};
@@ -56,7 +56,7 @@ pub fn send_all<S: Source + Drop, G: Gatekeeper + ShareKeeper, R: Wait>(
     reader: S,
     reports: Reports,
     gatekeeper: &G,
-    progress: &Progress,
+    progress: &AnswerProgress,
 ) -> Sent
     ensures sent { HasSent reports (S.remaining reader) requests result }
 {
@@ -80,7 +80,7 @@ impl Sender {
         rt: &R,
         alloc: Global,
         gatekeeper: &G,
-        progress: &Progress,
+        progress: &AnswerProgress,
         reader: S,
         reports: Reports,
     ) -> FileEnd
@@ -105,7 +105,7 @@ impl Sender {
         &mut self,
         rt: &R,
         gatekeeper: &G,
-        progress: &Progress,
+        progress: &AnswerProgress,
         batches: &mut B,
     ) -> FileEnd
         requires fresh { B.refusal batches.old ≡ None }
@@ -133,7 +133,7 @@ impl Sender {
         &mut self,
         rt: &R,
         gatekeeper: &G,
-        progress: &Progress,
+        progress: &AnswerProgress,
         batch: Batch,
     ) -> Result<(), Leftover>
         ensures requests { PortContinues self.old.requests self.new.requests }

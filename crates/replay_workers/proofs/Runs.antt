@@ -15,7 +15,7 @@ use Rattle.resolver.specs.Settled.{Settled}
 use Rattle.replay_output.specs.declared.failures.ProxyFailure.{ProxyFailure}
 use Rattle.replay_output.specs.declared.line.Line.{Line}
 use Rattle.replay_output.specs.declared.options.Options.{Options}
-use Rattle.replay_workers.specs.declared.outcome.Outcome.{Outcome}
+use Rattle.replay_workers.specs.declared.outcome.RunOutcome.{RunOutcome}
 use Rattle.replay_workers.specs.declared.threads.Worked.{Worked}
 use Rattle.replay_workers.specs.declared.worker.Finished.{Finished}
 use Rattle.replay_workers.specs.Batches.{EndsWith}
@@ -29,7 +29,7 @@ use Rattle.replay_workers.proofs.Working.{finished_count, worked_at}
 
 module _ {B : Type 0} (Gives : B → B → Batch → Type 0) (IsEnd : B → Type 0) (IsFault : B → WireError → Type 0)
     (Stays : B → B → Type 0) (options : Options) (share : ℕ) (streams : List B) (clients : List Client)
-    (workers : List (Worked B)) (outcome : Outcome) (ended : List B) (log : List Step) (lanes : List Lanes) (account : Account)
+    (workers : List (Worked B)) (outcome : RunOutcome) (ended : List B) (log : List Step) (lanes : List Lanes) (account : Account)
     (same : length streams ≡ length clients) (new : All (IsNewClient options.capacity) clients)
     (worked : AllZip (HasWorkedOn Gives IsEnd IsFault Stays) (given_each options.style share 0 clients streams) workers)
     (of_finished : IsOutcomeOf (finished_of workers) outcome) (of_ended : ended ≡ streams_of workers)

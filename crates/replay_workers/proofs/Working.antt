@@ -12,8 +12,8 @@ use Rattle.wire.specs.declared.error.WireError.{WireError}
 use Rattle.resolver.specs.declared.client.Client.{Client}
 use Rattle.resolver.specs.Resolver.{IsNewClient, SameClients}
 use Rattle.replay_output.specs.declared.options.style.Style.{Style}
-use Rattle.replay_workers.specs.declared.outcome.Outcome.{Outcome}
-use Rattle.replay_workers.specs.declared.threads.Started.{Started}
+use Rattle.replay_workers.specs.declared.outcome.RunOutcome.{RunOutcome}
+use Rattle.replay_workers.specs.declared.threads.StartedWorkers.{StartedWorkers}
 use Rattle.replay_workers.specs.declared.worker.Finished.{Finished}
 use Rattle.replay_workers.specs.declared.threads.Worked.{Worked}
 use Rattle.replay_workers.specs.Batches.{EndsWith}
@@ -41,7 +41,7 @@ returns_batch_also finished f true now (Some batch) is before sends none =
     record { place = length finished; worker = f; at = at_last finished f; batch = batch; unsent = is }
 
 -- one worker more has handed back
-pub outcome_also : (finished : List Finished) (old new : Outcome) (f : Finished) → IsOutcomeOf finished old
+pub outcome_also : (finished : List Finished) (old new : RunOutcome) (f : Finished) → IsOutcomeOf finished old
     → new.clients.items ≡ old.clients.items ++ f.client ∷ [] → new.lines.items ≡ old.lines.items ++ f.lines ∷ []
     → new.failures.items ≡ old.failures.items ++ failure_of f ∷ []
     → (new.all_sent ≡ true → (old.all_sent ≡ true) × (f.unsent ≡ None))
@@ -74,7 +74,7 @@ given_all P style share first (c ∷ clients) (b ∷ streams) all =
     (given_all P style share (first + 1) clients streams (All-tail P b streams all))
 
 -- as many workers were started as there are streams
-pub started_count : {B : Type 0} (style : Style) (share : ℕ) (clients : List Client) (streams : List B) (workers : List (Started B))
+pub started_count : {B : Type 0} (style : Style) (share : ℕ) (clients : List Client) (streams : List B) (workers : List (StartedWorkers B))
     → length streams ≡ length clients → map given_to workers ≡ given_each style share 0 clients streams
     → length workers ≡ length streams
 started_count style share clients streams workers same given =

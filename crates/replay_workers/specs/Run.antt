@@ -24,7 +24,7 @@ use Rattle.replay_output.specs.declared.options.style.Style.{Style}
 use Rattle.replay_output.specs.declared.line.Line.{Line}
 use Rattle.replay_output.specs.declared.options.Options.{Options}
 use Rattle.replay_output.specs.declared.options.reports.Reports.{Reports}
-use Rattle.replay_workers.specs.declared.outcome.Outcome.{Outcome}
+use Rattle.replay_workers.specs.declared.outcome.RunOutcome.{RunOutcome}
 use Rattle.replay_output.specs.Line.{answers_of, IsLineOf}
 use Rattle.replay_workers.specs.Occupied.{IsOccupancyOf}
 use Rattle.replay_workers.specs.Stops.{IsStopOf}
@@ -33,7 +33,7 @@ use Rattle.replay_workers.specs.Reporting.{TakesResolved}
 use Rattle.replay_workers.specs.Worker.{IsFaultAt}
 
 -- every answer was taken, and every batch that was read was sent
-abbrev pub is_complete : Outcome → Account → Bool
+abbrev pub is_complete : RunOutcome → Account → Bool
 is_complete outcome account = account.complete && outcome.all_sent
 
 -- the lanes of the client have this capacity

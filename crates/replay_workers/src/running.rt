@@ -18,7 +18,7 @@ ghost use Rattle.replay_workers.specs.Stops.{IsAccountedFor};
 use crate::asking::asking_each;
 use crate::batches::{Batches, frames_each};
 use crate::gatekeeper::{Gatekeeper, ShareKeeper};
-use crate::outcome::Outcome;
+use crate::outcome::RunOutcome;
 use crate::threads::{join_all, start_workers};
 use crate::watch::Watch;
 use observer::{Observer, Unobserved};
@@ -45,7 +45,7 @@ pub fn run<
     readers: Vec<S>,
     options: Options,
     gatekeeper: &Arc<G, Global>,
-) -> Result<(Outcome, Account), StartError>
+) -> Result<(RunOutcome, Account), StartError>
     requires least_readers { 1 ≤ vec_len readers }
     requires most_readers { vec_len readers ≤ MAX_PROXIES }
     ensures run { IfOk result (λ ended. IsRun options (map S.remaining readers.items)
@@ -76,7 +76,7 @@ pub fn run_observed<
     options: Options,
     gatekeeper: &Arc<G, Global>,
     observer: &mut O,
-) -> Result<(Outcome, Account), StartError>
+) -> Result<(RunOutcome, Account), StartError>
     requires least_readers { 1 ≤ vec_len readers }
     requires most_readers { vec_len readers ≤ MAX_PROXIES }
     ensures run { IfOk result (λ ended. IsRun options (map S.remaining readers.items)
@@ -127,7 +127,7 @@ pub fn run_over<
     options: Options,
     gatekeeper: &Arc<G, Global>,
     observer: &mut O,
-) -> Result<(Outcome, Vec<B>, Account), StartError>
+) -> Result<(RunOutcome, Vec<B>, Account), StartError>
     requires least { 1 ≤ vec_len streams }
     requires most { vec_len streams ≤ MAX_PROXIES }
     requires fresh { All (λ batches. B.refusal batches ≡ None) streams.items }
@@ -157,7 +157,7 @@ pub fn run_over<
         style,
         ..
     } = options;
-    let outcome = Outcome::with_room(alloc, proxies)?;
+    let outcome = RunOutcome::with_room(alloc, proxies)?;
     let ended = Vec::with_capacity(alloc, proxies)?;
     let mut watch = Watch::new(alloc, proxies)?;
     let (mut resolver, clients) = open(alloc, proxies, capacity, window, limit)?;

@@ -14,7 +14,7 @@ use test_values::Unmade;
 
 // A core that is given the steps of a row.
 #[derive(Drop)]
-struct Run {
+struct CoreRun {
     alloc: Global,
     core: Core,
     // The stop that was met.
@@ -25,7 +25,7 @@ struct Run {
     made: usize,
 }
 
-impl Run {
+impl CoreRun {
     fn call(&mut self, text: &str) -> Result<Result<(), Stop>, Unmade> {
         if text == "finish" {
             return Ok(self.core.finish());
@@ -82,7 +82,7 @@ impl Run {
 // What a row has come to: the stop that was met, if any, or else the step that answered otherwise.
 type Outcome<'a> = Result<Option<Stop>, &'a str>;
 
-impl Run {
+impl CoreRun {
     // Makes the calls of the row, and returns the first that didn't return what it may.
     fn calls_all<'a>(&mut self, row: &[&'a str]) -> Result<Option<&'a str>, Unmade> {
         for step in row {
@@ -127,7 +127,7 @@ impl Run {
 fn outcome<'a>(alloc: Global, proxies: usize, row: &[&'a str]) -> Result<Outcome<'a>, Unmade> {
     match open(alloc, proxies)? {
         Ok(core) => {
-            let mut run = Run {
+            let mut run = CoreRun {
                 alloc,
                 core,
                 stop: None,

@@ -11,7 +11,7 @@ use test_values::Unmade;
 
 // The resolver of two proxies that is given the steps of a row.
 #[derive(Drop)]
-struct Run {
+struct RowRun {
     alloc: Global,
     service: Service,
     // The stop that was met.
@@ -22,7 +22,7 @@ struct Run {
     has_missed: bool,
 }
 
-impl Run {
+impl RowRun {
     // Turns once, and returns whether it may answer so: one of these, or a stop, and then always
     // that one.
     fn turn(&mut self, expected: &[Turn]) -> bool {
@@ -138,7 +138,7 @@ fn outcome<'a>(alloc: Global, row: &[&'a str]) -> Result<Result<Option<Stop>, &'
     let Ok(service) = Service::open(alloc, 2, 1)? else {
         return Ok(Ok(Some(Stop::Memory)));
     };
-    let mut run = Run {
+    let mut run = RowRun {
         alloc,
         service,
         stop: None,

@@ -8,8 +8,8 @@ use Rattle.arena.specs.Arena.{Arena, wanted_of, IsLive, key_at}
 use Rattle.keys.specs.Key.{IsBefore}
 use Rattle.keys.specs.Range.{IsEmpty}
 use Rattle.keys.specs.declared.range.Range.{Range}
-use Rattle.tree.specs.declared.overwrite.Written.{Written}
-use Rattle.tree.specs.declared.overwrite.Written.TheVariants.{Partly, Entirely}
+use Rattle.tree.specs.declared.overwrite.OverwriteResult.{OverwriteResult}
+use Rattle.tree.specs.declared.overwrite.OverwriteResult.TheVariants.{Partly, Entirely}
 use Rattle.tree.specs.Heads.{AllAreHeads}
 use Rattle.tree.specs.Item.{Item}
 use Rattle.tree.specs.Overwrite.{Overwrites, OverwritesEntire, OverwritesPart}
@@ -172,12 +172,12 @@ module _ {H : Type 0} (old : Arena H) (tree : Items) (stored : IsStored old tree
       subst (λ items. AreParted items ((front ++ kept) ++ rest) run) (sym (part_is kept run is))
       (middle_goes (front ++ kept) run rest)
 
-  module _ (first : Item) (given : Option ℤ) (written : Written) (run : List Item) (next : Items)
+  module _ (first : Item) (given : Option ℤ) (written : OverwriteResult) (run : List Item) (next : Items)
       (h : Overwrites from to past first end given written run tree.items next.items) where
     run_partitioned : GoesOut run
     run_partitioned = by_written written h
       where
-        by_written : (written : Written) → Overwrites from to past first end given written run tree.items next.items
+        by_written : (written : OverwriteResult) → Overwrites from to past first end given written run tree.items next.items
             → GoesOut run
         by_written (Entirely ended) h = record { kept = front ++ rest; parts = entire_partitioned run h.run_is }
         by_written (Partly last) h = record { kept = (front ++ h.kept) ++ rest; parts = part_partitioned h.kept run h.run_is }

@@ -4,7 +4,7 @@ use Rattle.std.specs.Prelude.{ℤ, IsSome, MatchOption}
 use Rattle.std.proofs.lemmas.Bool.{ne_eqb}
 use Rattle.std.proofs.lemmas.List.Elements.{All-head, All-tail, All-cons, All-nil, filter_agree}
 use Rattle.arena.specs.Arena.{Arena}
-use Rattle.tree.specs.declared.entry.Entry.{Entry}
+use Rattle.tree.specs.declared.entry.NodeEntry.{NodeEntry}
 use Rattle.tree.specs.Item.{Item, item_of}
 use Rattle.tree.specs.Path.{IsPartitioned, items_below, following, first_key as first_slot}
 use Rattle.tree.specs.Tree.{Items, IsLast}
@@ -97,7 +97,7 @@ module _ {H : Type 0} (keys : Arena H) where
       }
 
   -- there is a last one that passes
-  pub is_some : (o : Option Entry) (items : List Item) → items ≢ []
+  pub is_some : (o : Option NodeEntry) (items : List Item) → items ≢ []
       → MatchOption o (items ≡ []) (λ e. IsLast (item_of e) items) → IsSome o
   is_some None items some m = absurd (some m)
   is_some (Some e) items some m = refl

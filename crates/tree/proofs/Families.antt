@@ -2,7 +2,7 @@
 use Rattle.std.proofs.Common.{◌≡◌, ℕ, suc, ◌+◌, ◌≤◌, List, ◌∷◌, ◌++◌, length, length-append, ap, ◌∙◌, arith}
 use Rattle.std.proofs.lemmas.List.Concat.{flat_map-append}
 use Rattle.std.proofs.lemmas.List.Elements.{All-append}
-use Rattle.tree.proofs.Words.{Arena, IsLive, Entry, Node, entries_at, items_in, slots_in, IsSubtree, items_of, slots_of, AreChildren}
+use Rattle.tree.proofs.Words.{Arena, IsLive, NodeEntry, Node, entries_at, items_in, slots_in, IsSubtree, items_of, slots_of, AreChildren}
 use Rattle.tree.proofs.callers.Times.{times, none_or_some, times-append}
 use Rattle.tree.proofs.Frames.{Agree, IsRight, items_of_same, slots_of_same, children_same}
 use Rattle.tree.proofs.Changing.{Moves, moves_beside, moves_agree}
@@ -10,21 +10,21 @@ pub use Rattle.tree.proofs.Frames.{live_children}
 
 module _ {N : ℕ} where
   module _ (a : Arena (Node N)) (height : ℕ) where
-    pub slots_of-append : (xs ys : List Entry) → slots_of a height (xs ++ ys) ≡ slots_of a height xs ++ slots_of a height ys
-    slots_of-append xs ys = flat_map-append (λ (e : Entry). slots_in a height e.child) xs ys
+    pub slots_of-append : (xs ys : List NodeEntry) → slots_of a height (xs ++ ys) ≡ slots_of a height xs ++ slots_of a height ys
+    slots_of-append xs ys = flat_map-append (λ (e : NodeEntry). slots_in a height e.child) xs ys
 
-    pub items_of-append : (xs ys : List Entry) → items_of a height (xs ++ ys) ≡ items_of a height xs ++ items_of a height ys
-    items_of-append xs ys = flat_map-append (λ (e : Entry). items_in a height e.child) xs ys
+    pub items_of-append : (xs ys : List NodeEntry) → items_of a height (xs ++ ys) ≡ items_of a height xs ++ items_of a height ys
+    items_of-append xs ys = flat_map-append (λ (e : NodeEntry). items_in a height e.child) xs ys
 
-    pub times-slots_of : (s : ℕ) (xs ys : List Entry)
+    pub times-slots_of : (s : ℕ) (xs ys : List NodeEntry)
         → times s (slots_of a height (xs ++ ys)) ≡ times s (slots_of a height xs) + times s (slots_of a height ys)
     times-slots_of s xs ys = rw (slots_of-append xs ys) (times-append s _ _)
 
-    pub length-slots_of : (xs ys : List Entry)
+    pub length-slots_of : (xs ys : List NodeEntry)
         → length (slots_of a height (xs ++ ys)) ≡ length (slots_of a height xs) + length (slots_of a height ys)
     length-slots_of xs ys = rw (slots_of-append xs ys) (length-append _ _)
 
-  module _ (a b : Arena (Node N)) (least height : ℕ) (before middle following new : List Entry) where
+  module _ (a b : Arena (Node N)) (least height : ℕ) (before middle following new : List NodeEntry) where
     -- what becomes of entries of which the middle ones are replaced, whether these are right or not
     pub record Loose : Type 0 where
       pub front : AreChildren b least height before
@@ -76,12 +76,12 @@ module _ {N : ℕ} where
           record { kept = loose; children = All-append (IsRight b least height) before (new ++ following) loose.front later }
 
   -- what a slot above a leaf is seen as, once these entries stand there
-  pub record Holds (a b : Arena (Node N)) (least height slot : ℕ) (entries : List Entry) : Type 0 where
+  pub record Holds (a b : Arena (Node N)) (least height slot : ℕ) (entries : List NodeEntry) : Type 0 where
     pub subtree : IsSubtree b least (suc height) slot
     pub items : items_in b (suc height) slot ≡ items_of a height entries
     pub slots : slots_in b (suc height) slot ≡ slot ∷ slots_of a height entries
 
-  pub holds : (a b : Arena (Node N)) (least height slot : ℕ) (entries : List Entry) → IsLive b slot
+  pub holds : (a b : Arena (Node N)) (least height slot : ℕ) (entries : List NodeEntry) → IsLive b slot
       → entries_at b slot ≡ entries → 1 ≤ length entries → AreChildren a least height entries
       → Agree a b (slots_of a height entries) → Holds a b least height slot entries
   holds a b least height slot entries live here some right agree = record {

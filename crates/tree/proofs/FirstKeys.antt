@@ -3,12 +3,12 @@ use Rattle.std.proofs.Common.{◌≡◌, ℕ, zero, suc, ◌-◌, ◌≤◌, Boo
 use Rattle.std.proofs.lemmas.Int.{ints}
 use Rattle.std.proofs.lemmas.List.Concat.{flat_map_single}
 use Rattle.std.proofs.lemmas.List.Elements.{All-cons, All-nil, All-head}
-use Rattle.tree.proofs.Words.{Arena, header_at, Entry, Node, KeyBytes, IsCommonPrefix, IsCommonPrefixAt, Item, Describes, item_of, entries_of, index_in, entries_at, items_in, IsChild, IsSubtree}
+use Rattle.tree.proofs.Words.{Arena, header_at, NodeEntry, Node, KeyBytes, IsCommonPrefix, IsCommonPrefixAt, Item, Describes, item_of, entries_of, index_in, entries_at, items_in, IsChild, IsSubtree}
 use Rattle.tree.proofs.Found.{IsFound, entries_read}
 use Rattle.keys.proofs.callers.SomeElement.{Any-first}
 
 -- The first of some entries has the first key of the items below them.
-pub first_describes : (under : Entry → List Item) (es : List Entry) (e : Entry) → slice_get es 0 ≡ Some e
+pub first_describes : (under : NodeEntry → List Item) (es : List NodeEntry) (e : NodeEntry) → slice_get es 0 ≡ Some e
     → All (λ e. Describes e (under e)) es → (x : Item) (xs : List Item) → flat_map under es ≡ x ∷ xs → e.key ≡ x.key
 first_describes under [] e is describe x xs same = absurd (cc)
 first_describes under (d ∷ es) e is describe x xs same =
@@ -16,11 +16,11 @@ first_describes under (d ∷ es) e is describe x xs same =
     cc (t.key, rw t.items_are at same)
 
 -- the items of an entry of a node of this height: its own one, or those of its child
-abbrev pub items_under : {N : ℕ} → Arena (Node N) → ℕ → Entry → List Item
+abbrev pub items_under : {N : ℕ} → Arena (Node N) → ℕ → NodeEntry → List Item
 items_under nodes zero e = item_of e ∷ []
 items_under nodes (suc height) e = items_in nodes height e.child
 
-item_describes : (e : Entry) → Describes e (item_of e ∷ [])
+item_describes : (e : NodeEntry) → Describes e (item_of e ∷ [])
 item_describes e =
     let bound = All-cons (λ (x : Item). x.version ≤ℤ e.version) (item_of e) [] (omega (arith, ints)) (All-nil _) in
     let has = Any-first (λ (x : Item). x.version ≡ e.version) (item_of e) [] refl in
@@ -37,7 +37,7 @@ module _ {N : ℕ} (nodes : Arena (Node N)) (least : ℕ) where
   node_describes (suc height) slot s = λ i d lt. (s.2 i d lt).describes
 
   -- What is known of the key of an entry is known of that of its child's first entry, which is the same.
-  pub knows_child : (height : ℕ) (e : Entry) (child : ℕ) (bytes : KeyBytes) (is_below : ℕ → Bool) (target : List ℕ)
+  pub knows_child : (height : ℕ) (e : NodeEntry) (child : ℕ) (bytes : KeyBytes) (is_below : ℕ → Bool) (target : List ℕ)
       (known : Option ℕ) → IsChild nodes least height (IsSubtree nodes least height) e → child ≡ e.child
       → IsCommonPrefix bytes is_below target known e.key → IsCommonPrefixAt bytes is_below target known (entries_at nodes child) 0
   knows_child height e child bytes is_below target known right same knows first at =

@@ -4,7 +4,7 @@ use Rattle.std.proofs.Common.{◌≡◌, ℕ, zero, suc, ◌+◌, ◌-◌, ◌<�
 use Rattle.std.proofs.lemmas.Grind.{flat_map-append}
 use Rattle.std.proofs.lemmas.List.{drop-drop, drop_more, take_more}
 use Rattle.std.proofs.lemmas.List.Elements.{All-take, All-drop}
-use Rattle.tree.proofs.Words.{Arena, Entry, Node, Item, Describes, KeyBytes, CanReach, IsPartitioned, IsChild, IsSubtree, items_in}
+use Rattle.tree.proofs.Words.{Arena, NodeEntry, Node, Item, Describes, KeyBytes, CanReach, IsPartitioned, IsChild, IsSubtree, items_in}
 use Rattle.tree.proofs.callers.Partitions.{All-back}
 use Rattle.tree.proofs.FromLast.{from_last_of, from_last_part, from_last_parts}
 use Rattle.tree.proofs.Looks.{IsLook, around_child, look_ordered, look_answers, items_partitioned, child_is, child_reached, first_inside, last_inside}
@@ -13,7 +13,7 @@ use Rattle.tree.proofs.Ways.{entries_partitioned, pass_before, fail_after_index}
 
 -- a look at such a node, with the entries of the two children
 pub record AreHalves {N : ℕ} (nodes : Arena (Node N)) (least height slot : ℕ) (f t : ℕ → Bool) : Type 0 where
-  pub es : List Entry
+  pub es : List NodeEntry
   pub begin : ℕ
   pub end : ℕ
   pub look : IsLook nodes least height slot f t es begin end
@@ -22,14 +22,14 @@ pub record AreHalves {N : ℕ} (nodes : Arena (Node N)) (least height slot : ℕ
   pub last : ℕ
   pub first_is : first ≡ begin - 1
   pub last_is : last ≡ end - 1
-  pub left : Entry
-  pub right : Entry
+  pub left : NodeEntry
+  pub right : NodeEntry
   pub left_at : left ≡ get_or es first left
   pub right_at : right ≡ get_or es last right
 
 module _ {N : ℕ} {nodes : Arena (Node N)} {least height slot : ℕ} {f t : ℕ → Bool}
     (h : AreHalves nodes least height slot f t) where
-  abbrev below : Entry → List Item
+  abbrev below : NodeEntry → List Item
   below e = items_in nodes (height - 1) e.child
 
   abbrev pub left_items : List Item
@@ -38,7 +38,7 @@ module _ {N : ℕ} {nodes : Arena (Node N)} {least height slot : ℕ} {f t : ℕ
   abbrev pub right_items : List Item
   right_items = below h.right
 
-  abbrev pub middle : List Entry
+  abbrev pub middle : List NodeEntry
   middle = slice_range h.es (h.first + 1) h.last
 
   abbrev pub middle_items : List Item

@@ -9,19 +9,19 @@ use Rattle.std.proofs.lemmas.List.{get_or_default, get_or-map}
 use Rattle.std.proofs.lemmas.Option.{get_or_from_slice_get, slice_get_within, slice_get-get_or, slice_get-map}
 use Rattle.keys.specs.Key.{IsBytes, IsBefore}
 pub use Rattle.keys.proofs.callers.Lists.{some_at as entry_at}
-use Rattle.tree.proofs.Words.{Entry, Node, PADDING, entries_of, key_heads_of, keys_of, KeyBytes, Begins, head_after, head_at, KeyHeads, AreHeads, IsBelowInOrder, IsCommonPrefixLen, IsCommonPrefixAt, HasPrefix, IsTargetHead, IsPartitioned, CanStep, IsStep}
+use Rattle.tree.proofs.Words.{NodeEntry, Node, PADDING, entries_of, key_heads_of, keys_of, KeyBytes, Begins, head_after, head_at, KeyHeads, AreHeads, IsBelowInOrder, IsCommonPrefixLen, IsCommonPrefixAt, HasPrefix, IsTargetHead, IsPartitioned, CanStep, IsStep}
 use Rattle.tree.proofs.callers.Partitions.{length-items_below, none_fail, not_both}
 use Rattle.tree.proofs.HeadChanges.{heads_count, prefix_begins}
 use Rattle.tree.proofs.HeadCounts.{passing_before, passing_inside}
 use Rattle.tree.proofs.HeadOrder.{empty_head, empty_before, empty_before_too, describes_empty, answered_by_heads, too, common_by_heads}
 
 -- the key of the entry there
-pub key_there : (entries : List Entry) (index : ℕ) (e : Entry) → slice_get entries index ≡ Some e
+pub key_there : (entries : List NodeEntry) (index : ℕ) (e : NodeEntry) → slice_get entries index ≡ Some e
     → slice_get (keys_of entries) index ≡ Some e.key
-key_there entries index e there = rw (slice_get-map (λ (x : Entry). x.key) entries index, there) refl
+key_there entries index e there = rw (slice_get-map (λ (x : NodeEntry). x.key) entries index, there) refl
 
 -- the entry itself, among all those that the node has room for
-pub entry_there : (room : List Entry) (len index : ℕ) (e d : Entry) → slice_get (take len room) index ≡ Some e
+pub entry_there : (room : List NodeEntry) (len index : ℕ) (e d : NodeEntry) → slice_get (take len room) index ≡ Some e
     → get_or room index d ≡ e
 entry_there room len index e d there = grind (arith, slice_get_within, length-take, get_or-take, get_or_from_slice_get)
 
@@ -152,7 +152,7 @@ pub stay : {N : ℕ} (bytes : KeyBytes) (is_below : ℕ → Bool) (target : List
 stay bytes is_below target node known can none =
     let e = entry_at (entries_of node) 0 can.can_find.some in
     let first = rw none at can.known in
-    let few = passing_before (λ (e : Entry). is_below e.key) _ 0 e.0 can.can_find.partitioned e.1 (first e.0 e.1) in
+    let few = passing_before (λ (e : NodeEntry). is_below e.key) _ 0 e.0 can.can_find.partitioned e.1 (first e.0 e.1) in
     record { step = record { index_is = omega (arith, few); within = can.can_find.some; knows = first } }
 
 -- A head that isn't the greatest number is that of an entry.
@@ -166,10 +166,10 @@ filled_within bytes node h size count room filled =
 module _ {N : ℕ} (bytes : KeyBytes) (node : Node N) (h : AreHeads bytes (key_heads_of node)) (target : List ℕ)
     (is_below : ℕ → Bool)
     (order : (key : ℕ) (text : List ℕ) → bytes key ≡ Some text → IsBelowInOrder text target (is_below key)) where
-  abbrev es : List Entry
+  abbrev es : List NodeEntry
   es = entries_of node
 
-  abbrev passes : Entry → Bool
+  abbrev passes : NodeEntry → Bool
   passes e = is_below e.key
 
   abbrev own_head : ℕ → ℕ

@@ -4,7 +4,7 @@ use Rattle.std.specs.List.{AllZip, Contains}
 use Rattle.std.proofs.lemmas.List.{get_or-map, get_or-take, length-map, length-take, length-take-le, drop_at, map-append, map-set, map_more, set-get_or, take_at, take-map, drop-map, take_more_set}
 use Rattle.std.proofs.lemmas.Option.{slice_get_within, get_or_from_slice_get}
 use Rattle.std.proofs.lemmas.List.Elements.{All-nil, All-cons, All-append, All-contains, All-drop, All-more, All-set, All-take}
-use Rattle.tree.proofs.Words.{Entry, KeyBytes, IsKnown, Begins, KeyHeads, AreHeads, HasPrefix, IsHeadBeside, IsTargetHead, head_after, head_at, keys_of}
+use Rattle.tree.proofs.Words.{NodeEntry, KeyBytes, IsKnown, Begins, KeyHeads, AreHeads, HasPrefix, IsHeadBeside, IsTargetHead, head_after, head_at, keys_of}
 use Rattle.tree.proofs.Headed.{all_known, begins_if_long}
 use Rattle.tree.proofs.HeadOrder.{take_fewer}
 use Rattle.tree.proofs.callers.Partitions.{All-front, All-back}
@@ -16,8 +16,8 @@ All-spliced P xs new from to all more =
     All-append P _ _ (All-take P from xs all) (All-append P new (drop to xs) more (All-drop P to xs all))
 
 -- the keys of so many entries are as many
-pub keys_count : (es : List Entry) (len : ℕ) → len ≤ length es → length (keys_of (take len es)) ≡ len
-keys_count es len most = length-map (take len es) (λ (e : Entry). e.key) ∙ length-take-le len es most
+pub keys_count : (es : List NodeEntry) (len : ℕ) → len ≤ length es → length (keys_of (take len es)) ≡ len
+keys_count es len most = length-map (take len es) (λ (e : NodeEntry). e.key) ∙ length-take-le len es most
 
 -- what is computed of elements where others are put in place of those from one index up to another
 pub map_spliced : {X Y : Type 0} (f : X → Y) (xs new now : List X) (from to : ℕ) → now ≡ take from xs ++ (new ++ drop to xs)
@@ -25,12 +25,12 @@ pub map_spliced : {X Y : Type 0} (f : X → Y) (xs new now : List X) (from to : 
 map_spliced f xs new now from to is = simp (is, map-append, take-map, drop-map)
 
 -- the key of an entry is one of the keys
-pub keys_there : (es : List Entry) (i : ℕ) (e : Entry) → i < length es → get_or es i e ≡ e → Contains (keys_of es) e.key
+pub keys_there : (es : List NodeEntry) (i : ℕ) (e : NodeEntry) → i < length es → get_or es i e ≡ e → Contains (keys_of es) e.key
 keys_there es i e inside is =
-    (i, omega (arith, length-map es (λ (x : Entry). x.key)), cc (get_or-map (λ (x : Entry). x.key) es i e e.key inside))
+    (i, omega (arith, length-map es (λ (x : NodeEntry). x.key)), cc (get_or-map (λ (x : NodeEntry). x.key) es i e e.key inside))
 
 -- the key of the last one
-pub last_there : (es : List Entry) (e : Entry) → slice_get es (length es - 1) ≡ Some e → Contains (keys_of es) e.key
+pub last_there : (es : List NodeEntry) (e : NodeEntry) → slice_get es (length es - 1) ≡ Some e → Contains (keys_of es) e.key
 last_there es e is = keys_there es (length es - 1) e (slice_get_within es _ e is) (get_or_from_slice_get es _ e e is)
 
 -- the head of a key is that of its bytes
@@ -39,7 +39,7 @@ pub head_known : (bytes : KeyBytes) (prefix_len key head : ℕ) → IsKnown byte
 head_known bytes prefix_len key head k d = rw k.known (d k.text k.known)
 
 -- Entries of which some are in use, and one of these.
-module _ (es : List Entry) (len i : ℕ) (e : Entry) (inside : i < len) (most : len ≤ length es) (is : e ≡ get_or es i e) where
+module _ (es : List NodeEntry) (len i : ℕ) (e : NodeEntry) (inside : i < len) (most : len ≤ length es) (is : e ≡ get_or es i e) where
   -- its key
   key_read : e.key ≡ get_or (keys_of (take len es)) i e.key
   key_read = grind (arith, get_or-map, get_or-take, length-take)
@@ -58,7 +58,7 @@ module _ (es : List Entry) (len i : ℕ) (e : Entry) (inside : i < len) (most : 
   head_next f heads head room right before = grind (arith, map_more, take_more_set, keys_count, key_read)
 
   -- another entry of the same key in its place changes no key
-  pub key_stays : (new : Entry) → e.key ≡ new.key → keys_of (slice_set (take len es) i new) ≡ keys_of (take len es)
+  pub key_stays : (new : NodeEntry) → e.key ≡ new.key → keys_of (slice_set (take len es) i new) ≡ keys_of (take len es)
   key_stays new same = grind (arith, map-set, key_read, set-get_or)
 
   -- The head of its key, behind so many bytes, is that of its bytes.
@@ -146,10 +146,10 @@ module _ (bytes : KeyBytes) where
   beside_right key_heads _ _ given = absurd given
 
   -- There are as many heads as entries.
-  pub heads_count : (es : List Entry) (key_heads : KeyHeads) → AreHeads bytes key_heads → key_heads.keys ≡ keys_of es
+  pub heads_count : (es : List NodeEntry) (key_heads : KeyHeads) → AreHeads bytes key_heads → key_heads.keys ≡ keys_of es
       → length key_heads.heads ≡ length es
   heads_count es key_heads h is =
-      cc (h.heads, length-map key_heads.keys (head_at bytes key_heads.prefix_len), length-map es (λ (e : Entry). e.key))
+      cc (h.heads, length-map key_heads.keys (head_at bytes key_heads.prefix_len), length-map es (λ (e : NodeEntry). e.key))
 
   -- a node that knows its keys' bytes
   module _ (key_heads : KeyHeads) (h : AreHeads bytes key_heads) where

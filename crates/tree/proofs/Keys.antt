@@ -2,11 +2,11 @@
 use Rattle.std.proofs.Common.{arith, ◌≡◌, ℕ, ◌+◌, ◌-◌, Bool, true, false, List, [], ◌∷◌, ◌++◌, Option, Some, map, drop, filter, flat_map, All, refl, ap}
 use Rattle.std.proofs.lemmas.Bool.{cases_Bool}
 use Rattle.std.proofs.lemmas.List.Elements.{All-head, All-drop, filter-append}
-use Rattle.tree.proofs.Words.{Arena, header_at, Entry, Node, Item, Describes, item_of, entries_of, index_in, following, after_leaf, first_key, entries_at, items_in}
+use Rattle.tree.proofs.Words.{Arena, header_at, NodeEntry, Node, Item, Describes, item_of, entries_of, index_in, following, after_leaf, first_key, entries_at, items_in}
 use Rattle.tree.proofs.callers.Partitions.{none_pass, none_fail}
 use Rattle.tree.proofs.Found.{IsFound, entries_read}
 
-pub filter-items : (p : Item → Bool) (es : List Entry) → filter p (map item_of es) ≡ map item_of (filter (λ e. p (item_of e)) es)
+pub filter-items : (p : Item → Bool) (es : List NodeEntry) → filter p (map item_of es) ≡ map item_of (filter (λ e. p (item_of e)) es)
 filter-items p [] = refl
 filter-items p (e ∷ es) = grind (arith, filter-items p es, cases_Bool (p (item_of e)))
 
@@ -15,7 +15,7 @@ first_key-append key [] ys = refl
 first_key-append key (x ∷ xs) ys = refl
 
 -- the first key of children is that of their first entry
-pub first_key-children : (below : Entry → List Item) (key : Option ℕ) (es : List Entry)
+pub first_key-children : (below : NodeEntry → List Item) (key : Option ℕ) (es : List NodeEntry)
     → All (λ e. Describes e (below e)) es → first_key key (map item_of es) ≡ first_key key (flat_map below es)
 first_key-children below key [] t = refl
 first_key-children below key (e ∷ es) t =
@@ -32,13 +32,13 @@ following-parts is_below a c b p f =
 
 -- At the entry behind the child that the bound finds, the next key is that of the entries behind it, or else the key given.
 module _ {N : ℕ} (nodes : Arena (Node N)) (least height slot : ℕ) (is_below : ℕ → Bool) (child : ℕ)
-    (f : IsFound nodes least height slot is_below child) (header : Node N) (es : List Entry) (index : ℕ) (key next : Option ℕ)
+    (f : IsFound nodes least height slot is_below child) (header : Node N) (es : List NodeEntry) (index : ℕ) (key next : Option ℕ)
     (h : header_at nodes slot ≡ Some header) (e : es ≡ entries_of header) (i : index ≡ index_in is_below es)
     (n : next ≡ first_key key (map item_of (drop (index + 1) es))) where
-  abbrev all : List Entry
+  abbrev all : List NodeEntry
   all = entries_at nodes slot
 
-  abbrev below : List Entry → List Item
+  abbrev below : List NodeEntry → List Item
   below = flat_map (λ e. items_in nodes (height - 1) e.child)
 
   abbrev later : List Item

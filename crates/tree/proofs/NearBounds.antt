@@ -5,7 +5,7 @@ use Rattle.std.specs.List.{All, AllZip}
 use Rattle.std.proofs.lemmas.List.{take-take}
 use Rattle.std.proofs.lemmas.List.Elements.{All-nil, All-cons}
 use Rattle.keys.specs.Key.{IsBytes}
-use Rattle.tree.specs.declared.entry.Entry.{Entry}
+use Rattle.tree.specs.declared.entry.NodeEntry.{NodeEntry}
 use Rattle.tree.proofs.HeadChanges.{target_beside}
 use Rattle.tree.specs.Heads.{KeyBytes, HaveCommonPrefix, IsCommonPrefixAt, KeyHeads, HasPrefix, IsHeadBeside, IsTargetHead}
 use Rattle.tree.specs.Node.{keys_of}
@@ -17,10 +17,10 @@ pub fewer_equal : (fewer n : ℕ) (a b : List ℕ) → fewer ≤ n → take n a 
 fewer_equal fewer n a b le same = sym (take-take fewer n a le) ∙ ap (take fewer) same ∙ take-take fewer n b le
 
 -- The first key of a leaf and what another bound looks for begin alike as far as it is known.
-pub common_prefix_near : (bytes hint : KeyBytes) (is_below : ℕ → Bool) (target other : List ℕ) (es : List Entry)
+pub common_prefix_near : (bytes hint : KeyBytes) (is_below : ℕ → Bool) (target other : List ℕ) (es : List NodeEntry)
     (known : Option ℕ) (n : ℕ) → IsCommonPrefixAt bytes is_below target known es 0 → n ≤ unwrap_or known 0
     → take n other ≡ take n target → ((key : ℕ) → hint key ≡ bytes key)
-    → (e : Entry) (text : List ℕ) → slice_get es 0 ≡ Some e → hint e.key ≡ Some text → HaveCommonPrefix n text other
+    → (e : NodeEntry) (text : List ℕ) → slice_get es 0 ≡ Some e → hint e.key ≡ Some text → HaveCommonPrefix n text other
 common_prefix_near bytes hint is_below target other es None n knows most have_prefix same e text is there count within few =
     let none : count ≡ 0 = omega arith in rw none refl
 common_prefix_near bytes hint is_below target other es (Some known) n knows most have_prefix same e text is there count within few =
@@ -55,19 +55,19 @@ key_beside bytes hint key_heads own (Some head) same for some key is are_bytes =
     (λ text there. same_head bytes hint key_heads text own same (cc (is, there)) head for)
 
 -- what holds of both keys holds of those of the entries that are put in
-pub both_put : (P : ℕ → Type 0) (ended : Bool) (first second : Entry) → P first.key → P second.key
+pub both_put : (P : ℕ → Type 0) (ended : Bool) (first second : NodeEntry) → P first.key → P second.key
     → All P (keys_of (entries_put ended first second))
 both_put P true first second p q = All-cons P first.key [] p (All-nil P)
 both_put P false first second p q = All-cons P first.key (second.key ∷ []) p (All-cons P second.key [] q (All-nil P))
 
 -- what holds of both keys and their heads holds of as many heads as entries are put in
-pub both_zipped : (R : ℕ → ℕ → Type 0) (ended : Bool) (first second : Entry) (one other : ℕ) → R first.key one
+pub both_zipped : (R : ℕ → ℕ → Type 0) (ended : Bool) (first second : NodeEntry) (one other : ℕ) → R first.key one
     → R second.key other → AllZip R (keys_of (entries_put ended first second))
     (take (length (entries_put ended first second)) (one ∷ other ∷ []))
 both_zipped R true first second one other p q = (p, tt)
 both_zipped R false first second one other p q = (p, (q, tt))
 
 -- no more are below the first bound than the second
-pub no_more : (p q : ℕ → Bool) → ((key : ℕ) → p key ≡ true → q key ≡ true) → (es : List Entry)
+pub no_more : (p q : ℕ → Bool) → ((key : ℕ) → p key ≡ true → q key ≡ true) → (es : List NodeEntry)
     → length (filter (λ e. p e.key) es) ≤ length (filter (λ e. q e.key) es)
-no_more p q nested es = fewer_before _ _ (λ (e : Entry). nested e.key) es
+no_more p q nested es = fewer_before _ _ (λ (e : NodeEntry). nested e.key) es

@@ -3,7 +3,7 @@ use Rattle.std.proofs.Common.{◌≡◌, ◌≢◌, ℕ, ◌≤◌, inl, inr, Bo
 use Rattle.std.proofs.Common.{[], ◌∷◌, ◌++◌, None, length, filter, IsTrue}
 use Rattle.std.proofs.Common.{map, refl, ap, arith}
 use Rattle.std.proofs.lemmas.Bool.{cases_Bool}
-use Rattle.tree.specs.declared.entry.Entry.{Entry}
+use Rattle.tree.specs.declared.entry.NodeEntry.{NodeEntry}
 use Rattle.tree.specs.Item.{Item, item_of}
 use Rattle.tree.specs.Overwrite.{first_is_below}
 use Rattle.tree.specs.Path.{IsPartitioned, items_below, following, first_key}
@@ -11,14 +11,14 @@ use Rattle.tree.specs.Tree.{ended_by}
 use Rattle.tree.proofs.callers.Partitions.{not_both, none_pass, rest_fails}
 
 -- the entries that are put in
-abbrev pub entries_put : Bool → Entry → Entry → List Entry
+abbrev pub entries_put : Bool → NodeEntry → NodeEntry → List NodeEntry
 entries_put ended first second = first ∷ (if ended then [] else second ∷ [])
 
-pub at_most_two : (ended : Bool) (first second : Entry) → length (entries_put ended first second) ≤ 2
+pub at_most_two : (ended : Bool) (first second : NodeEntry) → length (entries_put ended first second) ≤ 2
 at_most_two true first second = omega arith
 at_most_two false first second = omega arith
 
-pub items_put : (ended : Bool) (first second : Entry) (x : Item) (others : List Item) → item_of second ≡ x
+pub items_put : (ended : Bool) (first second : NodeEntry) (x : Item) (others : List Item) → item_of second ≡ x
     → map item_of (entries_put ended first second) ++ others ≡ item_of first ∷ (ended_by ended x ++ others)
 items_put true first second x others is = refl
 items_put false first second x others is = ap (λ y. item_of first ∷ (y ∷ others)) is

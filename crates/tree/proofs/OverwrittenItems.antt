@@ -2,13 +2,13 @@
 use Rattle.std.proofs.Common.{◌≡◌, ◌≢◌, ℕ, ℤ, ◌+◌, ◌≤◌, Bool, true, false, List, [], ◌∷◌, ◌++◌, Option, Some, None, IsTrue, length, refl, unwrap_or, ap, arith, length-append}
 use Rattle.std.proofs.lemmas.Bool.{cases_Bool}
 use Rattle.std.proofs.lemmas.List.{nil_from_length}
-use Rattle.tree.proofs.Words.{Written, Partly, Entirely, Item, Overwrites, first_is_below, put_of, IsPartitioned, items_below, following, between, first_key, ended_by}
+use Rattle.tree.proofs.Words.{OverwriteResult, Partly, Entirely, Item, Overwrites, first_is_below, put_of, IsPartitioned, items_below, following, between, first_key, ended_by}
 use Rattle.tree.proofs.callers.Partitions.{IsPartitioned-parts}
 use Rattle.tree.proofs.Inserting.{ended_some}
 use Rattle.tree.proofs.Overwriting.{between_is, first_describes}
 
 -- two at most
-pub put_most : (written : Written) → put_of written ≤ 2
+pub put_most : (written : OverwriteResult) → put_of written ≤ 2
 put_most (Partly last) = omega arith
 put_most (Entirely true) = omega arith
 put_most (Entirely false) = omega arith
@@ -26,7 +26,7 @@ module _ (p q r : ℕ → Bool) (nested : (key : ℕ) → p key ≡ true → q k
   length-between (x ∷ items) = grind (arith, length-between items, nested x.key, cases_Bool (p x.key), cases_Bool (q x.key))
 
   -- as many more are there as were put in place of the run, and one at least
-  pub length-overwritten : (first : Item) (second : ℕ) (given : Option ℤ) (written : Written) (run was now : List Item)
+  pub length-overwritten : (first : Item) (second : ℕ) (given : Option ℤ) (written : OverwriteResult) (run was now : List Item)
       → items_below q was ≢ [] → Overwrites p q r first second given written run was now
       → (length now + length run ≡ length was + put_of written) × (1 ≤ length now)
   length-overwritten first second given (Entirely ended) run was now some h =

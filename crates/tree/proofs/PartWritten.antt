@@ -3,8 +3,8 @@ use Rattle.std.proofs.Common.{◌≡◌, ◌≢◌, ℕ, ℤ, inl, inr, Bool, tr
 use Rattle.std.proofs.Common.{ap, All, refl, sym, ◌∙◌, append_assoc, append-nil}
 use Rattle.std.proofs.lemmas.List.{same_from_push}
 use Rattle.std.proofs.lemmas.List.Elements.{All-nil, All-filter, filter-append}
-use Rattle.tree.specs.declared.overwrite.Written.{Written}
-use Rattle.tree.specs.declared.overwrite.Written.TheVariants.{Partly, Entirely}
+use Rattle.tree.specs.declared.overwrite.OverwriteResult.{OverwriteResult}
+use Rattle.tree.specs.declared.overwrite.OverwriteResult.TheVariants.{Partly, Entirely}
 use Rattle.tree.specs.Item.{Item}
 use Rattle.tree.specs.Overwrite.{IsOverwritten, GivesPart, GivesWritten, OverwritesPart, Overwrites}
 use Rattle.tree.specs.Path.{IsPartitioned, items_below, following, between}
@@ -97,7 +97,7 @@ module _ (p q : ℕ → Bool) (nested : (key : ℕ) → p key ≡ true → q key
 
 -- What becomes of all items where those of one leaf are written over.
 pub overwritten : (p q r : ℕ → Bool) (nested : (key : ℕ) → p key ≡ true → q key ≡ true)
-    (first : Item) (second : ℕ) (given : Option ℤ) (written : Written) (run was now : List Item)
+    (first : Item) (second : ℕ) (given : Option ℤ) (written : OverwriteResult) (run was now : List Item)
     → IsChangedWithin q (GivesWritten p q r first second given written run) true None was now
     → IsPartitioned (λ x. p x.key) was → IsPartitioned (λ x. q x.key) was → IsPartitioned (λ x. r x.key) was
     → items_below q was ≢ [] → Overwrites p q r first second given written run was now

@@ -2,7 +2,7 @@
 use Rattle.std.proofs.Common.{◌≡◌, ℕ, zero, suc, ◌+◌, ◌-◌, ◌<◌, ◌≤◌, Bool, true, false, List, [], ◌∷◌, ◌++◌, Option, Some, IsTrue, ◌↔◌, length, get_or, slice_get, drop, filter, flat_map, map, All, refl, ◌∙◌, ap, inl, inr, arith, append-nil, append_assoc, ℤ, ◌<ℤ◌, ◌≤ℤ◌, slice_range, Any}
 use Rattle.std.proofs.lemmas.List.{length-map}
 use Rattle.std.proofs.lemmas.List.Elements.{All-drop, All-filter, All-nil}
-use Rattle.tree.proofs.Words.{Arena, Entry, Node, Item, Describes, item_of, IsPartitioned, from_last, IsAnswer, items_in}
+use Rattle.tree.proofs.Words.{Arena, NodeEntry, Node, Item, Describes, item_of, IsPartitioned, from_last, IsAnswer, items_in}
 use Rattle.tree.proofs.Above.{IsAbove, leaf_above, not_above}
 use Rattle.tree.proofs.callers.Partitions.{All-front, none_pass, none_fail, IsPartitioned-parts, rest_fails}
 use Rattle.tree.proofs.FromLast.{from_last_of, from_last_part}
@@ -12,7 +12,7 @@ use Rattle.tree.proofs.Looks.{IsLook, around_child, leaf_from_last}
 use Rattle.tree.proofs.AnsweredKeys.{some_answered}
 
 -- Where the entry's version isn't above it, no item's is.
-none_answered : (v : ℤ) (e : Entry) (items : List Item) → Describes e items → e.version ≤ℤ v → (p q : Item → Bool)
+none_answered : (v : ℤ) (e : NodeEntry) (items : List Item) → Describes e items → e.version ≤ℤ v → (p q : Item → Bool)
     → IsAbove v (from_last_of p q items) → ⊥
 none_answered v e items t le p q a =
     let passed = All-filter q (Bounds e.version) items t.greatest.bound in
@@ -29,8 +29,8 @@ Clears q clear next back =
     → AllFail q (back ++ after)
 
 -- No item of these children passes if the first entry doesn't. Where there is none, it is told of the items behind them.
-pub clears_after : (q : ℕ → Bool) (below : Entry → List Item) (es : List Entry) (i : ℕ) (clear next : Bool)
-    → All (λ e. Describes e (below e)) es → (IsTrue next → (e : Entry) → slice_get es i ≡ Some e → q e.key ≡ false)
+pub clears_after : (q : ℕ → Bool) (below : NodeEntry → List Item) (es : List NodeEntry) (i : ℕ) (clear next : Bool)
+    → All (λ e. Describes e (below e)) es → (IsTrue next → (e : NodeEntry) → slice_get es i ≡ Some e → q e.key ≡ false)
     → (IsTrue next → length es ≤ i → IsTrue clear) → Clears q clear next (flat_map below (drop i es))
 clears_after q below [] zero clear next describe fails last after k partitioned t = k (last t (omega arith))
 clears_after q below [] (suc i) clear next describe fails last after k partitioned t = k (last t (omega arith))
@@ -76,14 +76,14 @@ module _ (p q : ℕ → Bool) (v : ℤ) (n : (key : ℕ) → p key ≡ true → 
       rw append-nil at (answered [] [] (λ _. All-nil (λ (x : Item). q x.key ≡ false)) (rw append-nil c) (rw append-nil d))
 
   -- what an entry tells whose version isn't above it
-  pub answered_by_entry : (e : Entry) (part : List Item) (clear : Bool) → Describes e part → p e.key ≡ true → clear ≡ true
+  pub answered_by_entry : (e : NodeEntry) (part : List Item) (clear : Bool) → Describes e part → p e.key ≡ true → clear ≡ true
       → e.version ≤ℤ v → IsAnswer p q v clear part (Some false)
   answered_by_entry e part clear t is_below c le =
       answered_part part clear false (some_answered p e part t is_below) (λ after k d. k c)
       ((λ yes. absurd (cc)), (λ above. absurd (none_answered v e part t le (λ x. p x.key) (λ x. q x.key) above)))
 
 -- below a node
-module _ {N : ℕ} (nodes : Arena (Node N)) (least height slot : ℕ) (p q : ℕ → Bool) (es : List Entry)
+module _ {N : ℕ} (nodes : Arena (Node N)) (least height slot : ℕ) (p q : ℕ → Bool) (es : List NodeEntry)
     (begin end : ℕ) (k : IsLook nodes least height slot p q es begin end) (v : ℤ) (clear : Bool) where
   -- what the entries of a leaf tell
   pub answered_by_leaf : (b : Bool) → height ≡ 0 → 1 ≤ begin → (end ≡ length es → clear ≡ true)
@@ -103,14 +103,14 @@ module _ {N : ℕ} (nodes : Arena (Node N)) (least height slot : ℕ) (p q : ℕ
       (rw at at (leaf_from_last nodes least height slot p q es begin end k z (begin - 1) refl)) answer))
     where
       counts : (f : ℕ → Bool) → length (filter (λ x. f x.key) (map item_of es)) ≡ length (filter (λ e. f e.key) es)
-      counts f = ap length (filter-items (λ (x : Item). f x.key) es) ∙ length-map (filter (λ (e : Entry). f e.key) es) item_of
+      counts f = ap length (filter-items (λ (x : Item). f x.key) es) ∙ length-map (filter (λ (e : NodeEntry). f e.key) es) item_of
 
   -- What is told of the items of a child is told of those of the node.
-  pub answered_by_child : (height ≡ 0 → ⊥) → (i : ℕ) (e : Entry) → i < length es → e ≡ get_or es i e → (next : Bool)
+  pub answered_by_child : (height ≡ 0 → ⊥) → (i : ℕ) (e : NodeEntry) → i < length es → e ≡ get_or es i e → (next : Bool)
       (result : Option Bool) → Clears q clear next (flat_map (λ e. items_in nodes (height - 1) e.child) (drop (i + 1) es))
       → IsAnswer p q v next (items_in nodes (height - 1) e.child) result
       → IsAnswer p q v clear (items_in nodes height slot) result
   answered_by_child some i e inside is next result =
-      let below = λ (e : Entry). items_in nodes (height - 1) e.child in
+      let below = λ (e : NodeEntry). items_in nodes (height - 1) e.child in
       answered_wider p q v k.nested _ _ (below e) _ clear next result
       (around_child nodes least height slot p q es begin end k some i e inside is)

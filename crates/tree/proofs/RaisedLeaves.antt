@@ -7,9 +7,9 @@ use Rattle.std.proofs.lemmas.List.Elements.{All-append, All-cons}
 use Rattle.std.proofs.lemmas.Option.{slice_get-get_or}
 use Rattle.keys.proofs.callers.SomeElement.{Any-first, Any-later}
 use Rattle.arena.specs.Arena.{Arena}
-use Rattle.tree.specs.declared.entry.Entry.{Entry}
+use Rattle.tree.specs.declared.entry.NodeEntry.{NodeEntry}
 use Rattle.tree.specs.declared.node.Node.{Node}
-use Rattle.tree.specs.declared.walk.Outcome.TheVariants.{Raised}
+use Rattle.tree.specs.declared.walk.LeafOutcome.TheVariants.{Raised}
 use Rattle.tree.specs.declared.walk.RaisedLeaf.{RaisedLeaf}
 use Rattle.tree.specs.Heads.{KeyBytes}
 use Rattle.tree.specs.Item.{Item, Describes}
@@ -76,7 +76,7 @@ some_passes p (x ∷ xs) some = elim (cases_Bool (p x)) [
 module _ {N : ℕ} {a : Arena (Node N)} {height lower slot i x : ℕ} (at : IsAt a height lower slot i x) (leaf : RaisedLeaf)
     {bytes : KeyBytes} {b : Arena (Node N)} (put : IsChanged bytes a b lower x (Raised leaf))
     (answered : (here at).version ≡ leaf.version) where
-  abbrev es : List Entry
+  abbrev es : List NodeEntry
   es = entries_at a slot
 
   read : entries_at b slot ≡ es
@@ -139,7 +139,7 @@ module _ {N : ℕ} {a : Arena (Node N)} (leaf : RaisedLeaf) where
     few = once_if_distinct _ can.distinct;
     within = within;
     d = d;
-    x_is = ap (λ (e : Entry). e.child) (sym is);
+    x_is = ap (λ (e : NodeEntry). e.child) (sym is);
   }
 
   -- The leaf's items are a part of those of the subtree.
@@ -173,7 +173,7 @@ module _ {N : ℕ} {a : Arena (Node N)} (leaf : RaisedLeaf) where
     written (suc lower) slot can h =
         let at = at_raised lower slot can h in
         let w = written lower h.1.child (child_can at) h.4.1 in
-        let answered = ap (λ (e : Entry). e.version) (get_or_default (entries_at a slot) h.0 at.d h.1 at.within ∙ h.3) ∙ h.4.0 in
+        let answered = ap (λ (e : NodeEntry). e.version) (get_or_default (entries_at a slot) h.0 at.d h.1 at.within ∙ h.3) ∙ h.4.0 in
         record {
           changed = changed_kept at leaf w.changed answered;
           before = items_of a lower (take h.0 (entries_at a slot)) ++ w.before;

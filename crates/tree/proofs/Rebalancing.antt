@@ -3,7 +3,7 @@ use Rattle.std.proofs.Common.{◌≡◌, ◌≢◌, inl, inr, ℕ, ◌+◌, ◌-
 use Rattle.std.proofs.lemmas.List.Elements.{All-nil, All-cons, All-take, All-drop}
 use Rattle.std.proofs.lemmas.List.{take-take, drop-drop, get_or-take, get_or-drop, length-take, length-drop}
 use Rattle.arena.specs.Arena.{Arena, IsLive}
-use Rattle.tree.specs.declared.entry.Entry.{Entry}
+use Rattle.tree.specs.declared.entry.NodeEntry.{NodeEntry}
 use Rattle.tree.specs.declared.node.Node.{Node}
 use Rattle.tree.specs.Item.{Describes}
 use Rattle.tree.specs.Subtree.{entries_at, items_in, slots_in, IsSubtree}
@@ -14,7 +14,7 @@ use Rattle.tree.proofs.Changing.{moves_same}
 use Rattle.tree.proofs.Sharing.{child_is, around_one, around_two, middle_once, rebalanced}
 
 module _ {N : ℕ} where
-  pub right_child : (b : Arena (Node N)) (least height x : ℕ) (t : Entry) → t.child ≡ x → least ≤ length (entries_at b x)
+  pub right_child : (b : Arena (Node N)) (least height x : ℕ) (t : NodeEntry) → t.child ≡ x → least ≤ length (entries_at b x)
       → IsSubtree b least height x → Describes t (items_in b height x) → IsRight b least height t
   right_child b least height x t e filled subtree describes =
       let answered = subst (λ z. Describes t (items_in b height z)) (sym e) describes in
@@ -24,7 +24,7 @@ module _ {N : ℕ} where
   live_subtree a least height slot h = live_in a least height slot h slot (own_slot a height slot)
 
   -- two neighbours of a family
-  pub apart_pair : (a : Arena (Node N)) (least height : ℕ) (es : List Entry) (i : ℕ) (d e : Entry) → i + 1 < length es
+  pub apart_pair : (a : Arena (Node N)) (least height : ℕ) (es : List NodeEntry) (i : ℕ) (d e : NodeEntry) → i + 1 < length es
       → IsFamily a least height es i (i + 2) → (get_or es i d).child ≢ (get_or es (i + 1) e).child
   apart_pair a least height es i d e within family same =
       let x = (get_or es i d).child in
@@ -36,7 +36,7 @@ module _ {N : ℕ} where
       absurd (omega (arith, few, parts, other, own_slot a height x, times-append x (slots_in a height y) []))
 
   -- the entry of a changed child is made right, and no node is changed
-  pub rebalanced_by_entry : (a : Arena (Node N)) (least height : ℕ) (was now : List Entry) (i x : ℕ) (d t : Entry)
+  pub rebalanced_by_entry : (a : Arena (Node N)) (least height : ℕ) (was now : List NodeEntry) (i x : ℕ) (d t : NodeEntry)
       → i < length was → x ≡ (get_or was i d).child → IsFamily a least height was i (i + 1) → IsKeyless a → t.child ≡ x
       → (IsSubtree a least height x → Describes t (items_in a height x)) → least ≤ length (entries_at a x)
       → now ≡ take i was ++ (t ∷ [] ++ drop (i + 1) was) → IsRebalanced a a least height was now
@@ -52,7 +52,7 @@ module _ {N : ℕ} where
       (λ s. ap (times s) same) (ap length same))
 
   module _ (a : Arena (Node N)) (least height slot i j : ℕ) (at : IsFamilyAt a least height slot i (i + 1)) (j_is : j ≡ i - 1) where
-    abbrev es : List Entry
+    abbrev es : List NodeEntry
     es = entries_at a slot
 
     -- a child and a neighbour
@@ -71,7 +71,7 @@ module _ {N : ℕ} where
         }
 
     -- one of the two is filled
-    pub filled_pair : (d : Entry) → i < length es → 2 ≤ length es
+    pub filled_pair : (d : NodeEntry) → i < length es → 2 ≤ length es
         → least ≤ length (entries_at a (child_at es j)) + length (entries_at a (child_at es (j + 1)))
     filled_pair d within several =
         let count : ℕ → ℕ = λ z. length (entries_at a z) in elim (none_or_some i) [

@@ -1,7 +1,7 @@
 -- The entries of a node once a child was changed or split.
 use Rattle.std.proofs.Common.{◌≡◌, ℕ, ◌+◌, ◌≤◌, List, [], ◌∷◌, length, take, drop, arith}
 use Rattle.std.proofs.lemmas.List.Elements.{All-nil, All-cons, All-take, All-drop}
-use Rattle.tree.proofs.Words.{Arena, Entry, Node, Describes, entries_at, items_in, slots_in, IsSubtree, slots_of, AreChildren, least_of}
+use Rattle.tree.proofs.Words.{Arena, NodeEntry, Node, Describes, entries_at, items_in, slots_in, IsSubtree, slots_of, AreChildren, least_of}
 use Rattle.tree.proofs.Frames.{IsRight}
 use Rattle.tree.proofs.Changing.{Moves}
 use Rattle.tree.proofs.Families.{Loose, loose}
@@ -10,7 +10,7 @@ use Rattle.tree.proofs.Stepping.{IsAt, here, split, one_slots}
 
 module _ {N : ℕ} where
   -- Two entries that lead to these slots are right.
-  pub both_right : (b : Arena (Node N)) (least height x y : ℕ) (t u : Entry) → t.child ≡ x → u.child ≡ y
+  pub both_right : (b : Arena (Node N)) (least height x y : ℕ) (t u : NodeEntry) → t.child ≡ x → u.child ≡ y
       → IsSubtree b least height x → IsSubtree b least height y
       → (least ≤ length (entries_at b x)) × (least ≤ length (entries_at b y))
       → ((height least : ℕ) → IsSubtree b least height x → Describes t (items_in b height x))
@@ -23,7 +23,7 @@ module _ {N : ℕ} where
       All-cons Right t (u ∷ []) first (All-cons Right u [] second (All-nil Right))
 
   -- Others stand in place of the child's entry.
-  pub loose_at : {a b : Arena (Node N)} {height lower slot i x : ℕ} (at : IsAt a height lower slot i x) (new : List Entry) → Moves a b (slots_in a lower x) (slots_of b lower new)
+  pub loose_at : {a b : Arena (Node N)} {height lower slot i x : ℕ} (at : IsAt a height lower slot i x) (new : List NodeEntry) → Moves a b (slots_in a lower x) (slots_of b lower new)
       → Loose a b (least_of N) lower (take i (entries_at a slot)) (here at ∷ []) (drop (i + 1) (entries_at a slot)) new
   loose_at {a} {b} {height} {lower} {slot} {i} at new moves =
       let Right = IsRight a (least_of N) lower in

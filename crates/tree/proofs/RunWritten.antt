@@ -2,7 +2,7 @@
 use Rattle.std.proofs.Common.{◌≡◌, ◌⊎◌, inl, inr, ℕ, ℤ, ◌+◌, ◌-◌, ◌≤◌, Bool, true, List, [], ◌∷◌, ◌++◌, Option, length, get_or, take, drop, filter, map, IsTrue, unwrap_or, sym, ap, ◌∙◌, arith}
 use Rattle.std.specs.Prelude.{slice_range}
 use Rattle.std.proofs.lemmas.List.{drop-take, map-append, same_from_push, take_more}
-use Rattle.tree.specs.declared.entry.Entry.{Entry}
+use Rattle.tree.specs.declared.entry.NodeEntry.{NodeEntry}
 use Rattle.tree.specs.Item.{Item, item_of}
 use Rattle.tree.specs.Overwrite.{GivesEntire, first_is_below}
 use Rattle.tree.specs.Path.{IsPartitioned, items_below, following, first_key}
@@ -10,7 +10,7 @@ use Rattle.tree.specs.Tree.{IsLast, ended_by}
 use Rattle.tree.proofs.WrittenLeaf.{some_item, items_parted, between_entries}
 
 -- What stands between the bounds is taken out, and the new items come in its place.
-pub entire_run : (p q r : ℕ → Bool) → ((key : ℕ) → p key ≡ true → q key ≡ true) → (es : List Entry) (begin end : ℕ)
+pub entire_run : (p q r : ℕ → Bool) → ((key : ℕ) → p key ≡ true → q key ≡ true) → (es : List NodeEntry) (begin end : ℕ)
     → IsPartitioned (λ e. p e.key) es → IsPartitioned (λ e. q e.key) es → begin ≤ length es
     → begin ≡ length (filter (λ e. p e.key) es) → end ≡ length (filter (λ e. q e.key) es)
     → (first : Item) (second : ℕ) (given : Option ℤ) (ended is_first : Bool) (next : Option ℕ) (run now : List Item)
@@ -35,7 +35,7 @@ entire_run p q r nested es begin end first_bound second_bound within begins ends
     }
 
 -- The last entry before the bound, as it was read, has the version of the last such item.
-pub last_read : (q : ℕ → Bool) (es : List Entry) (end : ℕ) (d : Entry) → IsPartitioned (λ e. q e.key) es
+pub last_read : (q : ℕ → Bool) (es : List NodeEntry) (end : ℕ) (d : NodeEntry) → IsPartitioned (λ e. q e.key) es
     → end ≡ length (filter (λ e. q e.key) es) → 1 ≤ end → end ≤ length es → (x : Item) → IsLast x (items_below q (map item_of es))
     → (get_or es (end - 1) d).version ≡ x.version
 last_read q es end d partitioned ends some within x last =
@@ -47,7 +47,7 @@ last_read q es end d partitioned ends some within x last =
     (same_from_push (map item_of (take (end - 1) es)) last.0 (item_of (get_or es (end - 1) d)) x (sym is ∙ last.1)).1
 
 -- the items that are taken out
-pub taken_out : {taken out : List Entry} (now es : List Entry) (begin end : ℕ) → now ≡ taken ++ slice_range out begin end
+pub taken_out : {taken out : List NodeEntry} (now es : List NodeEntry) (begin end : ℕ) → now ≡ taken ++ slice_range out begin end
     → taken ≡ [] → out ≡ es → begin ≤ end → map item_of now ≡ map item_of (drop begin (take end es))
 taken_out now es begin end put none same in_order =
     let all : begin + (end - begin) ≡ end = omega arith in

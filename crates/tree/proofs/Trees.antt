@@ -4,7 +4,7 @@ use Rattle.std.specs.FinMap as finite
 use Rattle.std.specs.Ordering.{nat_cmp}
 use Rattle.std.proofs.Math.Nat.{mul-le-mul_left}
 use Rattle.arena.specs.Arena.{Arena, Record, record_at, spare_of}
-use Rattle.tree.specs.declared.entry.Entry.{Entry}
+use Rattle.tree.specs.declared.entry.NodeEntry.{NodeEntry}
 use Rattle.tree.specs.declared.node.Node.{Node}
 use Rattle.tree.specs.declared.walk.RaisedLeaf.{RaisedLeaf}
 use Rattle.tree.specs.Node.{entries_of}
@@ -21,7 +21,7 @@ enough_nodes k room total some many = omega (arith, mul-le-mul_left k many)
 
 module _ {N : ℕ} where
   -- a tree of a single node of one entry, placed in an arena without records
-  pub tree_of_one : (a b : Arena (Node N)) (slot : ℕ) (node : Node N) (e : Entry) → 4 ≤ N → N ≤ 65536
+  pub tree_of_one : (a b : Arena (Node N)) (slot : ℕ) (node : Node N) (e : NodeEntry) → 4 ≤ N → N ≤ 65536
       → a.records ≡ finite.empty → longest_path + 1 ≤ spare_of a 0 → record_at a slot ≡ None
       → b.records ≡ finite.insert a.records slot (record { header = node; key = [] })
       → record_at b slot ≡ Some (record { header = node; key = [] })

@@ -5,10 +5,10 @@ use Rattle.std.proofs.lemmas.List.{get_or-set_same, length-drop, length-set, len
 use Rattle.std.proofs.lemmas.List.Elements.{All-append, All-cons, All-nil}
 use Rattle.std.proofs.lemmas.Option.{slice_get-get_or}
 use Rattle.arena.specs.Arena.{Arena, record_at}
-use Rattle.tree.specs.declared.entry.Entry.{Entry}
+use Rattle.tree.specs.declared.entry.NodeEntry.{NodeEntry}
 use Rattle.tree.specs.declared.node.Node.{Node}
-use Rattle.tree.specs.declared.walk.Outcome.{Outcome}
-use Rattle.tree.specs.declared.walk.Outcome.TheVariants.{Same, Raised, Split}
+use Rattle.tree.specs.declared.walk.LeafOutcome.{LeafOutcome}
+use Rattle.tree.specs.declared.walk.LeafOutcome.TheVariants.{Same, Raised, Split}
 use Rattle.tree.specs.declared.walk.RaisedLeaf.{RaisedLeaf}
 use Rattle.tree.specs.Heads.{KeyBytes}
 use Rattle.tree.specs.Item.{Item}
@@ -54,11 +54,11 @@ both_filled n w slot None few half = tt
 both_filled n w slot (Some s) few half = (omega (arith, half.left), omega (arith, half.right))
 
 module _ {N : ℕ} {a : Arena (Node N)} {height lower slot i x : ℕ} (at : IsAt a height lower slot i x) where
-  abbrev es : List Entry
+  abbrev es : List NodeEntry
   es = entries_at a slot
 
   -- The child was changed, and wasn't split.
-  module _ {bytes : KeyBytes} {b : Arena (Node N)} {outcome : Outcome} (put : IsChanged bytes a b lower x outcome)
+  module _ {bytes : KeyBytes} {b : Arena (Node N)} {outcome : LeafOutcome} (put : IsChanged bytes a b lower x outcome)
       (entire : added_by outcome ≡ None) where
     moves : Moves a b (slots_in a lower x) (slots_in b lower x)
     moves = moves_if_changes a b _ _ (subst (λ o. Changes a b (slots_in a lower x) (slots_with b lower x o)) entire put.changes)
@@ -71,7 +71,7 @@ module _ {N : ℕ} {a : Arena (Node N)} {height lower slot i x : ℕ} (at : IsAt
 
     pub family : IsFamilyAt b (least_of N) lower slot i (i + 1)
     family =
-        let Below = λ (e : Entry). IsSubtree b (least_of N) lower e.child in
+        let Below = λ (e : NodeEntry). IsSubtree b (least_of N) lower e.child in
         let all = All-append Below (take i es) (here at ∷ [] ++ drop (i + 1) es) (below_of b _ lower _ loosened.front)
         (All-cons Below (here at) (drop (i + 1) es) (rw at.x_is at put.subtree) (below_of b _ lower _ loosened.back)) in
         let loose : IsFamily b (least_of N) lower es i (i + 1) = record {
@@ -150,7 +150,7 @@ module _ {N : ℕ} {a : Arena (Node N)} {height lower slot i x : ℕ} (at : IsAt
       }
 
       -- Whatever is told of the node, but that it stayed: that an item came into a leaf only where that is told of the child, too.
-      pub changed_above : (answered : Outcome) → added_by answered ≡ None → (answered ≡ Same → ⊥)
+      pub changed_above : (answered : LeafOutcome) → added_by answered ≡ None → (answered ≡ Same → ⊥)
           → ((leaf : RaisedLeaf) → answered ≡ Raised leaf → (outcome ≡ Raised leaf)
           × ((length (entries_at b slot) ≤ length (entries_at w slot)) × IsRaisedIn w leaf (suc lower) slot))
           → LosesOneAtMost bytes b w (entries_at b slot) (entries_at w slot) → IsChanged bytes a w height slot answered
@@ -194,7 +194,7 @@ module _ {N : ℕ} {a : Arena (Node N)} {height lower slot i x : ℕ} (at : IsAt
         }
 
     -- The node was linked to both parts.
-    module _ {w : Arena (Node N)} (outcome : Outcome)
+    module _ {w : Arena (Node N)} (outcome : LeafOutcome)
         (linked : IsLinked b (child_at (entries_at b slot) i) s (take i (entries_at b slot))
         (drop (i + 1) (entries_at b slot)) (entries_at_both w slot (added_by outcome)))
         (stored_at : IsStored bytes b w slot (added_by outcome)) where

@@ -8,7 +8,7 @@ use Rattle.std.proofs.lemmas.List.{get_or_default}
 use Rattle.std.proofs.lemmas.Option.{get_or_from_slice_get}
 use Rattle.arena.specs.Arena.{Arena}
 use Rattle.keys.proofs.callers.SomeElement.{Any-first, Any-left, Any-none, Any-parts, Any-right}
-use Rattle.tree.specs.declared.entry.Entry.{Entry}
+use Rattle.tree.specs.declared.entry.NodeEntry.{NodeEntry}
 use Rattle.tree.specs.declared.node.Node.{Node}
 use Rattle.tree.specs.Item.{Item, Describes, item_of}
 use Rattle.tree.specs.Path.{IsPartitioned, first_key, index_in}
@@ -52,7 +52,7 @@ first_if below is_first i both one = (
 )
 
 -- The entry that told the items tells what they are now, once it has the version of what came in, unless it has a greater one.
-describes_raised : (e : Entry) (version : ℤ) (was now : List Item) → Describes e was → IsRaised version was now
+describes_raised : (e : NodeEntry) (version : ℤ) (was now : List Item) → Describes e was → IsRaised version was now
     → e.version ≤ℤ version → Describes (record e { version = version }) now
 describes_raised e version was [] describes raised le = absurd (Any-none (λ (x : Item). x.version ≡ version) raised.there)
 describes_raised e version was (x ∷ xs) describes raised le =
@@ -75,7 +75,7 @@ describes_raised e version was (x ∷ xs) describes raised le =
     }
 
 -- No item stands before those of a child if it is the first one.
-none_at : {N : ℕ} (a : Arena (Node N)) (least lower : ℕ) (es : List Entry) (i : ℕ) → AreChildren a least lower es
+none_at : {N : ℕ} (a : Arena (Node N)) (least lower : ℕ) (es : List NodeEntry) (i : ℕ) → AreChildren a least lower es
     → i < length es → items_of a lower (take i es) ≡ [] → i ≡ 0
 none_at a least lower [] i right within none = absurd (omega (arith, within))
 none_at a least lower (e ∷ es) zero right within none = refl
@@ -85,7 +85,7 @@ none_at a least lower (e ∷ es) (suc i) right within none =
     absurd (cc (t.items_are, empty.0))
 
 module _ {N : ℕ} {a : Arena (Node N)} {height lower slot i x : ℕ} (at : IsAt a height lower slot i x) where
-  abbrev es : List Entry
+  abbrev es : List NodeEntry
   es = entries_at a slot
 
   abbrev front : List Item
@@ -107,17 +107,17 @@ module _ {N : ℕ} {a : Arena (Node N)} {height lower slot i x : ℕ} (at : IsAt
   within_at {is_below} index Gives is_first below_first key below_key now all partitioned first_is key_is all_is c =
       let Passes = λ (x : Item). is_below x.key ≡ true in
       let Fails = λ (x : Item). is_below x.key ≡ false in
-      let QuestionAnswers = λ (e : Entry). Describes e (items_in a lower e.child) in
+      let QuestionAnswers = λ (e : NodeEntry). Describes e (items_in a lower e.child) in
       let w = way a (least_of N) lower slot is_below at.subtree (rw (← at.next) at partitioned) in
       let child : x ≡ w.entry.child = x_at at ∙ ap (child_at es) index ∙ sym w.child in
-      let found : IsFoundAmong is_below front part = elim (none_or_some (length (filter (λ (e : Entry). is_below e.key) es))) [
+      let found : IsFoundAmong is_below front part = elim (none_or_some (length (filter (λ (e : NodeEntry). is_below e.key) es))) [
         | inl none ↦ (let zero_is : i ≡ 0 = omega (arith, index) in inl (ap (λ n. items_of a lower (take n es)) zero_is))
         | inr some ↦
-            let passed = index_passes (λ (e : Entry). is_below e.key) es w.entry w.entries some w.is in
+            let passed = index_passes (λ (e : NodeEntry). is_below e.key) es w.entry w.entries some w.is in
             let t = w.kept.describes in
             inr (rw (child, t.items_are) (Any-first Passes t.first t.others (rw t.key at passed)))
       ] in
-      let below_is : below_key ≡ first_key key back = key_is ∙ first_key-children (λ (e : Entry). items_in a lower e.child) key
+      let below_is : below_key ≡ first_key key back = key_is ∙ first_key-children (λ (e : NodeEntry). items_in a lower e.child) key
       (drop (i + 1) es) (All-drop QuestionAnswers (i + 1) es (λ k d within. (at.subtree.2 k d within).describes)) in
       rw (items_split at, all_is) record {
         before = front ++ c.before;

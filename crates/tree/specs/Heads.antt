@@ -3,7 +3,7 @@ use Rattle.std.specs.Prelude.{◌≡◌, ◌⊎◌, ◌≤◌, ◌↔◌, ◌/�
 use Rattle.std.specs.List.{All, AllZip, Contains}
 use Rattle.keys.specs.Key.{IsBytes, IsBefore}
 use Rattle.keys.specs.Head.{head_of}
-use Rattle.tree.specs.declared.entry.Entry.{Entry}
+use Rattle.tree.specs.declared.entry.NodeEntry.{NodeEntry}
 
 -- the bytes of keys, of those that are known
 abbrev pub KeyBytes : Type 0
@@ -67,9 +67,9 @@ IsCommonPrefix bytes is_below target known key =
     (λ common_prefix_len. (is_below key ≡ true) × ((text : List ℕ) → bytes key ≡ Some text → IsCommonPrefixLen common_prefix_len text target))
 
 -- what is known of the key of the entry at an index
-abbrev pub IsCommonPrefixAt : KeyBytes → (ℕ → Bool) → List ℕ → Option ℕ → List Entry → ℕ → Type 0
+abbrev pub IsCommonPrefixAt : KeyBytes → (ℕ → Bool) → List ℕ → Option ℕ → List NodeEntry → ℕ → Type 0
 IsCommonPrefixAt bytes is_below target known entries index =
-    (e : Entry) → slice_get entries index ≡ Some e → IsCommonPrefix bytes is_below target known e.key
+    (e : NodeEntry) → slice_get entries index ≡ Some e → IsCommonPrefix bytes is_below target known e.key
 
 -- The target begins as all keys of the node do: as one of them that is long enough, so far as the node tells.
 pub record HasPrefix (bytes : KeyBytes) (key_heads : KeyHeads) (target : List ℕ) : Type 0 where

@@ -1,9 +1,9 @@
 -- What is written over a run of items. This project's own.
 use Rattle.std.specs.Prelude.{◌≡◌, ◌≢◌, ◌⊎◌, ◌↔◌, ◌≤◌, ◌+◌, ℕ, ℤ, Bool, true, false, List, [], ◌∷◌, ◌++◌, length, Option, None, Some, unwrap_or, IsTrue}
 use Rattle.std.proofs.Common.{ap, sym, subst, ◌∙◌, append_assoc}
-use Rattle.tree.specs.declared.entry.Entry.{Entry}
-use Rattle.tree.specs.declared.overwrite.Written.{Written}
-use Rattle.tree.specs.declared.overwrite.Written.TheVariants.{Partly, Entirely}
+use Rattle.tree.specs.declared.entry.NodeEntry.{NodeEntry}
+use Rattle.tree.specs.declared.overwrite.OverwriteResult.{OverwriteResult}
+use Rattle.tree.specs.declared.overwrite.OverwriteResult.TheVariants.{Partly, Entirely}
 use Rattle.tree.specs.Heads.{AllAreHeads, KeyBytes}
 use Rattle.tree.specs.Item.{Item}
 use Rattle.tree.specs.Path.{IsPartitioned, items_below, following, between, first_key}
@@ -18,7 +18,7 @@ IsOverwritten from to first second given ended was now =
     ++ (first ∷ ended_by ended (record { key = second; version = unwrap_or given last.version }) ++ following to was)
 
 -- how many items replace the run
-abbrev pub put_of : Written → ℕ
+abbrev pub put_of : OverwriteResult → ℕ
 put_of (Partly last) = 0
 put_of (Entirely true) = 1
 put_of (Entirely false) = 2
@@ -62,7 +62,7 @@ pub record GivesPart (from to : ℕ → Bool) (last : ℤ) (run : List Item) (is
   pub some : IsTrue is_first → items_below to was ≡ []
 
 -- either of them
-abbrev pub GivesWritten : (ℕ → Bool) → (ℕ → Bool) → (ℕ → Bool) → Item → ℕ → Option ℤ → Written → List Item → Bool → Option ℕ
+abbrev pub GivesWritten : (ℕ → Bool) → (ℕ → Bool) → (ℕ → Bool) → Item → ℕ → Option ℤ → OverwriteResult → List Item → Bool → Option ℕ
     → List Item → List Item → Type 0
 GivesWritten from to past first second given (Entirely ended) run is_first next was now =
     GivesEntire from to past first second given ended run is_first next was now
@@ -70,7 +70,7 @@ GivesWritten from to past first second given (Partly last) run is_first next was
 
 -- A tree of which a run of items may be written over. Three bounds go through the items, of which one is below the second bound.
 -- There is room for two more, and none is taken out yet.
-pub record CanOverwrite (p q r : ℕ → Bool) (bytes : KeyBytes) (tree : Items) (taken : List Entry) : Type 0 where
+pub record CanOverwrite (p q r : ℕ → Bool) (bytes : KeyBytes) (tree : Items) (taken : List NodeEntry) : Type 0 where
   pub from : IsPartitioned (λ x. p x.key) tree.items
   pub to : IsPartitioned (λ x. q x.key) tree.items
   pub past : IsPartitioned (λ x. r x.key) tree.items
@@ -96,7 +96,7 @@ pub record OverwritesPart (from to : ℕ → Bool) (last : ℤ) (run was now : L
   pub first : items_below from was ++ kept ≢ []
 
 -- either of them
-abbrev pub Overwrites : (ℕ → Bool) → (ℕ → Bool) → (ℕ → Bool) → Item → ℕ → Option ℤ → Written → List Item → List Item → List Item → Type 0
+abbrev pub Overwrites : (ℕ → Bool) → (ℕ → Bool) → (ℕ → Bool) → Item → ℕ → Option ℤ → OverwriteResult → List Item → List Item → List Item → Type 0
 Overwrites from to past first second given (Entirely ended) run was now =
     OverwritesEntire from to past first second given ended run was now
 Overwrites from to past first second given (Partly last) run was now = OverwritesPart from to last run was now

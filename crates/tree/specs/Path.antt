@@ -2,7 +2,7 @@
 use Rattle.std.specs.Prelude.{◌≡◌, ◌&&◌, true, false, ◌∷◌, Option, Some, ℕ, zero, suc, ◌+◌, ◌-◌, Bool, not, List, [], ◌++◌, take, drop, filter, slice_get, option_map, unwrap_or, length}
 use Rattle.std.specs.List.{flat_map}
 use Rattle.arena.specs.Arena.{Arena}
-use Rattle.tree.specs.declared.entry.Entry.{Entry}
+use Rattle.tree.specs.declared.entry.NodeEntry.{NodeEntry}
 use Rattle.tree.specs.declared.node.Node.{Node}
 use Rattle.tree.specs.Item.{Item}
 use Rattle.tree.specs.Subtree.{entries_at, items_in}
@@ -40,11 +40,11 @@ abbrev pub from_last : (ℕ → Bool) → Option (ℕ → Bool) → List Item �
 from_last from to items = drop (length (items_below from items) - 1) (filter (λ x. below_to to x.key) items)
 
 -- the index of the last entry below the bound, or of the first one
-abbrev pub index_in : (ℕ → Bool) → List Entry → ℕ
+abbrev pub index_in : (ℕ → Bool) → List NodeEntry → ℕ
 index_in is_below entries = length (filter (λ e. is_below e.key) entries) - 1
 
 -- its child
-abbrev pub child_in : (ℕ → Bool) → List Entry → ℕ
+abbrev pub child_in : (ℕ → Bool) → List NodeEntry → ℕ
 child_in is_below entries = unwrap_or (option_map (λ e. e.child) (slice_get entries (index_in is_below entries))) 0
 
 module _ {N : ℕ} where

@@ -11,7 +11,7 @@ use Rattle.tree.specs.Heads.{KeyBytes, IsCommonPrefixAt}
 use Rattle.tree.specs.Item.{Item}
 use Rattle.tree.specs.Node.{all_heads_of}
 use Rattle.tree.specs.Path.{IsPartitioned, from_last, items_below}
-use Rattle.tree.specs.Reached.{CanReach}
+use Rattle.tree.specs.ReachedLeaf.{CanReach}
 use Rattle.tree.specs.Subtree.{entries_at, items_in}
 
 -- a subtree that a question can be asked of: both bounds go through its items, and some are below the first one

@@ -10,7 +10,7 @@ ghost use Rattle.tree.specs.Path.{index_in};
 ghost use Rattle.tree.specs.Question.{IsApproach, IsAsked};
 ghost use Rattle.tree.specs.Subtree.{entries_at};
 ghost use Rattle.tree.specs.Tree.{least_of};
-ghost use Rattle.tree.specs.declared.entry.Entry.{Entry};
+ghost use Rattle.tree.specs.declared.entry.NodeEntry.{NodeEntry};
 
 use crate::bound::Bound;
 use crate::descent::common_prefix_len_at;
@@ -127,7 +127,7 @@ fn is_clear<P: Bound, Q: Bound, const N: usize>(
         common_prefix_len from_head }
     requires within { index < length (entries_of node.now) }
     requires last_below { index ≡ index_in (P.below question.now.from) (entries_of node.now) }
-    ensures next { IsTrue result → (e : Entry)
+    ensures next { IsTrue result → (e : NodeEntry)
         → slice_get (entries_of node.now) (index + 1) ≡ Some e
         → Q.below question.now.to e.key ≡ false }
     ensures last { IsTrue result → length (entries_of node.now) ≤ index + 1 → IsTrue clear }

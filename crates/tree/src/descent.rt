@@ -4,7 +4,7 @@ ghost use Rattle.std.specs.Prelude.{◌≡◌, ◌≤◌, length};
 ghost use Rattle.arena.specs.Arena.{IsLive};
 ghost use Rattle.tree.specs.Heads.{AllAreHeads, IsCommonPrefixAt};
 ghost use Rattle.tree.specs.Node.{all_heads_of};
-ghost use Rattle.tree.specs.Reached.{CanReach};
+ghost use Rattle.tree.specs.ReachedLeaf.{CanReach};
 ghost use Rattle.tree.specs.Subtree.{entries_at};
 ghost use Rattle.tree.specs.Tree.{least_of};
 ghost use Rattle.tree.specs.Path.{leaf_in, after_leaf, first_key};
@@ -16,7 +16,7 @@ use arena::{Arena, Slot};
 
 /// The position of a search.
 #[derive(Clone, Copy, Debug)]
-pub struct Reached {
+pub struct ReachedLeaf {
     pub leaf: Slot,
     /// How many bytes the first key of the leaf and the target begin with in common, or none if
     /// that key isn't below the bound.
@@ -53,7 +53,7 @@ pub fn find<P: Bound, const N: usize>(
     bound: &P,
     common_prefix_len: Option<usize>,
     following: Option<Slot>,
-) -> Reached
+) -> ReachedLeaf
     requires can_reach { CanReach (P.bytes bound.now) (P.below bound.now) nodes.now (least_of N)
         height slot }
     requires known { IsCommonPrefixAt (P.bytes bound.now) (P.below bound.now) (P.target bound.now)
@@ -67,7 +67,7 @@ pub fn find<P: Bound, const N: usize>(
         ≡ first_key following (after_leaf nodes.now height slot (P.below bound.now)) }
 {
     if height == 0 {
-        return Reached {
+        return ReachedLeaf {
             leaf: slot,
             common_prefix_len,
             following,

@@ -27,8 +27,8 @@ mod unexpired;
 mod walk;
 
 pub use bound::Bound;
-pub use entry::Entry;
+pub use entry::NodeEntry;
 pub use expiring::Removal;
-pub use overwrite::{Overwrite, Written};
+pub use overwrite::{Overwrite, OverwriteResult};
 pub use question::{Question, SIDE};
 pub use tree::{Tree, item};

@@ -3,7 +3,7 @@
 ghost use Rattle.tree.specs.Finding.{CanStep, IsStep};
 
 use crate::bound::Bound;
-use crate::entry::Entry;
+use crate::entry::NodeEntry;
 use crate::node::{Node, Step};
 use arena::Arena;
 
@@ -57,7 +57,11 @@ impl PathCache {
 
     /// Reads the first memory of the leaf of an entry, if there is one, so that it needn't be
     /// waited for when a walk comes there.
-    pub fn read_ahead<const N: usize>(&mut self, nodes: &Arena<Node<N>>, entry: Option<&Entry>) {
+    pub fn read_ahead<const N: usize>(
+        &mut self,
+        nodes: &Arena<Node<N>>,
+        entry: Option<&NodeEntry>,
+    ) {
         if let Some(entry) = entry
             && nodes.is_live(entry.child)
         {

@@ -12,7 +12,7 @@ ghost use Rattle.tree.specs.Tree.{least_of};
 ghost use Rattle.tree.specs.Children.{Changes, IsFamilyAt, IsRebalancedAt};
 
 use crate::bound::Bound;
-use crate::entry::Entry;
+use crate::entry::NodeEntry;
 use crate::node::Node;
 use arena::{Arena, Slot};
 
@@ -25,7 +25,7 @@ pub fn least(fan_out: usize) -> usize
 }
 
 /// Returns the entry for a child.
-pub fn entry_for<const N: usize>(nodes: &Arena<Node<N>>, child: Slot) -> Entry
+pub fn entry_for<const N: usize>(nodes: &Arena<Node<N>>, child: Slot) -> NodeEntry
     requires live { IsLive nodes.now child }
     requires some { 0 < length (entries_at nodes.now child) }
     ensures child { result.child ≡ child }
@@ -35,7 +35,7 @@ pub fn entry_for<const N: usize>(nodes: &Arena<Node<N>>, child: Slot) -> Entry
         → IsKnown bytes result.key }
 {
     let node = nodes.header_ref(child);
-    Entry {
+    NodeEntry {
         key: node.entries()[0].key,
         child,
         version: node.greatest(),

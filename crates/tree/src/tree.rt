@@ -13,11 +13,11 @@ ghost use Rattle.tree.specs.declared.question.TheConstants.{SIDE};
 ghost use Rattle.tree.specs.Tree.{CanSearchItems, IsLast, tree_heads, KnowItems, unexpired};
 
 use crate::bound::Bound;
-use crate::entry::Entry;
+use crate::entry::NodeEntry;
 use crate::expiring::{Expiring, Removal};
 use crate::greatest_version::greatest;
 use crate::node::Node;
-use crate::overwrite::{Overwrite, Written};
+use crate::overwrite::{Overwrite, OverwriteResult};
 use crate::path_cache::PathCache;
 use crate::question::{Question, SIDE};
 use crate::questions::{answer_each, descend_each, look_at_each};
@@ -74,10 +74,10 @@ impl<const N: usize> Model for Tree<N> {
 }
 
 /// Returns the entry of an item.
-pub fn item(key: Slot, version: i64) -> Entry
+pub fn item(key: Slot, version: i64) -> NodeEntry
     ensures item { item_of result ≡ record { key = key; version = version } }
 {
-    Entry {
+    NodeEntry {
         key,
         child: key,
         version,
@@ -147,7 +147,7 @@ impl<const N: usize> Tree<N> {
     }
 
     /// Returns the last item below the bound, and the key of the first one that isn't.
-    pub fn last_and_next<P: Bound>(&self, bound: &P) -> (Option<Entry>, Option<Slot>)
+    pub fn last_and_next<P: Bound>(&self, bound: &P) -> (Option<NodeEntry>, Option<Slot>)
         requires can_search { CanSearchItems (P.below bound.now) (P.bytes bound.now) self.now }
         ensures last { MatchOption result.0 (items_below (P.below bound.now) self.now.items ≡ [])
             (λ e. IsLast (item_of e) (items_below (P.below bound.now) self.now.items)) }
@@ -216,8 +216,8 @@ impl<const N: usize> Tree<N> {
     pub fn overwrite<P: Bound, Q: Bound, R: Bound>(
         &mut self,
         new: &Overwrite<'_, P, Q, R>,
-        taken: &mut ArrayVec<Entry, N>,
-    ) -> Written
+        taken: &mut ArrayVec<NodeEntry, N>,
+    ) -> OverwriteResult
         requires can_overwrite { CanOverwrite (P.below new.now.from.now) (Q.below new.now.to.now)
             (R.below new.now.past.now)
             (Q.bytes new.now.to.now) self.old taken.old.items }
@@ -250,7 +250,7 @@ impl<const N: usize> Tree<N> {
         count: usize,
         edge: i64,
         before: i64,
-        taken: &mut ArrayVec<Entry, N>,
+        taken: &mut ArrayVec<NodeEntry, N>,
     ) -> Removal
         requires can_remove { CanRemoveExpired (P.below bound.now) (P.bytes bound.now) count edge
             before self.old

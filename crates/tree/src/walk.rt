@@ -9,7 +9,7 @@ ghost use Rattle.tree.specs.Walk.{added_by, CanChangeLeaf, IsChanged, IsChangedW
 
 use crate::bound::Bound;
 use crate::children::{insert_child, raise_entry, rebalance_child};
-use crate::entry::{Entry, key_at};
+use crate::entry::{NodeEntry, key_at};
 use crate::node::Node;
 use crate::path_cache::PathCache;
 use arena::{Arena, Slot};
@@ -17,7 +17,7 @@ use arrayvec::ArrayVec;
 
 /// What a walk knows of the subtree that it has come to.
 #[derive(Clone, Copy, Debug)]
-pub struct Place {
+pub struct LeafPlace {
     /// How many bytes its first key and the target begin with in common, or none if that key isn't
     /// below the bound.
     pub common_prefix_len: Option<usize>,
@@ -39,7 +39,7 @@ pub struct RaisedLeaf {
 
 /// What a change made of a subtree.
 #[derive(Clone, Copy, Debug)]
-pub enum Outcome {
+pub enum LeafOutcome {
     /// It is as it was.
     Same,
     /// Its first key is as it was, and an item came into this leaf of it; no other item has a
@@ -51,14 +51,14 @@ pub enum Outcome {
     Split(Slot),
 }
 
-impl Outcome {
+impl LeafOutcome {
     /// Returns the slot of the right neighbour that the subtree was split from, if it was.
     pub fn added(self) -> Option<Slot>
         ensures added { result ≡ added_by self }
     {
         match self {
-            Outcome::Split(slot) => Some(slot),
-            Outcome::Same | Outcome::Raised(_) | Outcome::Changed => None,
+            LeafOutcome::Split(slot) => Some(slot),
+            LeafOutcome::Same | LeafOutcome::Raised(_) | LeafOutcome::Changed => None,
         }
     }
 }
@@ -92,9 +92,9 @@ pub trait LeafChange<const N: usize> {
         &mut self,
         nodes: &mut Arena<Node<N>>,
         slot: Slot,
-        place: Place,
-        taken: &mut ArrayVec<Entry, N>,
-    ) -> Outcome
+        place: LeafPlace,
+        taken: &mut ArrayVec<NodeEntry, N>,
+    ) -> LeafOutcome
         requires can_change { CanChangeLeaf (Self.LeafBound.bytes (bound_of self.old))
             (Self.LeafBound.below (bound_of self.old))
             (Self.LeafBound.target (bound_of self.old)) (wants self.old) nodes.old 0 slot
@@ -120,10 +120,10 @@ pub fn change_leaf<C: LeafChange<N>, const N: usize>(
     slot: Slot,
     height: usize,
     change: &mut C,
-    place: Place,
-    taken: &mut ArrayVec<Entry, N>,
+    place: LeafPlace,
+    taken: &mut ArrayVec<NodeEntry, N>,
     path_cache: &mut PathCache,
-) -> Outcome
+) -> LeafOutcome
     requires can_change { CanChangeLeaf (C.LeafBound.bytes (C.bound_of change.old))
         (C.LeafBound.below (C.bound_of change.old))
         (C.LeafBound.target (C.bound_of change.old)) (C.wants change.old) nodes.old height slot
@@ -146,22 +146,28 @@ pub fn change_leaf<C: LeafChange<N>, const N: usize>(
     if height == 1 && change.goes_along() {
         path_cache.read_ahead(nodes, entries.get(step.index + 1));
     }
-    let below = Place {
+    let below = LeafPlace {
         common_prefix_len: step.common_prefix_len,
         following: key_at(entries, step.index + 1, place.following),
         is_first: place.is_first && step.index == 0,
     };
     match change_leaf(nodes, child, height - 1, change, below, taken, path_cache) {
-        Outcome::Same => Outcome::Same,
-        Outcome::Raised(leaf) => raise_entry(nodes, slot, step.index, leaf, change.leaf_bound()),
-        Outcome::Changed => {
+        LeafOutcome::Same => LeafOutcome::Same,
+        LeafOutcome::Raised(leaf) => raise_entry(
+            nodes,
+            slot,
+            step.index,
+            leaf,
+            change.leaf_bound(),
+        ),
+        LeafOutcome::Changed => {
             rebalance_child(nodes, slot, step.index, change.leaf_bound());
-            Outcome::Changed
+            LeafOutcome::Changed
         }
-        Outcome::Split(added) => {
+        LeafOutcome::Split(added) => {
             match insert_child(nodes, slot, step.index, added, change.leaf_bound()) {
-                Some(added) => Outcome::Split(added),
-                None => Outcome::Changed,
+                Some(added) => LeafOutcome::Split(added),
+                None => LeafOutcome::Changed,
             }
         }
     }

@@ -6,7 +6,7 @@ use Rattle.keyspace.specs.declared.span.Span.{Span}
 use Rattle.keyspace.specs.declared.row.Row.{Row}
 use Rattle.keyspace.specs.Fields.{TxnLimits}
 use Rattle.keyspace.specs.Tables.{range_of_span, txn_of_row, txns_from, LiesWithin, AreRows, AreTables}
-use Rattle.wire.specs.declared.tables.Tables.{Tables}
+use Rattle.wire.specs.declared.tables.FrameTables.{FrameTables}
 use Rattle.wire.specs.Fields.{RangeFields, TxnFields}
 use Rattle.wire.specs.Spelling.{RangeHolds, TxnHolds, BatchHolds}
 use Rattle.wire.specs.Lying.{range_read, txn_read, txns_read, batch_of_tables, IsBetween, AreApart}
@@ -76,7 +76,7 @@ limits (txn ∷ txns) h =
       writes = all_hold RangeHolds txn.writes h.0.writes;
     }) (limits txns h.1)
 
-pub are_tables : (frame buffer : List ℕ) (tables : Tables) → AreApart 0 tables.spans.items (length frame)
+pub are_tables : (frame buffer : List ℕ) (tables : FrameTables) → AreApart 0 tables.spans.items (length frame)
     → length buffer ≡ length frame + 1
     → map (range_of_span buffer) tables.spans.items ≡ map (range_read frame) tables.spans.items
     → BatchHolds (batch_of_tables frame tables) → AreTables buffer tables.spans.items tables.rows.items

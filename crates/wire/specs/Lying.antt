@@ -3,7 +3,7 @@ use Rattle.std.specs.Prelude.{◌≡◌, ◌⊎◌, ℕ, ◌+◌, ◌-◌, ◌<�
 use Rattle.keyspace.specs.declared.span.Span.{Span}
 use Rattle.keyspace.specs.declared.row.Row.{Row}
 use Rattle.keyspace.specs.Tables.{bytes_at, range_of_span}
-use Rattle.wire.specs.declared.tables.Tables.{Tables}
+use Rattle.wire.specs.declared.tables.FrameTables.{FrameTables}
 use Rattle.wire.specs.Fields.{RangeFields, TxnFields, BatchFields}
 use Rattle.wire.specs.Spelling.{single_key}
 
@@ -36,7 +36,7 @@ txns_read frame spans from [] = []
 txns_read frame spans from (row ∷ rows) = txn_read frame spans from row ∷ txns_read frame spans row.end rows
 
 -- the batch of the tables, as the frame spells it
-abbrev pub batch_of_tables : List ℕ → Tables → BatchFields
+abbrev pub batch_of_tables : List ℕ → FrameTables → BatchFields
 batch_of_tables frame tables = record {
   previous = tables.previous;
   version = tables.version;

@@ -13,7 +13,7 @@ ghost use Rattle.wire.specs.declared.field.TheConstants.{MAX_BODY_LENGTH};
 use crate::error::WireError;
 use crate::field::{body_of, count_of, i64_at, u8_at};
 use crate::seal::seal;
-use crate::tables::Tables;
+use crate::tables::FrameTables;
 use crate::txn::txns_of;
 use crate::version::WireVersion;
 use keyspace::{Batch, MAX_TXNS, UnorderedBatch};
@@ -63,7 +63,7 @@ fn fields_of<'a>(
     version: WireVersion,
     frame: &[u8],
     bytes: &'a [u8],
-) -> Result<(Tables, &'a [u8]), WireError>
+) -> Result<(FrameTables, &'a [u8]), WireError>
     requires short { length frame.now ≤ 4 + MAX_BODY_LENGTH }
     requires rest { IsRestOf frame.now bytes.now }
     ensures reads { Gives (λ x. (batch_of_tables frame.now x.0, x.1.now)) result
@@ -73,7 +73,7 @@ fn fields_of<'a>(
     let ((previous, batch_version, received), rest) = header_of(bytes)?;
     let (count, rest) = count_of(MAX_TXNS as u16, rest)?;
     let ((spans, rows), rest) = txns_of(alloc, version, count, frame, rest)?;
-    let tables = Tables {
+    let tables = FrameTables {
         previous,
         version: batch_version,
         received,
@@ -89,7 +89,7 @@ fn body_of_batch<'a>(
     alloc: Global,
     frame: &[u8],
     bytes: &'a [u8],
-) -> Result<((WireVersion, Tables), &'a [u8]), WireError>
+) -> Result<((WireVersion, FrameTables), &'a [u8]), WireError>
     requires short { length frame.now ≤ 4 + MAX_BODY_LENGTH }
     requires rest { IsRestOf frame.now bytes.now }
     ensures reads { Gives (λ x. ((x.0.0, batch_of_tables frame.now x.0.1), x.1.now)) result
@@ -116,7 +116,10 @@ fn frame_of(bytes: &[u8]) -> Result<(&[u8], &[u8]), WireError>
 /// Reads the frame at the front into tables, and returns its wire version, these and the frame. No
 /// key is copied.
 #[tactic(auto, unfolding(crate::specs::Reading::read_batch))]
-pub fn tables_of(alloc: Global, bytes: &[u8]) -> Result<(WireVersion, Tables, &[u8]), WireError>
+pub fn tables_of(
+    alloc: Global,
+    bytes: &[u8],
+) -> Result<(WireVersion, FrameTables, &[u8]), WireError>
     ensures reads { Gives (λ x. (x.0, batch_of_tables x.2.now x.1)) result (read_batch bytes.now) }
     ensures frame { IfOk result (λ x. x.2.now ≡ take (4 + big_number 4 bytes.now) bytes.now) }
     ensures length { IfOk result (λ x. length x.2.now ≡ 4 + big_number 4 bytes.now) }
@@ -133,7 +136,7 @@ pub fn tables_of(alloc: Global, bytes: &[u8]) -> Result<(WireVersion, Tables, &[
 
 /// Makes the batch of the tables, without ordering its ranges. It keeps the frame, in which each
 /// single key is given its end.
-pub fn unordered_of(frame: Vec<u8>, tables: Tables) -> Result<UnorderedBatch, AllocError>
+pub fn unordered_of(frame: Vec<u8>, tables: FrameTables) -> Result<UnorderedBatch, AllocError>
     requires apart { AreApart 0 tables.spans.items (vec_len frame) }
     requires holds { BatchHolds (batch_of_tables frame.items tables) }
     ensures fields { IfOk result (λ batch. batch_fields batch
@@ -150,7 +153,7 @@ pub fn unordered_of(frame: Vec<u8>, tables: Tables) -> Result<UnorderedBatch, Al
 }
 
 /// Makes the batch of the tables, as [`unordered_of`] does, and orders its ranges.
-pub fn batch_of(alloc: Global, frame: Vec<u8>, tables: Tables) -> Result<Batch, AllocError>
+pub fn batch_of(alloc: Global, frame: Vec<u8>, tables: FrameTables) -> Result<Batch, AllocError>
     requires apart { AreApart 0 tables.spans.items (vec_len frame) }
     requires holds { BatchHolds (batch_of_tables frame.items tables) }
     ensures fields { IfOk result (λ batch. batch_fields batch

@@ -12,7 +12,7 @@ use crate::reached::Reached;
 use crate::summary::{SummaryWriter, print_with_summary};
 use observer::Unobserved;
 use replay_output::{Ending, Options, Status, fail_to_start};
-use replay_workers::{Gatekeeper, Outcome, ShareKeeper, run_observed};
+use replay_workers::{Gatekeeper, RunOutcome, ShareKeeper, run_observed};
 use resolver::MAX_PROXIES;
 use std::alloc::Global;
 use std::sync::{Arc, Wait};
@@ -74,7 +74,7 @@ pub fn replay_and_summarize_over<
         Ok(ended) => ended,
         Err(cause) => return Ended::unstarted(fail_to_start(error, cause)),
     };
-    let Outcome {
+    let RunOutcome {
         mut lines,
         mut failures,
         all_sent,

@@ -11,7 +11,7 @@ ghost use Rattle.replay_program.specs.Verbose.{AreBatches, AreExamined, SaysHeld
 use super::say_of_run;
 use chain::MAX_HELD;
 use replay_arguments::{CommandLine, Extent, Files, STANDARD_INPUT};
-use replay_diagnosis::{Batches, RunFinding, examine_unbegun};
+use replay_diagnosis::{FileBatches, RunFinding, examine_unbegun};
 use std::alloc::Global;
 use wire::Sink;
 
@@ -40,11 +40,11 @@ pub fn say_if_held<F: Files, E: Sink>(alloc: Global, files: &F, line: &CommandLi
 
 // Returns which versions the batches of the files of these names follow, if none of them begins a
 // chain.
-fn unbegun_files<F: Files>(alloc: Global, files: &F, names: &[&str]) -> Option<Batches>
+fn unbegun_files<F: Files>(alloc: Global, files: &F, names: &[&str]) -> Option<FileBatches>
     ensures batches { IfSome result (λ batches. AreExamined (F.contents files.now)
         (texts names.now) batches.least_previous) }
 {
-    let mut batches = Batches::none();
+    let mut batches = FileBatches::none();
     for name in names {
         match unbegun_file(alloc, files, name) {
             Some(own) => batches.join(&own),
@@ -56,7 +56,7 @@ fn unbegun_files<F: Files>(alloc: Global, files: &F, names: &[&str]) -> Option<B
 
 // Returns which versions the batches of the file of this name follow, if none of them begins a
 // chain. A pipe isn't opened again: it would wait for its other end.
-fn unbegun_file<F: Files>(alloc: Global, files: &F, name: &str) -> Option<Batches>
+fn unbegun_file<F: Files>(alloc: Global, files: &F, name: &str) -> Option<FileBatches>
     ensures batches { IfSome result (λ batches. (own : List BatchValue)
         × AreBatches (F.contents files.now name.now) own × HasLeast own batches.least_previous) }
 {

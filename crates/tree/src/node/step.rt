@@ -10,7 +10,7 @@ ghost use Rattle.tree.specs.Node.{entries_of, key_heads_of};
 use super::Node;
 use super::heads::same_head_bytes;
 use crate::bound::Bound;
-use crate::entry::Entry;
+use crate::entry::NodeEntry;
 
 /// The step of a search down from a node.
 #[derive(Clone, Copy, Debug)]
@@ -150,7 +150,7 @@ impl<const N: usize> Node<N> {
         requires known { IsCommonPrefixAt (P.bytes bound.now) (P.below bound.now)
             (P.target bound.now) (Some common_prefix_len)
             (entries_of self.now) 0 }
-        requires is_below { (e : Entry) → slice_get (entries_of self.now) index ≡ Some e
+        requires is_below { (e : NodeEntry) → slice_get (entries_of self.now) index ≡ Some e
             → IsTrue (P.below bound.now e.key) }
         requires head { IsHeadFor (P.bytes bound.now) (P.target bound.now) common_prefix_len head
             (key_heads_of self.now) }

@@ -4,7 +4,7 @@ use Rattle.std.proofs.lemmas.Int.{to_z-of_z}
 use Rattle.std.proofs.lemmas.List.{length-append, take_all}
 use Rattle.conflict.specs.Asking.{all_first, asked_at, first_asked, then_asked, AreAnswers}
 use Rattle.conflict.specs.InBatch.{by_history}
-use Rattle.conflict.specs.declared.asking.Part.{Part}
+use Rattle.conflict.specs.declared.asking.AnswerCounts.{AnswerCounts}
 use Rattle.conflict.proofs.Parts.{lent_at}
 use Rattle.conflict.proofs.Questions.{
   answer_count,
@@ -37,7 +37,7 @@ split_at-requires c =
       first = length (first_asked oldest t);
       others = length (then_asked oldest t (take (length (first_asked oldest t)) firsts));
     }) = c.index-part.ensures ∙ part_at oldest ts i t inside is c.ask.new.self.parts.items firsts c.loop-index.invariant.3 part in
-    let count : part.first ≡ length (first_asked oldest t) = ap (λ (p : Part). p.first) own in
+    let count : part.first ≡ length (first_asked oldest t) = ap (λ (p : AnswerCounts). p.first) own in
     omega (
       arith,
       count,
@@ -61,9 +61,9 @@ split_at-requires-in-loop-index c =
       first = length (first_asked oldest t);
       others = length (then_asked oldest t (take (length (first_asked oldest t)) firsts));
     }) = c.index-part.ensures ∙ part_at oldest ts i t inside is c.ask.new.self.parts.items firsts c.loop-index.invariant.3 part in
-    let count : part.first ≡ length (first_asked oldest t) = ap (λ (p : Part). p.first) own in
+    let count : part.first ≡ length (first_asked oldest t) = ap (λ (p : AnswerCounts). p.first) own in
     let other_count : part.others ≡ length (then_asked oldest t (take (length (first_asked oldest t)) firsts)) =
-    ap (λ (p : Part). p.others) own in
+    ap (λ (p : AnswerCounts). p.others) own in
     let few = other_within m oldest ts i t inside is firsts determined c.loop-index.others.now c.loop-index.invariant.2 in
     omega (arith, few, other_count)
 
@@ -83,9 +83,9 @@ judge_by_history-requires c =
       first = length (first_asked oldest t);
       others = length (then_asked oldest t (take (length (first_asked oldest t)) firsts));
     }) = c.index-part.ensures ∙ part_at oldest ts i t inside is c.ask.new.self.parts.items firsts c.loop-index.invariant.3 part in
-    let count : part.first ≡ length (first_asked oldest t) = ap (λ (p : Part). p.first) own in
+    let count : part.first ≡ length (first_asked oldest t) = ap (λ (p : AnswerCounts). p.first) own in
     let other_count : part.others ≡ length (then_asked oldest t (take (length (first_asked oldest t)) firsts)) =
-    ap (λ (p : Part). p.others) own in
+    ap (λ (p : AnswerCounts). p.others) own in
     let others = c.loop-index.others.now in
     let others_determined = c.loop-index.invariant.2 in
     let first : c.split_at.result.0.now ≡ take (length (first_asked oldest t)) firsts =
@@ -117,9 +117,9 @@ loop-index-preserved c =
       first = length (first_asked oldest t);
       others = length (then_asked oldest t (take (length (first_asked oldest t)) firsts));
     }) = c.index-part.ensures ∙ part_at oldest ts i t inside is c.ask.new.self.parts.items firsts c.loop-index.invariant.3 part in
-    let count : part.first ≡ length (first_asked oldest t) = ap (λ (p : Part). p.first) own in
+    let count : part.first ≡ length (first_asked oldest t) = ap (λ (p : AnswerCounts). p.first) own in
     let other_count : part.others ≡ length (then_asked oldest t (take (length (first_asked oldest t)) firsts)) =
-    ap (λ (p : Part). p.others) own in
+    ap (λ (p : AnswerCounts). p.others) own in
     let others = c.loop-index.others.now in
     let others_determined = c.loop-index.invariant.2 in
     let first : c.split_at.result.0.now ≡ take (length (first_asked oldest t)) firsts =

@@ -11,7 +11,7 @@ use Rattle.serial.specs.Shards.{shards}
 use Rattle.resolver.specs.declared.resolver_core.TheConstants.{MAX_PROXIES}
 use Rattle.replay_output.specs.declared.options.Options.{Options}
 use Rattle.replay_shards.specs.declared.clips.Clips.{Clips}
-use Rattle.replay_sharded.specs.declared.runs.Started.{Started}
+use Rattle.replay_sharded.specs.declared.runs.StartedShards.{StartedShards}
 use Rattle.replay_sharded.specs.Files.{AreFresh}
 use Rattle.replay_sharded.specs.Runs.{given_to, keeping}
 use Rattle.replay_sharded.proofs.Works.{IsDone, given_by, proxies_each, runs_of}
@@ -49,7 +49,7 @@ loop-clips-preserved g c =
     c.in_ok-start.ensures.given ∙ ap (λ (o : Options). (o, clips.items)) c.keeping-options.ensures.keeping in
     record {
       given =
-          ap (λ (l : List (Started g.row.S.Denot)). map given_to l ++ map (given_by options) rest) c.push_reserved.ensures.items
+          ap (λ (l : List (StartedShards g.row.S.Denot)). map given_to l ++ map (given_by options) rest) c.push_reserved.ensures.items
           ∙ ap (λ (l : List (Options × List (Clips g.row.S.Denot))). l ++ map (given_by options) rest)
           (map-append given_to old (shard ∷ []))
           ∙ append_assoc (map given_to old) (given_to shard ∷ []) (map (given_by options) rest)

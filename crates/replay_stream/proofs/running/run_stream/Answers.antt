@@ -12,7 +12,7 @@ use Rattle.resolver.specs.Settled.{Settled}
 use Rattle.resolver.proofs.callers.Lists.{written_back}
 use Rattle.replay_stream.specs.declared.outlet.Outlet.{Outlet}
 use Rattle.replay_stream.specs.declared.proxies.Proxy.{Proxy}
-use Rattle.replay_stream.specs.declared.proxies.Task.{Task}
+use Rattle.replay_stream.specs.declared.proxies.ProxyTask.{ProxyTask}
 use Rattle.replay_stream.specs.declared.recorder.Recorder.{Recorder}
 use Rattle.replay_stream.specs.Outlet.{AreNumbered, HavePassedAll, StreamContinues}
 use Rattle.replay_stream.specs.Proxies.{AreEnds, IsJoined, Joined, client_of, outlets_of, threads_of}
@@ -59,7 +59,7 @@ join_all-streamed-requires-clause-room g c =
     let turned = c.turn_to_end.ensures.threads ∙ ap (map threads_of) c.deref_mut.ensures.value in
     let started_count : length started ≡ length readers =
     sym (length-map started (λ (p : Proxy g.row.S.Denot g.row.W.Denot). p.outlet)) ∙ ap length c.in_ok-proxies.ensures.outlets
-    ∙ length-map tasks (λ (t : Task g.row.S.Denot g.row.W.Denot g.row.G.Denot). t.outlet)
+    ∙ length-map tasks (λ (t : ProxyTask g.row.S.Denot g.row.W.Denot g.row.G.Denot). t.outlet)
     ∙ tasks_count c.args.options.reports readers outs clients tasks same as_many given ∙ sym same in
     omega (arith, started_count, c.in_ok-proxies.proxies.ok.0, c.in_ok-streamed.ensures.room, c.len-count.ensures)
 
@@ -88,7 +88,7 @@ join_all-streamed-requires-clause-ends g c =
     let threads = turned ∙ c.in_ok-proxies.ensures.threads in
     let streams = c.turn_to_end.ensures.streams c.new-printer.result.failed before first
     (stream_same style c.new-printer.result.failed before first) in
-    let goes : StreamContinues style false has_failed before after (map (λ (t : Task g.row.S.Denot g.row.W.Denot g.row.G.Denot). t.outlet) tasks)
+    let goes : StreamContinues style false has_failed before after (map (λ (t : ProxyTask g.row.S.Denot g.row.W.Denot g.row.G.Denot). t.outlet) tasks)
     (outlets_of ended) =
     subst (λ (l : List Outlet). StreamContinues style false has_failed before after l (outlets_of ended))
     (ap outlets_of c.deref_mut.ensures.value ∙ c.in_ok-proxies.ensures.outlets)
@@ -139,7 +139,7 @@ settle-account-requires g c =
     let threads = turned ∙ c.in_ok-proxies.ensures.threads in
     let streams = c.turn_to_end.ensures.streams c.new-printer.result.failed before first
     (stream_same style c.new-printer.result.failed before first) in
-    let goes : StreamContinues style false has_failed before after (map (λ (t : Task g.row.S.Denot g.row.W.Denot g.row.G.Denot). t.outlet) tasks)
+    let goes : StreamContinues style false has_failed before after (map (λ (t : ProxyTask g.row.S.Denot g.row.W.Denot g.row.G.Denot). t.outlet) tasks)
     (outlets_of ended) =
     subst (λ (l : List Outlet). StreamContinues style false has_failed before after l (outlets_of ended))
     (ap outlets_of c.deref_mut.ensures.value ∙ c.in_ok-proxies.ensures.outlets)
@@ -181,7 +181,7 @@ returns g c =
     let threads = turned ∙ c.in_ok-proxies.ensures.threads in
     let streams = c.turn_to_end.ensures.streams c.new-printer.result.failed before first
     (stream_same style c.new-printer.result.failed before first) in
-    let goes : StreamContinues style false has_failed before after (map (λ (t : Task g.row.S.Denot g.row.W.Denot g.row.G.Denot). t.outlet) tasks)
+    let goes : StreamContinues style false has_failed before after (map (λ (t : ProxyTask g.row.S.Denot g.row.W.Denot g.row.G.Denot). t.outlet) tasks)
     (outlets_of ended) =
     subst (λ (l : List Outlet). StreamContinues style false has_failed before after l (outlets_of ended))
     (ap outlets_of c.deref_mut.ensures.value ∙ c.in_ok-proxies.ensures.outlets)

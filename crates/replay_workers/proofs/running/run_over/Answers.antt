@@ -15,7 +15,7 @@ use Rattle.resolver.proofs.callers.Lists.{written_back}
 use Rattle.replay_output.specs.declared.line.Line.{Line}
 use Rattle.replay_workers.specs.declared.threads.Worked.{Worked}
 use Rattle.replay_workers.specs.declared.worker.Finished.{Finished}
-use Rattle.replay_workers.specs.declared.outcome.Outcome.{Outcome}
+use Rattle.replay_workers.specs.declared.outcome.RunOutcome.{RunOutcome}
 use Rattle.replay_workers.specs.Threads.{finished_of, given_each, HasWorkedOn, IsOutcomeOf}
 use Rattle.replay_workers.specs.Occupied.{IsOccupancyOf}
 use Rattle.replay_workers.specs.Run.{EndsAt, HasCapacity, IsMeasuredRunOver, is_complete}
@@ -27,7 +27,7 @@ use Rattle.replay_workers.proofs.Runs.{is_run, is_run_log}
 use Rattle.replay_workers.proofs.running.run_over.Goals as goal
 
 -- nothing was handed back yet
-nothing_back : (outcome : Outcome) → outcome.clients.items ≡ [] → outcome.lines.items ≡ [] → outcome.failures.items ≡ []
+nothing_back : (outcome : RunOutcome) → outcome.clients.items ≡ [] → outcome.lines.items ≡ [] → outcome.failures.items ≡ []
     → outcome.all_sent ≡ true → IsOutcomeOf [] outcome
 nothing_back outcome clients lines failures all_sent = record {
   clients = clients;

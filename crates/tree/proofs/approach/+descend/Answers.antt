@@ -1,6 +1,6 @@
 use Rattle.std.proofs.Common.{rules, ◌≡◌, ◌≤◌, ℕ, ◌+◌, ◌-◌, Bool, false, List, length, filter, get_or, Option, Some, refl, arith}
 use Rattle.std.proofs.lemmas.Option.{slice_get_read}
-use Rattle.tree.proofs.Words.{Entry, CanStep, IsAnswer, entries_of, items_in, least_of}
+use Rattle.tree.proofs.Words.{NodeEntry, CanStep, IsAnswer, entries_of, items_in, least_of}
 use Rattle.tree.proofs.Approaches.{approach_wider}
 use Rattle.tree.proofs.Above.{at_most_tested}
 use Rattle.tree.proofs.FirstKeys.{knows_child}
@@ -36,7 +36,7 @@ module _ (g : Over) (t : ℕ) (c : After-is_clear-clear g t) where
   abbrev q : ℕ → Bool
   q = g.Q.Bound.below c.args.question.now.to
 
-  abbrev es : List Entry
+  abbrev es : List NodeEntry
   es = entries_of c.header_ref-node.result.now
 
   -- the two bounds of the node

@@ -4,7 +4,7 @@ use Rattle.std.proofs.lemmas.List.{length-set}
 use Rattle.std.proofs.lemmas.Int.{ints, to_z-of_z}
 use Rattle.std.proofs.lemmas.Option.{slice_get-get_or}
 use Rattle.arena.specs.Arena.{with_header}
-use Rattle.tree.specs.declared.entry.Entry.{Entry}
+use Rattle.tree.specs.declared.entry.NodeEntry.{NodeEntry}
 use Rattle.tree.specs.Node.{entries_of}
 use Rattle.tree.specs.Subtree.{entries_at}
 use Rattle.tree.specs.Tree.{least_of}
@@ -60,7 +60,7 @@ returns g c =
       rebalanced = λ height family describes. entry_put d (record d { version = c.args.leaf.version }) node can family
           (ap (λ e. e.child) d_is) refl (λ subtree. describes d there below) filled set_is;
       rest = record {
-        few_less = omega (arith, ap length now_is, length-set {A = Entry});
+        few_less = omega (arith, ap length now_is, length-set {A = NodeEntry});
         spare = search rules;
         headed = headed_header _ a (with_header a slot node) slot node refl can.headed headed;
       };

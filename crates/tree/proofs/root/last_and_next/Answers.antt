@@ -2,7 +2,7 @@ use Rattle.std.proofs.Common.{◌<◌, rules, ◌≡◌, ◌∙◌, length, filt
 use Rattle.std.specs.Prelude.{not}
 use Rattle.std.proofs.Math.Seq.{drop-append_seam, take-append_seam}
 use Rattle.tree.proofs.Words.{Item, following, after_leaf, first_key, item_of, items_in}
-use Rattle.tree.specs.declared.entry.Entry.{Entry}
+use Rattle.tree.specs.declared.entry.NodeEntry.{NodeEntry}
 use Rattle.tree.specs.Node.{entries_of}
 use Rattle.tree.specs.Subtree.{entries_at}
 use Rattle.tree.proofs.Found.{entries_read}
@@ -29,7 +29,7 @@ returns g c =
     let found = c.reach-reached.ensures.reached in
     let es = entries_at nodes c.reach-reached.result.leaf in
     let header = c.header_ref-leaf.result.now in
-    let p = λ (e : Entry). is_below e.key in
+    let p = λ (e : NodeEntry). is_below e.key in
     let leaf : IsLeaf is_below _ _ _ es =
     record { items_are = found.items_are; pass = found.before; fail = found.after; none = found.none } in
     let read : es ≡ entries_of header = entries_read nodes _ header _ c.header_ref-leaf.ensures.header refl in

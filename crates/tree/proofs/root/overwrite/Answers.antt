@@ -1,5 +1,5 @@
 use Rattle.std.proofs.Common.{rules, ℕ, Bool, true, ◌≡◌, ◌∙◌, [], None, refl, ap, subst, append-nil, arith}
-use Rattle.tree.specs.declared.walk.Outcome.TheVariants.{Raised}
+use Rattle.tree.specs.declared.walk.LeafOutcome.TheVariants.{Raised}
 use Rattle.tree.specs.Item.{item_of}
 use Rattle.tree.specs.Overwrite.{IsPartOfPartitioned}
 use Rattle.tree.specs.Subtree.{items_in}

@@ -1,7 +1,7 @@
 use Rattle.std.proofs.Common.{rules, w64, ◌≡◌, ℕ, ◌+◌, ◌-◌, ◌*◌, ◌<◌, ◌≤◌, ◌^◌, ◌++◌, List, drop, length, sym, ap, ap₂, subst, ◌∙◌, arith, get_or}
 use Rattle.std.proofs.lemmas.Int.{to_z-of_z}
 use Rattle.std.proofs.lemmas.List.{length-append}
-use Rattle.tree.proofs.Words.{Entry, Item, IsCounted, items_from, entries_at, least_of}
+use Rattle.tree.proofs.Words.{NodeEntry, Item, IsCounted, items_from, entries_at, least_of}
 use Rattle.tree.proofs.Placing.{entries_from_header}
 use Rattle.tree.proofs.StillCounted.{both_counted, fewer_counted, items_of_root, next_items, children_are, steps_down}
 use Rattle.tree.proofs.unexpired.+count_unexpired.Given.{Over}
@@ -17,7 +17,7 @@ module _ (g : Over) (t : ℕ) (c : After-index-entries-index g t) where
   inside = omega (arith, c.if-index-entries.false, c.requires.within, ap length read)
 
   -- that of the child
-  abbrev here : Entry
+  abbrev here : NodeEntry
   here = get_or c.entries-entries.result.now c.args.index c.index-entries-index.result
 
   -- the items of the child, and those behind it

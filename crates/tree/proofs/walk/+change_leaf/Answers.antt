@@ -1,10 +1,10 @@
 use Rattle.std.proofs.Common.{◌≡◌, ◌+◌, ◌-◌, ℕ, suc, inl, inr, None, Bool, List, Option, length, get_or, take, drop, refl, sym, ap, ◌∙◌, arith, rules}
-use Rattle.tree.specs.declared.entry.Entry.{Entry}
+use Rattle.tree.specs.declared.entry.NodeEntry.{NodeEntry}
 use Rattle.tree.specs.Item.{Item}
 use Rattle.tree.specs.Node.{entries_of}
 use Rattle.tree.specs.Path.{index_in}
 use Rattle.tree.specs.Subtree.{entries_at, items_in}
-use Rattle.tree.specs.declared.walk.Outcome.TheVariants.{Same, Raised, Changed, Split}
+use Rattle.tree.specs.declared.walk.LeafOutcome.TheVariants.{Same, Raised, Changed, Split}
 use Rattle.tree.specs.declared.walk.RaisedLeaf.{RaisedLeaf}
 use Rattle.tree.specs.Tree.{least_of}
 use Rattle.tree.specs.Children.{items_of}
@@ -58,7 +58,7 @@ module _ (g : Over) (t : ℕ) (c : After-index-entries-step g t) where
   abbrev is_below : ℕ → Bool
   is_below = g.C.LeafBound.Bound.below (g.C.LeafChange.bound_of c.args.change.now)
 
-  abbrev es : List Entry
+  abbrev es : List NodeEntry
   es = entries_at c.args.nodes.now c.args.slot
 
   abbrev h : ℕ

@@ -7,7 +7,7 @@ use Rattle.keys.specs.GapRuns.{run, run_or_none}
 use Rattle.keys.proofs.callers.GapRuns.{empty_if}
 use Rattle.keys.specs.Key.{IsBefore, IsAtMost}
 use Rattle.keys.specs.declared.range.Range.{Range}
-use Rattle.conflict.specs.declared.union.Span.{Span}
+use Rattle.conflict.specs.declared.union.UnitedSpan.{UnitedSpan}
 use Rattle.conflict.specs.declared.union.Union.TheInside.{Inside}
 use Rattle.conflict.specs.Union.{AreSpanned, AreUnited, EndsAt, HaveRuns}
 use Rattle.conflict.proofs.Comparing.{at_most_from_le, before_unless_le, before_from_lt, at_most_unless_lt}
@@ -18,15 +18,15 @@ use Rattle.conflict.proofs.union.Union.add.Goals.{In-Some, then-is_lt, else-is_l
 use Rattle.conflict.proofs.union.Union.add.Given as given
 use Rattle.conflict.proofs.union.Union.add.Goals as goal
 
-abbrev alone : ℕ → Span
+abbrev alone : ℕ → UnitedSpan
 alone index = record { begin = index; end = index }
 
 -- the range that the last span ends with
-last_ends : (ranges : List Range) (spans : List Span) (n : ℕ) (last : Span) (united : List Range) → AreSpanned ranges spans united
+last_ends : (ranges : List Range) (spans : List UnitedSpan) (n : ℕ) (last : UnitedSpan) (united : List Range) → AreSpanned ranges spans united
     → n ≡ length spans → 0 < n → last ≡ get_or spans (n - 1) last → (ending : Range) × (slice_get ranges last.end ≡ Some ending)
 last_ends ranges spans n last united spanned count some is =
     let at = spanned_at ranges spans united spanned (n - 1) last (omega (arith, count, some)) in
-    let ends = subst (λ (x : Span). EndsAt ranges x.end at.0.end) (sym is) at.2.ends in
+    let ends = subst (λ (x : UnitedSpan). EndsAt ranges x.end at.0.end) (sym is) at.2.ends in
     (ends.0, ends.1)
 
 -- the run of a range, of what it is ranked as

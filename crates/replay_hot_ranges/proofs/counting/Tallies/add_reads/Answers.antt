@@ -4,7 +4,7 @@ use Rattle.keys.specs.declared.range.Range.{Range}
 use Rattle.keys.proofs.callers.Lists.{some_at}
 use Rattle.std.specs.List.{flat_map}
 use Rattle.replay_hot_ranges.specs.Conflicts.{InConflict, conflict_of}
-use Rattle.replay_hot_ranges.specs.Tally.{AreTalliesWith}
+use Rattle.replay_hot_ranges.specs.RangeTally.{AreTalliesWith}
 use Rattle.replay_hot_ranges.proofs.Adding.{conflicts_more}
 use Rattle.replay_hot_ranges.proofs.counting.Tallies.add_reads.Goals as goal
 

@@ -5,7 +5,7 @@ use Rattle.keyspace.specs.declared.reply.Verdict.{Verdict}
 use Rattle.keyspace.specs.declared.txn.Txn.{Txn}
 use Rattle.replay_hot_ranges.specs.Conflicts.{InConflict, conflicts_of, rejected_by}
 use Rattle.replay_hot_ranges.specs.Counts.{read_side, written_side}
-use Rattle.replay_hot_ranges.specs.Tally.{AreTallies}
+use Rattle.replay_hot_ranges.specs.RangeTally.{AreTallies}
 use Rattle.replay_hot_ranges.proofs.Noting.{ended}
 use Rattle.replay_hot_ranges.proofs.counting.Tallies.add_txn.Goals as goal
 

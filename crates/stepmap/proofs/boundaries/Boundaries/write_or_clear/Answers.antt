@@ -6,8 +6,8 @@ use Rattle.std.proofs.lemmas.List.Elements.{All-head, All-tail}
 use Rattle.std.specs.List.{All, IsDistinct}
 use Rattle.std.specs.FinMap as finite
 use Rattle.tree.specs.Item.{Item, item_of}
-use Rattle.tree.specs.declared.overwrite.Written.{Written}
-use Rattle.tree.specs.declared.overwrite.Written.TheVariants.{Partly, Entirely}
+use Rattle.tree.specs.declared.overwrite.OverwriteResult.{OverwriteResult}
+use Rattle.tree.specs.declared.overwrite.OverwriteResult.TheVariants.{Partly, Entirely}
 use Rattle.tree.specs.Overwrite.{Overwrites}
 use Rattle.tree.specs.Path.{IsPartitioned, items_below}
 use Rattle.arena.specs.Arena.{Arena, IsLive, record_at, key_at, spare_of, size_of, wanted_of}
@@ -189,7 +189,7 @@ IsReady g c =
     (both c.args.range.now c.args.version (unwrap_or c.args.at_end (value_at (boundaries_of c.self.inside.keys c.self.inside.tree.items) c.args.range.now.end))
     c.unwrap-begin_key.result (Some c.unwrap-end_key.result))
 
-abbrev IsAnswer : (g : given.Over) → After-release_run g → Written → Type 0
+abbrev IsAnswer : (g : given.Over) → After-release_run g → OverwriteResult → Type 0
 IsAnswer g c written =
     Overwrites (slot_is_below c.place-2.new.self false c.args.range.now.begin)
     (slot_is_below c.place-2.new.self false c.args.range.now.end) (slot_is_below c.place-2.new.self true c.args.range.now.end)

@@ -1,6 +1,6 @@
 use Rattle.std.proofs.Common.{rules, Bool, false, IsTrue, ◌∷◌, ℕ, ◌≡◌, ◌≢◌, ◌≤◌, ◌<◌, ◌+◌, ◌-◌, ◌∙◌, ◌++◌, ap, sym, refl, List, [], length, filter, take, drop, map, arith, w64}
 use Rattle.std.proofs.lemmas.Int.{to_z-of_z}
-use Rattle.tree.proofs.Words.{with_header, Entry, Item, item_of, entries_of, entries_at, GivesUnexpired, unexpired, expired}
+use Rattle.tree.proofs.Words.{with_header, NodeEntry, Item, item_of, entries_of, entries_at, GivesUnexpired, unexpired, expired}
 use Rattle.tree.proofs.ChangedLeaf.{leaf_can_step, leaf_changed, unchanged}
 use Rattle.tree.proofs.Headed.{headed_at}
 use Rattle.tree.proofs.LastRun.{leaf_unexpired, untouched}
@@ -38,7 +38,7 @@ module _ (g : given.Over) (c : After-has_expired g) where
   open c use {header_ref-leaf.{result.{now as leaf}, ensures.{header}}}
   open c use {lower_bound-below.{result as below, ensures.{count as counts}}}
 
-  abbrev es : List Entry
+  abbrev es : List NodeEntry
   es = entries_of leaf
 
   abbrev begin : ℕ
@@ -69,7 +69,7 @@ module _ (g : given.Over) (c : After-has_expired g) where
       let p = g.P.Bound.below bound.now in
       let partitioned = (leaf_can_step c.requires.can_change header).can_find.partitioned in
       let answered = c.look_at-self.ensures in
-      let first_is : begin + 1 ≡ length (filter (λ (e : Entry). p e.key) es) = omega (arith, counts, c.if-below-eq0.false) in
+      let first_is : begin + 1 ≡ length (filter (λ (e : NodeEntry). p e.key) es) = omega (arith, counts, c.if-below-eq0.false) in
       rw read (
         λ none. absurd (some_item p es below (omega (arith, c.if-below-eq0.false)) counts.count_is none),
         λ _. leaf_unexpired es begin end some_looked within p partitioned first_is _ edge before c.look_at-self.result out

@@ -3,9 +3,9 @@ use Rattle.std.proofs.Common.{map, unwrap_or, ℤ, w64, to_z, of_z, inl, inr, �
 use Rattle.std.proofs.lemmas.Bool.{leb-true, not-false}
 use Rattle.std.proofs.lemmas.Int.{to_z-of_z}
 use Rattle.std.proofs.lemmas.Option.{IfSome_then}
-use Rattle.tree.specs.declared.entry.Entry.{Entry}
+use Rattle.tree.specs.declared.entry.NodeEntry.{NodeEntry}
 use Rattle.tree.specs.declared.walk.RaisedLeaf.{RaisedLeaf}
-use Rattle.tree.specs.declared.walk.Outcome.TheVariants.{Raised, Split}
+use Rattle.tree.specs.declared.walk.LeafOutcome.TheVariants.{Raised, Split}
 use Rattle.tree.specs.Finding.{CanFind}
 use Rattle.tree.specs.Heads.{HasPrefix}
 use Rattle.tree.specs.Item.{Item, item_of}
@@ -127,7 +127,7 @@ module _ (g : given.Over) (c : Joined-end-len g) where
   abbrev q : ℕ → Bool
   q = g.Q.Bound.below new.to.now
 
-  abbrev es : List Entry
+  abbrev es : List NodeEntry
   es = entries_of leaf
 
   in_order : begin ≤ end

@@ -1,6 +1,6 @@
 use Rattle.std.proofs.Common.{arith}
 use Rattle.std.proofs.lemmas.Int.{ints}
-use Rattle.structure_tests.proofs.written.Written.write.Goals as goal
+use Rattle.structure_tests.proofs.written.WrittenModel.write.Goals as goal
 
 pub write-requires-clause-newest : goal.write-requires-clause-newest
 write-requires-clause-newest g c = λ k d lt.

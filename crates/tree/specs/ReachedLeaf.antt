@@ -2,7 +2,7 @@
 use Rattle.std.specs.Prelude.{◌≡◌, ◌≤◌, ◌++◌, true, false, ℕ, Bool, List, [], filter, length, map, None}
 use Rattle.std.specs.List.{All}
 use Rattle.arena.specs.Arena.{Arena, IsLive}
-use Rattle.tree.specs.declared.descent.Reached.{Reached}
+use Rattle.tree.specs.declared.descent.ReachedLeaf.{ReachedLeaf}
 use Rattle.tree.specs.declared.node.Node.{Node}
 use Rattle.tree.specs.Heads.{AllAreHeads, KeyBytes, IsCommonPrefixAt}
 use Rattle.tree.specs.Item.{item_of}
@@ -20,7 +20,7 @@ module _ {N : ℕ} where
 
   -- the leaf that has the last item below the bound, or else the first leaf
   pub record IsReached (bytes : KeyBytes) (is_below : ℕ → Bool) (target : List ℕ) (nodes : Arena (Node N)) (height slot : ℕ)
-      (reached : Reached) : Type 0 where
+      (reached : ReachedLeaf) : Type 0 where
     pub live : IsLive nodes reached.leaf
     pub items_are : items_in nodes height slot
         ≡ before_leaf nodes height slot is_below

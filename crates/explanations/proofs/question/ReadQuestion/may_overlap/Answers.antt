@@ -1,7 +1,7 @@
 use Rattle.std.proofs.Common.{◌≡◌, arith, subst}
 use Rattle.keys.specs.Hash.{IsHashOf}
 use Rattle.keys.proofs.callers.SingleRanges.{apart_by_hashes}
-use Rattle.explanations.proofs.question.Question.may_overlap.Goals as goal
+use Rattle.explanations.proofs.question.ReadQuestion.may_overlap.Goals as goal
 
 pub returns-in-Some-Some : goal.returns-in-Some-Some
 returns-in-Some-Some c =

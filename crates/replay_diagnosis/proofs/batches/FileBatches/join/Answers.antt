@@ -2,7 +2,7 @@ use Rattle.std.proofs.Common.{◌≡◌, ℤ, ◌≤ℤ◌, ◌⊎◌, ◌++◌,
 use Rattle.std.proofs.lemmas.Int.{to_z-of_z}
 use Rattle.replay_diagnosis.specs.Following.{HasLeast}
 use Rattle.replay_diagnosis.proofs.Following.{least_of_both}
-use Rattle.replay_diagnosis.proofs.batches.Batches.join.Goals as goal
+use Rattle.replay_diagnosis.proofs.batches.FileBatches.join.Goals as goal
 
 pub returns-in-Some : goal.returns-in-Some
 returns-in-Some c =

@@ -3,7 +3,7 @@ use Rattle.std.specs.Prelude.{◌≡◌, ℕ, ◌+◌, ◌<◌, Bool, false, ◌
 use Rattle.std.specs.BTreeMap as tree
 use Rattle.replay_hot_ranges.specs.declared.counting.Tallies.{Tallies}
 use Rattle.replay_hot_ranges.specs.declared.tally.Count.{Count}
-use Rattle.replay_hot_ranges.specs.declared.tally.Tally.{Tally}
+use Rattle.replay_hot_ranges.specs.declared.tally.RangeTally.{RangeTally}
 use Rattle.replay_hot_ranges.specs.Conflicts.{InConflict}
 use Rattle.replay_hot_ranges.specs.Counts.{Ends, Side, count_of, is_about, read_side, written_side}
 use Rattle.replay_hot_ranges.specs.Top.{ends_cmp}
@@ -18,24 +18,24 @@ is_last_in None txn = false
 is_last_in (Some count) txn = count.last == txn
 
 -- the count of a range
-abbrev pub conflicts_at : Tally → Ends → ℕ
+abbrev pub conflicts_at : RangeTally → Ends → ℕ
 conflicts_at tally ends = conflicts_in (tree.get ends_cmp tally.counts ends)
 
 -- whether the transaction of this number was counted last for a range
-abbrev pub is_last : Tally → ℕ → Ends → Bool
+abbrev pub is_last : RangeTally → ℕ → Ends → Bool
 is_last tally txn ends = is_last_in (tree.get ends_cmp tally.counts ends) txn
 
 -- all ranges with their counts, in order
-abbrev pub rows_of : Tally → List (Ends × ℕ)
+abbrev pub rows_of : RangeTally → List (Ends × ℕ)
 rows_of tally = map (λ e. (e.0, e.1.conflicts)) tally.counts.entries
 
 -- the tally has these transactions, whose numbers are at most this one
-pub record IsTallyOf (side : Side) (txns : List (List InConflict)) (newest : ℕ) (tally : Tally) : Type 0 where
+pub record IsTallyOf (side : Side) (txns : List (List InConflict)) (newest : ℕ) (tally : RangeTally) : Type 0 where
   pub counts : (ends : Ends) → conflicts_at tally ends ≡ count_of side txns ends
   pub numbers : (ends : Ends) (txn : ℕ) → newest < txn → is_last tally txn ends ≡ false
 
 -- it also has some conflicts of one more, which has this number
-pub record IsTallyWith (side : Side) (txns : List (List InConflict)) (conflicts : List InConflict) (newest : ℕ) (tally : Tally)
+pub record IsTallyWith (side : Side) (txns : List (List InConflict)) (conflicts : List InConflict) (newest : ℕ) (tally : RangeTally)
     : Type 0 where
   pub counts : (ends : Ends)
       → conflicts_at tally ends ≡ count_of side txns ends + (if is_about side ends conflicts then 1 else 0)

@@ -3,15 +3,15 @@ use Rattle.std.specs.Prelude.{ℕ, List, Option}
 use Rattle.batches_program.specs.Lines.{BecomesFrame, BecomesLine, IsShown}
 use Rattle.batches_program.specs.Turned.{TurnsAll}
 use Rattle.batches_program.specs.declared.kind.Kind.{Kind}
-use Rattle.batches_program.specs.declared.task.Task.{Task}
-use Rattle.batches_program.specs.declared.task.Task.TheVariants.{Encode, Decode, Show}
+use Rattle.batches_program.specs.declared.task.JobTask.{JobTask}
+use Rattle.batches_program.specs.declared.task.JobTask.TheVariants.{Encode, Decode, Show}
 
 -- what a part of the input becomes
-abbrev pub Becomes : Task → Kind → List ℕ → List ℕ → Type 0
+abbrev pub Becomes : JobTask → Kind → List ℕ → List ℕ → Type 0
 Becomes Encode = BecomesFrame
 Becomes Decode = BecomesLine
 Becomes (Show full) = IsShown
 
 -- all of the input was turned into output
-abbrev pub IsDone : Task → Kind → Option (List ℕ) → Option (List ℕ) → Option (List ℕ) → Type 0
+abbrev pub IsDone : JobTask → Kind → Option (List ℕ) → Option (List ℕ) → Option (List ℕ) → Type 0
 IsDone task kind left before after = TurnsAll (Becomes task kind) left before after

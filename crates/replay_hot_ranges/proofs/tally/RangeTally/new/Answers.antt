@@ -1,5 +1,5 @@
 use Rattle.replay_hot_ranges.proofs.Noting.{none_counted, none_last}
-use Rattle.replay_hot_ranges.proofs.tally.Tally.new.Goals as goal
+use Rattle.replay_hot_ranges.proofs.tally.RangeTally.new.Goals as goal
 
 pub returns : goal.returns
 returns c = record {

@@ -2,7 +2,7 @@ use Rattle.std.proofs.Common.{◌≡◌, ℤ, negsuc, ◌≤ℤ◌, ◌<ℤ◌, 
 use Rattle.std.proofs.lemmas.Int.{ints, to_z-of_z}
 use Rattle.replay_diagnosis.specs.Following.{Follows, HasLeast, NoneBegins, NoneFollowsBelow}
 use Rattle.replay_diagnosis.proofs.Following.{follows_start, none_begins}
-use Rattle.replay_diagnosis.proofs.batches.Batches.held_from.Goals as goal
+use Rattle.replay_diagnosis.proofs.batches.FileBatches.held_from.Goals as goal
 
 pub returns-in-Some-clause-held : goal.returns-in-Some-clause-held
 returns-in-Some-clause-held c batches has =

@@ -2,7 +2,7 @@ use Rattle.std.proofs.Common.{◌≡◌, ℤ, ◌≤ℤ◌, ◌⊎◌, ◌∷◌
 use Rattle.std.proofs.lemmas.Int.{to_z-of_z}
 use Rattle.replay_diagnosis.specs.Following.{HasLeast}
 use Rattle.replay_diagnosis.proofs.Following.{least_of_both, least_of_one}
-use Rattle.replay_diagnosis.proofs.batches.Batches.add.Goals as goal
+use Rattle.replay_diagnosis.proofs.batches.FileBatches.add.Goals as goal
 
 pub returns : goal.returns
 returns c =

@@ -2,17 +2,17 @@ use Rattle.std.proofs.Common.{◌≡◌, ℕ, ◌+◌, ◌&&◌, ◌==◌, cond,
 use Rattle.keys.specs.declared.range.Range.{Range}
 use Rattle.replay_hot_ranges.specs.Counts.{Ends, has_ends}
 use Rattle.std.specs.BTreeMap as tree
-use Rattle.replay_hot_ranges.specs.Tally.{conflicts_at, conflicts_in, is_last, is_last_in}
+use Rattle.replay_hot_ranges.specs.RangeTally.{conflicts_at, conflicts_in, is_last, is_last_in}
 use Rattle.replay_hot_ranges.specs.Top.{ends_cmp}
 use Rattle.replay_hot_ranges.specs.declared.tally.Count.{Count}
-use Rattle.replay_hot_ranges.specs.declared.tally.Tally.{Tally}
+use Rattle.replay_hot_ranges.specs.declared.tally.RangeTally.{RangeTally}
 use Rattle.replay_hot_ranges.proofs.Noting.{noted_conflicts, noted_last}
-use Rattle.replay_hot_ranges.proofs.tally.Tally.note.Goals as goal
+use Rattle.replay_hot_ranges.proofs.tally.RangeTally.note.Goals as goal
 
 pub returns : goal.returns
 returns c =
     let old = c.args.self.now in
-    let new : Tally = record { counts = c.insert.new.self } in
+    let new : RangeTally = record { counts = c.insert.new.self } in
     let txn = c.args.txn in
     let count = c.in_ok-count.count in
     let key : Ends = (c.in_ok-range.range.begin, c.in_ok-range.range.end) in

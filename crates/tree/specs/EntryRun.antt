@@ -1,9 +1,9 @@
 -- The run of a leaf that is written over. This project's own.
 use Rattle.std.specs.Prelude.{◌≡◌, ◌≢◌, ◌≤◌, ◌<◌, ◌+◌, ◌-◌, ℕ, ℤ, Bool, List, [], length, slice_get, Option, None, Some}
 use Rattle.arena.specs.Arena.{Arena, IsLive, header_at, spare_of}
-use Rattle.tree.specs.declared.entry.Entry.{Entry}
+use Rattle.tree.specs.declared.entry.NodeEntry.{NodeEntry}
 use Rattle.tree.specs.declared.node.Node.{Node}
-use Rattle.tree.specs.declared.run.Run.{Run}
+use Rattle.tree.specs.declared.run.EntryRun.{EntryRun}
 use Rattle.tree.specs.Finding.{CanFind, HasHead, IsLowerBound}
 use Rattle.tree.specs.Heads.{AllAreHeads, KeyBytes}
 use Rattle.tree.specs.Item.{Item}
@@ -17,7 +17,7 @@ use Rattle.tree.specs.Tree.{least_of}
 
 module _ {N : ℕ} where
   -- The position of the run from one bound to another among the entries of a leaf, and the heads of their targets.
-  pub record IsRun (from_bytes to_bytes : KeyBytes) (from to : ℕ → Bool) (from_target to_target : List ℕ) (leaf : Node N) (run : Run)
+  pub record IsRun (from_bytes to_bytes : KeyBytes) (from to : ℕ → Bool) (from_target to_target : List ℕ) (leaf : Node N) (run : EntryRun)
       : Type 0 where
     pub begin : IsLowerBound from leaf run.begin
     pub end : IsLowerBound to leaf run.end
@@ -27,7 +27,7 @@ module _ {N : ℕ} where
 
   -- A leaf of which a run may be written over.
   pub record CanWriteRun (from_bytes to_bytes : KeyBytes) (from to : ℕ → Bool) (from_target to_target : List ℕ) (nodes : Arena (Node N))
-      (slot : ℕ) (run : Run) : Type 0 where
+      (slot : ℕ) (run : EntryRun) : Type 0 where
     pub fan_out : 4 ≤ N
     pub few : N ≤ 65536
     pub keyless : IsKeyless nodes
@@ -48,17 +48,17 @@ module _ {N : ℕ} where
   -- tells whether an item has the key of the second new one. No version is given for that one, so it has that of the last entry before
   -- the second bound.
   pub record IsFoundRun (from_bytes to_bytes : KeyBytes) (from to past : ℕ → Bool) (from_target to_target : List ℕ) (given : Option ℤ)
-      (leaf : Node N) (run : Run) : Type 0 where
+      (leaf : Node N) (run : EntryRun) : Type 0 where
     pub run_is : IsRun from_bytes to_bytes from to from_target to_target leaf run
     pub some_before : 0 < run.begin
     pub some_after : run.end < length (entries_of leaf)
     pub fits : length (entries_of leaf) + 2 ≤ N
     pub filled : least_of N + (run.end - run.begin) ≤ length (entries_of leaf)
-    pub ended : (e : Entry) → slice_get (entries_of leaf) run.end ≡ Some e → run.ended ≡ past e.key
+    pub ended : (e : NodeEntry) → slice_get (entries_of leaf) run.end ≡ Some e → run.ended ≡ past e.key
     pub given_none : given ≡ None
 
   -- A leaf in which the next write may continue.
-  pub record CanWriteInLeaf (from to : ℕ → Bool) (bytes : KeyBytes) (nodes : Arena (Node N)) (slot : ℕ) (taken : List Entry) : Type 0 where
+  pub record CanWriteInLeaf (from to : ℕ → Bool) (bytes : KeyBytes) (nodes : Arena (Node N)) (slot : ℕ) (taken : List NodeEntry) : Type 0 where
     pub fan_out : 4 ≤ N
     pub few : N ≤ 65536
     pub live : IsLive nodes slot

@@ -7,14 +7,14 @@ use Rattle.keyspace.specs.Answer.{version_of_answer}
 use Rattle.keyspace.specs.declared.reply.Entry.{Entry}
 use Rattle.keyspace.specs.declared.reply.Verdict.{Verdict}
 use Rattle.keyspace.specs.declared.reply.Verdict.TheVariants.{Conflict, TooOld, Committed}
-use Rattle.replay_output.specs.declared.options.filtering.Filter.{Filter}
+use Rattle.replay_output.specs.declared.options.filtering.LineFilter.{LineFilter}
 
 -- the least number of 64 bits
 abbrev pub least_version : ℤ
 least_version = negsuc 9223372036854775807
 
 -- the filter that shows every line
-abbrev pub all_lines : Filter
+abbrev pub all_lines : LineFilter
 all_lines = record { quiet = false; only = None; least = least_version; below = None }
 
 -- it is this verdict
@@ -37,7 +37,7 @@ is_below None version = true
 is_below (Some below) version = int_lt version below
 
 -- the line of the answer is printed
-abbrev pub is_shown : Filter → Answer → Bool
+abbrev pub is_shown : LineFilter → Answer → Bool
 is_shown filter answer =
     not filter.quiet && (has_verdict filter.only answer
     && (int_le filter.least (version_of_answer answer) && is_below filter.below (version_of_answer answer)))
