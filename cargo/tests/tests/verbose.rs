@@ -86,7 +86,7 @@ impl Files for Named {
 }
 
 /// Runs the program on these words, and returns how it ends and what is on standard error.
-fn reported_state(words: &[&str]) -> String {
+fn reported(words: &[&str]) -> String {
     let words: Vec<_> = ["replay"].iter().chain(words).copied().collect();
     let (mut out, mut error) = (StdSink::new(Vec::new()), StdSink::new(Vec::new()));
     let report = shell_over(&Named, &words, &mut out, &mut error);

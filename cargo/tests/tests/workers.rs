@@ -4,7 +4,7 @@ use keyspace::{Answer, Batch};
 use lane::{Intake, Port, Taken, lane};
 use rattle_std::alloc::Global;
 use rattle_std::rt::HostRuntime;
-use replay_program::{AlwaysOpen, Assignment, Filter, Finished, Form, Style, Unshared, work};
+use replay_program::{AlwaysOpen, Assignment, LineFilter, Finished, Form, Style, Unshared, work};
 use resolver::Client;
 use std::thread;
 use tests::playing::{file_of, file_of_versions, reader};
@@ -19,7 +19,7 @@ fn connect() -> (Client, Intake<Batch>, Port<Answer>) {
 
 /// Works as proxy 0 with a share of 4.
 fn worked(client: Client, file: Vec<u8>) -> Finished {
-    let style = Style { form: Form::Words, filter: Filter { quiet: false, only: None, least: i64::MIN, below: None } };
+    let style = Style { form: Form::Words, filter: LineFilter { quiet: false, only: None, least: i64::MIN, below: None } };
     let assignment = Assignment { proxy: 0, share: 4, style };
     work(&HostRuntime::new(), Global, assignment, client, reader(file), &Unshared(AlwaysOpen))
 }
