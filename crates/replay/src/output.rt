@@ -1,6 +1,6 @@
 //! A file that is written.
 
-ghost use Rattle.std.specs.Prelude.{◌≡◌};
+ghost use Rattle.std.specs.Prelude.{◌≡◌, ◌≢◌};
 
 use replay_program::{Recorder, RunReport, Status};
 use std::fs::File;
@@ -53,6 +53,8 @@ impl Write for Output {
 /// because one of these files is read too.
 pub fn finish<W: Sink + Drop>(report: RunReport<W>) -> Status
     ensures done { result ≡ Status.Done → report.status ≡ Status.Done }
+    ensures kept { result ≢ Status.Failed → result ≡ report.status }
+    ensures failed { report.status ≡ Status.Failed → result ≡ Status.Failed }
 {
     let mut report = report;
     if report.status == Status::Failed {
